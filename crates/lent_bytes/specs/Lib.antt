@@ -1,0 +1,2 @@
+pub mod LentBytes
+pub mod LentBytesLaws
