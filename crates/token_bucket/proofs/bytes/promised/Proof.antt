@@ -1,0 +1,29 @@
+use mathlib.Core.Path.{_≡_, sym, _∙_}
+use native.Mathlib.Omega.{arith}
+use lib.ListN.{length, getD}
+use Rattle.amount.specs.AmountLaws.{Whole}
+use Rattle.amount.specs.AmountOfLaws.{is-amountOf}
+use Rattle.token_bucket.specs.TokenBucket.{bytePromised}
+use borrow.Author.Needs.{needs}
+use Rattle.token_bucket.proofs.bytes.promised.Statement.{statement}
+use Rattle.token_bucket.proofs.bytes.promised.Tie as tie
+use Rattle.token_bucket.proofs.bytes.promised.Reads as reads
+use Rattle.token_bucket.proofs.bytes.promised.Lts as lts
+use Rattle.amount.proofs.Amount.saturating_sub.Reads as saturating-sub-reads
+use Rattle.token_bucket.proofs.bytes.peek_delay.Reads as peek-delay-reads
+
+-- src/bytes.rt:288:9
+peek-delay-requires : tie.Need-peek-delay-requires
+peek-delay-requires c κs = search needs
+
+-- src/bytes.rt:292:30
+saturating-sub-requires : tie.Need-saturating-sub-requires
+saturating-sub-requires c κs = search needs
+
+-- src/bytes.rt:282:1
+returns : tie.Need-returns
+returns c = let w : Whole (c .saturating-sub .result) = record { four = search needs; fit = λ i. search needs } in
+    rw (is-amountOf w (c .saturating-sub .ensures), c .before .peek-delay .ensures)
+
+pub promised-spec : {M : Type 1} → statement M
+promised-spec = tie.close (tie.spec peek-delay-requires saturating-sub-requires returns)

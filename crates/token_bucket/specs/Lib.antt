@@ -1,0 +1,4 @@
+pub mod TokenBucket
+pub mod Natural
+pub mod NaturalLaws
+pub mod TokenBucketLaws
