@@ -1,0 +1,9 @@
+pub mod Table
+pub mod TableLaws
+pub mod LookLaws
+pub mod RetainLaws
+pub mod PlaceLaws
+pub mod LeastLaws
+pub mod Memory
+pub mod PutLaws
+pub mod MemoryLaws

@@ -1,0 +1,97 @@
+-- A table as a list of rows, ordered by key: what the Rust's maps are here. Definitions only; their laws are in `TableLaws`.
+use mathlib.Core.Bool.{Bool, true, false, _&&_, cond}
+use mathlib.Core.List.{List, [], _∷_, _++_}
+use mathlib.Core.Option.{Option, none, some}
+use Prim.Native.Nat.{ℕ, zero, suc, _+_}
+use lib.Dec.{ltb}
+use lib.ListN.{length, take, drop}
+use Rattle.pubkey.specs.declared.Ordering.{Ordering}
+use Rattle.pubkey.specs.declared.Ordering.the-variants.{Less, Equal, Greater}
+use Rattle.pubkey.specs.Order.{compareBytes}
+use Rattle.table.specs.declared.seek.Seek.{Seek}
+use Rattle.table.specs.declared.seek.Seek.the-variants.{Unsound, At, Gap}
+
+-- a row: the bytes of its key, and what stands beside them
+pub record Row (A : Type 0) : Type 0 where
+  pub key : List ℕ
+  pub entry : A
+
+-- one of three, by an order
+abbrev pub byOrder {ℓ} : {B : Type ℓ} → Ordering → B → B → B → B
+byOrder Less a b c = a
+byOrder Equal a b c = b
+byOrder Greater a b c = c
+
+module _ {A : Type 0} where
+  -- whether the key is below that of the first row, if there is one
+  abbrev pub below : List ℕ → List (Row A) → Bool
+  below k [] = true
+  below k (r ∷ rs) = byOrder (compareBytes k (r .key)) true false false
+
+  -- keys strictly ascending
+  unfoldable pub ascending : List (Row A) → Bool
+  ascending [] = true
+  ascending (r ∷ rs) = below (r .key) rs && ascending rs
+
+  -- every entry keeps the rule
+  unfoldable pub every : (A → Bool) → List (Row A) → Bool
+  every rule [] = true
+  every rule (r ∷ rs) = rule (r .entry) && every rule rs
+
+  -- the place of a key among ascending rows, the first of which is the i-th
+  unfoldable pub placeFrom : ℕ → List ℕ → List (Row A) → Seek
+  placeFrom i k [] = Gap i
+  placeFrom i k (r ∷ rs) = byOrder (compareBytes k (r .key)) (Gap i) (At i) (placeFrom (i + 1) k rs)
+
+  -- judge, then find: the rows are unsound, or the key stands at a place, or would stand at a gap
+  unfoldable pub seek : (A → Bool) → List ℕ → List (Row A) → Seek
+  seek rule k rs = cond (every rule rs && ascending rs) (placeFrom 0 k rs) Unsound
+
+  -- HashMap::get
+  unfoldable pub look : List ℕ → List (Row A) → Option A
+  look k [] = none
+  look k (r ∷ rs) = byOrder (compareBytes k (r .key)) none (some (r .entry)) (look k rs)
+
+  -- HashMap::insert: in the place of the row of that key, or before the first row above it
+  unfoldable pub store : List ℕ → A → List (Row A) → List (Row A)
+  store k e [] = record { key = k; entry = e } ∷ []
+  store k e (r ∷ rs) =
+      byOrder (compareBytes k (r .key))
+      (record { key = k; entry = e } ∷ r ∷ rs)
+      (record { key = k; entry = e } ∷ rs)
+      (r ∷ store k e rs)
+
+  -- HashMap::remove
+  unfoldable pub erase : List ℕ → List (Row A) → List (Row A)
+  erase k [] = []
+  erase k (r ∷ rs) = byOrder (compareBytes k (r .key)) (r ∷ rs) rs (r ∷ erase k rs)
+
+  -- HashMap::retain
+  unfoldable pub retain : (A → Bool) → List (Row A) → List (Row A)
+  retain test [] = []
+  retain test (r ∷ rs) = cond (test (r .entry)) (r ∷ retain test rs) (retain test rs)
+
+  -- the row at an index, taken out
+  unfoldable pub removeAt : ℕ → List (Row A) → List (Row A)
+  removeAt i rs = take i rs ++ drop (i + 1) rs
+
+  -- a row put in at an index
+  unfoldable pub insertAt : ℕ → Row A → List (Row A) → List (Row A)
+  insertAt i r rs = take i rs ++ (r ∷ drop i rs)
+
+-- a search for the least: nothing yet, or the index and the measure of the best so far
+pub data Best : Type 0 where
+  nothing : Best
+  best : ℕ → ℕ → Best
+
+-- the better of what was found and a row at an index with its measure, if it has one; the earlier where they are equal
+abbrev pub better : Best → ℕ → Option ℕ → Best
+better b i none = b
+better nothing i (some m) = best i m
+better (best j n) i (some m) = cond (ltb m n) (best i m) (best j n)
+
+module _ {A : Type 0} where
+  -- the first row with the least measure among those that have one, the rows counted from i
+  unfoldable pub leastFrom : (A → Option ℕ) → Best → ℕ → List (Row A) → Best
+  leastFrom measure b i [] = b
+  leastFrom measure b i (r ∷ rs) = leastFrom measure (better b i (measure (r .entry))) (i + 1) rs

@@ -1,0 +1,313 @@
+-- Laws of a table's rows: when they are sound, and that they stay so. What is found after a change is in `LookLaws`, what a retain
+-- leaves in `RetainLaws`, places in `PlaceLaws`, the least row in `LeastLaws`. In all of them the i-th row is `getD rs i d`, with any
+-- row d. In order: tests; the first row; the row at an index; judging as a loop; rows taken out; soundness kept. Assumes nothing.
+use mathlib.Core.Bool.{Bool, true, false, _&&_}
+use mathlib.Core.Path.{_≡_, refl, _∙_}
+use mathlib.Core.List.{List, [], _∷_}
+use Prim.Native.Nat.{ℕ, zero, suc, _+_, _≤_, _<_}
+use native.Mathlib.Numerals.{add-one}
+use native.Mathlib.Omega.{arith}
+use lib.ListN.{length, drop, getD, drop-of-length-le}
+use lib.Seq.{drop-cons}
+use Rattle.pubkey.specs.declared.Ordering.{Ordering}
+use Rattle.pubkey.specs.declared.Ordering.the-variants.{Less, Equal, Greater}
+use Rattle.pubkey.specs.Order.{compareBytes}
+use Rattle.pubkey.specs.OrderLaws.{compare-equal, transitive, greater-flip}
+use Rattle.table.specs.Table.{Row, byOrder, below, ascending, every, store, erase, retain, removeAt}
+
+-- ---- tests ----
+
+-- a fact by the three answers of a comparison, each with the equation that says it
+pub by-answer {ℓ} : {B : Type ℓ} (o : Ordering) → (o ≡ Less → B) → (o ≡ Equal → B) → (o ≡ Greater → B) → B
+by-answer Less a b c = a refl
+by-answer Equal a b c = b refl
+by-answer Greater a b c = c refl
+
+-- a fact by the two answers of a test, each with the equation that says it
+pub by-test {ℓ} : {B : Type ℓ} (t : Bool) → (t ≡ true → B) → (t ≡ false → B) → B
+by-test true a b = a refl
+by-test false a b = b refl
+
+-- a test is not both true and false
+pub true-is-not-false : {t : Bool} → t ≡ true → t ≡ false → ⊥
+true-is-not-false h k = let z : _≡_ {A = ℕ} 0 1 = cc in omega arith
+
+-- where both of two tests are passed, each is
+pub both-parts : (a b : Bool) → (a && b) ≡ true → (a ≡ true) × (b ≡ true)
+both-parts true b h = (refl, h)
+both-parts false b h = absurd (true-is-not-false h refl)
+
+-- two tests that are passed are passed together
+pub both : {a b : Bool} → a ≡ true → b ≡ true → (a && b) ≡ true
+both h k = rw (h, k)
+
+-- where the second of two tests fails, they fail together
+pub second-fails : (a : Bool) {b : Bool} → b ≡ false → (a && b) ≡ false
+second-fails true h = h
+second-fails false h = refl
+
+-- the rules of all, then their order: the rule of the first, its order, then those of the others
+regroup : (a b c d : Bool) → ((a && b) && (c && d)) ≡ (a && (c && (b && d)))
+regroup true true c d = refl
+regroup true false true d = refl
+regroup true false false d = refl
+regroup false b c d = refl
+
+module _ {A : Type 0} where
+  -- ---- the first row ----
+
+  module _ (k : List ℕ) (r : Row A) (rs : List (Row A)) where
+    -- a key below the rows comes before that of the first
+    pub below-less : below k (r ∷ rs) ≡ true → compareBytes k (r .key) ≡ Less
+    below-less h =
+        by-answer (compareBytes k (r .key)) (λ e. e)
+        (λ e. absurd (true-is-not-false h (rw e)))
+        (λ e. absurd (true-is-not-false h (rw e)))
+
+    -- a key that comes before that of the first row is below the rows
+    pub less-below : compareBytes k (r .key) ≡ Less → below k (r ∷ rs) ≡ true
+    less-below h = rw h
+
+  -- what comes before a key that is below the rows is below them
+  pub below-from-less : (a b : List ℕ) (rs : List (Row A)) → compareBytes a b ≡ Less → below b rs ≡ true → below a rs ≡ true
+  below-from-less a b [] h k = refl
+  below-from-less a b (r ∷ rs) h k = less-below a r rs (transitive a b (r .key) h (below-less b r rs k))
+
+  module _ (r : Row A) (rs : List (Row A)) where
+    -- of ascending rows the first is below the others, which are ascending
+    pub ascending-parts : ascending (r ∷ rs) ≡ true → (below (r .key) rs ≡ true) × (ascending rs ≡ true)
+    unfolding ascending
+    ascending-parts h = both-parts (below (r .key) rs) (ascending rs) h
+
+    -- a row below ascending rows, put before them
+    pub ascending-cons : below (r .key) rs ≡ true → ascending rs ≡ true → ascending (r ∷ rs) ≡ true
+    unfolding ascending
+    ascending-cons h k = both h k
+
+    -- the key of the first of ascending rows is below the others
+    pub equal-below : (k : List ℕ) → ascending (r ∷ rs) ≡ true → compareBytes k (r .key) ≡ Equal → below k rs ≡ true
+    equal-below k order o = rw (compare-equal k (r .key) o) (ascending-parts order .0)
+
+    -- what comes before the first of ascending rows is below the others
+    pub before-below : (k : List ℕ) → ascending (r ∷ rs) ≡ true → compareBytes k (r .key) ≡ Less → below k rs ≡ true
+    before-below k order o = below-from-less k (r .key) rs o (ascending-parts order .0)
+
+  module _ (rule : A → Bool) (r : Row A) (rs : List (Row A)) where
+    -- of rows that keep a rule the first does, and the others do
+    pub every-parts : every rule (r ∷ rs) ≡ true → (rule (r .entry) ≡ true) × (every rule rs ≡ true)
+    unfolding every
+    every-parts h = both-parts (rule (r .entry)) (every rule rs) h
+
+    -- a row that keeps a rule, put before rows that do
+    pub every-cons : rule (r .entry) ≡ true → every rule rs ≡ true → every rule (r ∷ rs) ≡ true
+    unfolding every
+    every-cons h k = both h k
+
+    -- rows are sound where the first keeps the rule and is below the others, and those are sound
+    pub sound-cons : (every rule (r ∷ rs) && ascending (r ∷ rs))
+        ≡ (rule (r .entry) && (below (r .key) rs && (every rule rs && ascending rs)))
+    unfolding every ascending
+    sound-cons = regroup (rule (r .entry)) (every rule rs) (below (r .key) rs) (ascending rs)
+
+  -- ---- the row at an index ----
+
+  -- a key is below the rows from an index on just where it comes before the row there
+  pub below-inside : (k : List ℕ) (rs : List (Row A)) (i : ℕ) (d : Row A) → i < length rs
+      → below k (drop i rs) ≡ byOrder (compareBytes k (getD rs i d .key)) true false false
+  below-inside k rs i d inside = rw (drop-cons rs i d)
+
+  -- a key is below what follows the last row
+  pub below-end : (k : List ℕ) (rs : List (Row A)) (i : ℕ) → length rs ≤ i → below k (drop i rs) ≡ true
+  below-end k rs i h = rw (drop-of-length-le rs h)
+
+  -- a key below ascending rows comes before the key of each
+  pub below-each : (k : List ℕ) (rs : List (Row A)) (i : ℕ) (d : Row A) → below k rs ≡ true → ascending rs ≡ true → i < length rs
+      → compareBytes k (getD rs i d .key) ≡ Less
+  below-each k [] i d h order inside = absurd (omega arith)
+  below-each k (r ∷ rs) zero d h order inside = below-less k r rs h
+  below-each k (r ∷ rs) (suc i) d h order inside =
+      below-each k rs i d (before-below r rs k order (below-less k r rs h)) (ascending-parts r rs order .1) (omega arith)
+
+  -- where every row keeps a rule, the row at an index does
+  pub every-at : (rule : A → Bool) (rs : List (Row A)) (i : ℕ) (d : Row A) → every rule rs ≡ true → i < length rs
+      → rule (getD rs i d .entry) ≡ true
+  every-at rule [] i d h inside = absurd (omega arith)
+  every-at rule (r ∷ rs) zero d h inside = every-parts rule r rs h .0
+  every-at rule (r ∷ rs) (suc i) d h inside = every-at rule rs i d (every-parts rule r rs h .1) (omega arith)
+
+  -- where the row at an index breaks a rule, not every row keeps it
+  pub every-fails : (rule : A → Bool) (rs : List (Row A)) (i : ℕ) (d : Row A) → i < length rs → rule (getD rs i d .entry) ≡ false
+      → every rule rs ≡ false
+  every-fails rule rs i d inside h =
+      by-test (every rule rs) (λ e. absurd (true-is-not-false (every-at rule rs i d e inside) h)) (λ e. e)
+
+  -- ---- judging as a loop, whose invariant says that the rows are sound just where those from the i-th on are ----
+
+  module _ (rule : A → Bool) (rs : List (Row A)) (i : ℕ) where
+    -- the loop ends: no row is left
+    pub judge-ends : length rs ≤ i → (every rule rs && ascending rs) ≡ (every rule (drop i rs) && ascending (drop i rs))
+        → (every rule rs && ascending rs) ≡ true
+    unfolding every ascending
+    judge-ends h from = from ∙ rw (drop-of-length-le rs h)
+
+    module _ (d : Row A) (inside : i < length rs) (from : (every rule rs && ascending rs) ≡ (every rule (drop i rs) && ascending (drop i rs))) where
+      judge-step : (every rule rs && ascending rs)
+          ≡ (rule (getD rs i d .entry)
+          && (below (getD rs i d .key) (drop (i + 1) rs) && (every rule (drop (i + 1) rs) && ascending (drop (i + 1) rs))))
+      judge-step = from ∙ rw (add-one, drop-cons rs i d) (sound-cons rule (getD rs i d) (drop (suc i) rs))
+
+      -- the i-th row breaks the rule
+      pub judge-breaks-rule : rule (getD rs i d .entry) ≡ false → (every rule rs && ascending rs) ≡ false
+      judge-breaks-rule h = judge-step ∙ rw h
+
+      -- the i-th row is not below the next one
+      pub judge-breaks-order : below (getD rs i d .key) (drop (i + 1) rs) ≡ false → (every rule rs && ascending rs) ≡ false
+      judge-breaks-order h = judge-step ∙ second-fails (rule (getD rs i d .entry)) (rw h)
+
+      -- the i-th row is sound: the invariant at the next
+      pub judge-goes-on : rule (getD rs i d .entry) ≡ true → below (getD rs i d .key) (drop (i + 1) rs) ≡ true
+          → (every rule rs && ascending rs) ≡ (every rule (drop (i + 1) rs) && ascending (drop (i + 1) rs))
+      judge-goes-on h k = judge-step ∙ rw (h, k)
+
+  -- ---- rows taken out ----
+
+  -- the first rows are the second with some taken out, in the same order
+  pub data Sub : List (Row A) → List (Row A) → Type 0 where
+    done : Sub [] []
+    keep : {r : Row A} {xs ys : List (Row A)} → Sub xs ys → Sub (r ∷ xs) (r ∷ ys)
+    leave : {r : Row A} {xs ys : List (Row A)} → Sub xs ys → Sub xs (r ∷ ys)
+
+  -- nothing taken out
+  pub sub-all : (rs : List (Row A)) → Sub rs rs
+  sub-all [] = done
+  sub-all (r ∷ rs) = keep (sub-all rs)
+
+  -- rows left are no more than the rows were
+  pub sub-length : {xs ys : List (Row A)} → Sub xs ys → length xs ≤ length ys
+  sub-length done = omega arith
+  sub-length (keep s) = let h = sub-length s in omega arith
+  sub-length (leave s) = let h = sub-length s in omega arith
+
+  -- rows left keep what rule the rows kept
+  pub sub-every : (rule : A → Bool) {xs ys : List (Row A)} → Sub xs ys → every rule ys ≡ true → every rule xs ≡ true
+  sub-every rule done h = h
+  sub-every rule (keep {r} {xs} {ys} s) h =
+      let parts = every-parts rule r ys h in
+      every-cons rule r xs (parts .0) (sub-every rule s (parts .1))
+  sub-every rule (leave {r} {xs} {ys} s) h = sub-every rule s (every-parts rule r ys h .1)
+
+  -- what is below ascending rows is below those left
+  pub sub-below : (k : List ℕ) {xs ys : List (Row A)} → Sub xs ys → ascending ys ≡ true → below k ys ≡ true → below k xs ≡ true
+  sub-below k done order h = h
+  sub-below k (keep s) order h = h
+  sub-below k (leave {r} {xs} {ys} s) order h =
+      sub-below k s (ascending-parts r ys order .1) (before-below r ys k order (below-less k r ys h))
+
+  -- rows left of ascending rows are ascending
+  pub sub-ascending : {xs ys : List (Row A)} → Sub xs ys → ascending ys ≡ true → ascending xs ≡ true
+  sub-ascending done order = order
+  sub-ascending (keep {r} {xs} {ys} s) order =
+      let parts = ascending-parts r ys order in
+      ascending-cons r xs (sub-below (r .key) s (parts .1) (parts .0)) (sub-ascending s (parts .1))
+  sub-ascending (leave {r} {xs} {ys} s) order = sub-ascending s (ascending-parts r ys order .1)
+
+  -- an erase takes rows out
+  pub sub-erase : (k : List ℕ) (rs : List (Row A)) → Sub (erase k rs) rs
+  unfolding erase
+  sub-erase k [] = done
+  sub-erase k (r ∷ rs) =
+      let rest : Sub (erase k rs) rs = sub-erase k rs in
+      by-answer (compareBytes k (r .key))
+      (λ h. rw h (sub-all (r ∷ rs)))
+      (λ h. rw h (leave (sub-all rs)))
+      (λ h. rw h (keep rest))
+
+  -- a retain takes rows out
+  pub sub-retain : (test : A → Bool) (rs : List (Row A)) → Sub (retain test rs) rs
+  unfolding retain
+  sub-retain test [] = done
+  sub-retain test (r ∷ rs) =
+      let rest : Sub (retain test rs) rs = sub-retain test rs in
+      by-test (test (r .entry)) (λ h. rw h (keep rest)) (λ h. rw h (leave rest))
+
+  -- the first row, taken out
+  pub removeAt-first : (r : Row A) (rs : List (Row A)) → removeAt 0 (r ∷ rs) ≡ rs
+  unfolding removeAt
+  removeAt-first r rs = refl
+
+  -- the row at a later index, taken out
+  pub removeAt-later : (j : ℕ) (r : Row A) (rs : List (Row A)) → removeAt (suc j) (r ∷ rs) ≡ r ∷ removeAt j rs
+  unfolding removeAt
+  removeAt-later j r rs = rw (add-one (suc j), add-one j)
+
+  -- of no rows none is taken out
+  pub removeAt-empty : (j : ℕ) → _≡_ {A = List (Row A)} (removeAt j []) []
+  unfolding removeAt
+  removeAt-empty zero = refl
+  removeAt-empty (suc j) = rw (add-one (suc j))
+
+  -- a row at an index, taken out
+  pub sub-removeAt : (j : ℕ) (rs : List (Row A)) → Sub (removeAt j rs) rs
+  sub-removeAt j [] = rw (removeAt-empty j) done
+  sub-removeAt zero (r ∷ rs) = rw (removeAt-first r rs) (leave (sub-all rs))
+  sub-removeAt (suc j) (r ∷ rs) = rw (removeAt-later j r rs) (keep (sub-removeAt j rs))
+
+  -- ---- soundness kept ----
+
+  -- rows that keep a rule keep it after an erase
+  pub every-erase : (rule : A → Bool) (k : List ℕ) (rs : List (Row A)) → every rule rs ≡ true → every rule (erase k rs) ≡ true
+  every-erase rule k rs = sub-every rule (sub-erase k rs)
+
+  -- rows that keep a rule keep it after a retain
+  pub every-retain : (rule test : A → Bool) (rs : List (Row A)) → every rule rs ≡ true → every rule (retain test rs) ≡ true
+  every-retain rule test rs = sub-every rule (sub-retain test rs)
+
+  -- rows that keep a rule keep it when a row is taken out
+  pub every-removeAt : (rule : A → Bool) (j : ℕ) (rs : List (Row A)) → every rule rs ≡ true → every rule (removeAt j rs) ≡ true
+  every-removeAt rule j rs = sub-every rule (sub-removeAt j rs)
+
+  -- ascending rows are ascending after an erase
+  pub ascending-erase : (k : List ℕ) (rs : List (Row A)) → ascending rs ≡ true → ascending (erase k rs) ≡ true
+  ascending-erase k rs = sub-ascending (sub-erase k rs)
+
+  -- ascending rows are ascending after a retain
+  pub ascending-retain : (test : A → Bool) (rs : List (Row A)) → ascending rs ≡ true → ascending (retain test rs) ≡ true
+  ascending-retain test rs = sub-ascending (sub-retain test rs)
+
+  -- ascending rows are ascending when a row is taken out
+  pub ascending-removeAt : (j : ℕ) (rs : List (Row A)) → ascending rs ≡ true → ascending (removeAt j rs) ≡ true
+  ascending-removeAt j rs = sub-ascending (sub-removeAt j rs)
+
+  module _ (k : List ℕ) (e : A) where
+    -- rows that keep a rule keep it after an entry that does is stored
+    pub every-store : (rule : A → Bool) (rs : List (Row A)) → rule e ≡ true → every rule rs ≡ true → every rule (store k e rs) ≡ true
+    unfolding store
+    every-store rule [] h rules = every-cons rule (record { key = k; entry = e }) [] h rules
+    every-store rule (r ∷ rs) h rules =
+        let stored : Row A = record { key = k; entry = e } in
+        let parts = every-parts rule r rs rules in
+        let rest : every rule (store k e rs) ≡ true = every-store rule rs h (parts .1) in
+        by-answer (compareBytes k (r .key))
+        (λ o. rw o (every-cons rule stored (r ∷ rs) h rules))
+        (λ o. rw o (every-cons rule stored rs h (parts .1)))
+        (λ o. rw o (every-cons rule r (store k e rs) (parts .0) rest))
+
+    -- what is below the rows and before the stored key is below the rows after
+    pub below-store : (a : List ℕ) (rs : List (Row A)) → compareBytes a k ≡ Less → below a rs ≡ true → below a (store k e rs) ≡ true
+    unfolding store
+    below-store a [] h under = rw h
+    below-store a (r ∷ rs) h under =
+        by-answer (compareBytes k (r .key)) (λ o. rw (o, h)) (λ o. rw (o, h)) (λ o. rw o under)
+
+    -- ascending rows are ascending after a store
+    pub ascending-store : (rs : List (Row A)) → ascending rs ≡ true → ascending (store k e rs) ≡ true
+    unfolding store
+    ascending-store [] order = ascending-cons (record { key = k; entry = e }) [] refl order
+    ascending-store (r ∷ rs) order =
+        let stored : Row A = record { key = k; entry = e } in
+        let parts = ascending-parts r rs order in
+        let rest : ascending (store k e rs) ≡ true = ascending-store rs (parts .1) in
+        by-answer (compareBytes k (r .key))
+        (λ o. rw o (ascending-cons stored (r ∷ rs) (less-below k r rs o) order))
+        (λ o. rw o (ascending-cons stored rs (equal-below r rs k order o) (parts .1)))
+        (λ o. rw o (ascending-cons r (store k e rs) (below-store (r .key) rs (greater-flip k (r .key) o) (parts .0)) rest))
