@@ -1,0 +1,45 @@
+-- `verdict::take_message` meets its contract. Assumes nothing.
+use mathlib.Core.Path.{sym, _∙_}
+use borrow.Author.Tests.{le-leb}
+use Rattle.token_bucket.specs.TokenBucket.{DiscreteTryConsumeMeets}
+use Rattle.peer_verdict.specs.Verdict.{takeMessage}
+use borrow.Author.Needs.{needs}
+use Rattle.peer_verdict.proofs.verdict.take_message.Statement.{statement}
+use Rattle.peer_verdict.proofs.verdict.take_message.Tie as tie
+
+message-limit-disabled-requires : tie.Need-message-limit-disabled-requires
+message-limit-disabled-requires c κs = search needs
+
+returns : tie.Need-returns
+unfolding takeMessage
+returns c =
+    rw (sym (c .before .message-limit-disabled .ensures) ∙ c .if1 .taken)
+
+cast-t9 : tie.Need-cast-t9
+cast-t9 c = search needs
+
+try-consume-requires : tie.Need-try-consume-requires
+try-consume-requires c κs = search needs
+
+short-of-requires : tie.Need-short-of-requires
+short-of-requires c κs = search needs
+
+cast-t11 : tie.Need-cast-t11
+cast-t11 c = search needs
+
+returns-2 : tie.Need-returns-2
+unfolding takeMessage DiscreteTryConsumeMeets
+returns-2 c =
+    rw (sym (c .before .before .before .before .before .before .message-limit-disabled .ensures) ∙ c .before .before .before .before .before .if1 .left, c .before .short-of .ensures, c .before .before .before .try-consume .ensures, le-leb _ _ (c .before .before .before .before .before .before .before .pre))
+
+pub take-message-spec : {M : Type 1} → statement M
+take-message-spec =
+    tie.close
+    (tie.spec
+    message-limit-disabled-requires
+    returns
+    cast-t9
+    try-consume-requires
+    short-of-requires
+    cast-t11
+    returns-2)

@@ -1,0 +1,148 @@
+-- What admit and record_invalid decide on one entry: pure, on values. Definitions only.
+use mathlib.Core.Bool.{Bool, _&&_, not, cond}
+use Prim.Native.Nat.{ℕ}
+use lib.Dec.{leb}
+use lib.IntN.{pos}
+use Rattle.amount.specs.Amount.{value, natural}
+use Rattle.token_bucket.specs.declared.answer.Consumed.{Consumed}
+use Rattle.token_bucket.specs.declared.answer.Consumed.the-variants as Consumed
+use Rattle.token_bucket.specs.declared.discrete.DiscreteTokenBucket.{DiscreteTokenBucket}
+use Rattle.token_bucket.specs.declared.discrete.DiscreteConsumed.{DiscreteConsumed}
+use Rattle.token_bucket.specs.declared.bytes.ByteConsumed.{ByteConsumed}
+use Rattle.token_bucket.specs.TokenBucket.{discreteTryConsume, byteLevel, byteTryConsume}
+use Rattle.peer_verdict.specs.declared.config.PeerMessagePolicyConfig.{PeerMessagePolicyConfig}
+use Rattle.peer_verdict.specs.declared.entry.Level.{Level}
+use Rattle.peer_verdict.specs.declared.entry.ViolationWindow.{ViolationWindow}
+use Rattle.peer_verdict.specs.declared.entry.PeerMessagePolicyEntry.{PeerMessagePolicyEntry}
+use Rattle.peer_verdict.specs.declared.ingress.FiberIngressBudget.{FiberIngressBudget}
+use Rattle.peer_verdict.specs.declared.ingress.Room.{Room}
+use Rattle.peer_verdict.specs.declared.ingress.Room.the-variants as Room
+use Rattle.peer_verdict.specs.declared.verdict.Cause.{Cause}
+use Rattle.peer_verdict.specs.declared.verdict.Cause.the-variants as Cause
+use Rattle.peer_verdict.specs.declared.verdict.Decision.{Decision}
+use Rattle.peer_verdict.specs.declared.verdict.Take.{Take}
+use Rattle.peer_verdict.specs.Config.{messageLimitDisabled, banDisabled, bytesOf}
+use Rattle.peer_verdict.specs.Entry.{level, windowRecord, entryBan, entryUsed}
+use Rattle.peer_verdict.specs.Ingress.{tryReserve}
+
+-- ════ The two buckets, on copies ══════════════════════════════════════════════════════════════════
+
+-- by how much a bucket's answer falls short: 0 for yes
+abbrev pub shortOf : Consumed → ℕ
+shortOf Consumed.Yes = 0
+shortOf (Consumed.No k) = k
+shortOf (Consumed.Refused n) = n
+
+-- the message bucket of an entry
+abbrev pub messageBucket : PeerMessagePolicyConfig → Level → DiscreteTokenBucket
+messageBucket c l =
+    record {
+      «interval_ms» = c .«peer_message_interval_ms»;
+      capacity = c .«peer_message_burst»;
+      available = l .available;
+      «last_refill_ms» = l .«last_refill_ms»;
+    }
+
+abbrev pub messagesTaken : DiscreteConsumed → Take
+messagesTaken r =
+    record { short = shortOf (r .answer); level = level (r .bucket .available) (r .bucket .«last_refill_ms») }
+
+abbrev pub bytesTaken : ByteConsumed → Take
+bytesTaken r =
+    record {
+      short = shortOf (r .answer);
+      level = level (natural (value (r .bucket .«available_bytes»))) (r .bucket .«last_refill_ms»);
+    }
+
+-- one message out of the message bucket, which is passed by where the limit is off
+unfoldable pub takeMessage : PeerMessagePolicyConfig → Level → ℕ → Take
+takeMessage c l now =
+    cond (messageLimitDisabled c) (record { short = 0; level = l })
+    (messagesTaken (discreteTryConsume (messageBucket c l) now))
+
+-- the message's bytes out of the byte bucket
+unfoldable pub takeBytes : PeerMessagePolicyConfig → Level → ℕ → ℕ → Take
+takeBytes c l size now =
+    bytesTaken (byteTryConsume (byteLevel (bytesOf c) (pos (l .available)) (l .«last_refill_ms»)) size now)
+
+-- ════ The decision ════════════════════════════════════════════════════════════════════════════════
+
+-- the entry with this rate window
+abbrev pub withRateWindow : PeerMessagePolicyEntry → ViolationWindow → PeerMessagePolicyEntry
+withRateWindow e w =
+    record {
+      messages = e .messages;
+      bytes = e .bytes;
+      «rate_limit_violations» = w;
+      «invalid_messages» = e .«invalid_messages»;
+      ban = e .ban;
+      «last_used_ms» = e .«last_used_ms»;
+    }
+
+-- the entry with this window of invalid messages
+abbrev pub withInvalidWindow : PeerMessagePolicyEntry → ViolationWindow → PeerMessagePolicyEntry
+withInvalidWindow e w =
+    record {
+      messages = e .messages;
+      bytes = e .bytes;
+      «rate_limit_violations» = e .«rate_limit_violations»;
+      «invalid_messages» = w;
+      ban = e .ban;
+      «last_used_ms» = e .«last_used_ms»;
+    }
+
+-- the entry with the charged copies of its buckets
+abbrev pub withLevels : PeerMessagePolicyEntry → Level → Level → PeerMessagePolicyEntry
+withLevels e m b =
+    record {
+      messages = m;
+      bytes = b;
+      «rate_limit_violations» = e .«rate_limit_violations»;
+      «invalid_messages» = e .«invalid_messages»;
+      ban = e .ban;
+      «last_used_ms» = e .«last_used_ms»;
+    }
+
+-- whether a window's count begins a ban; a threshold of 0 never does
+abbrev pub reachesBan : PeerMessagePolicyConfig → ViolationWindow → Bool
+reachesBan c w = not (banDisabled c) && leb (c .«violation_ban_threshold») (w .count)
+
+-- a bucket fell short: the copies are thrown away and the violation is counted
+unfoldable pub violated : PeerMessagePolicyConfig → FiberIngressBudget → PeerMessagePolicyEntry → ℕ → Cause → Decision
+violated c i e now cause =
+    let w = windowRecord (e .«rate_limit_violations») now (c .«ban_duration_ms»)
+    in cond (reachesBan c w)
+    (record { cause = Cause.BanBegun; entry = entryBan (withRateWindow e w) now (c .«ban_duration_ms»); ingress = i })
+    (record { cause = cause; entry = withRateWindow e w; ingress = i })
+
+-- both buckets pass: the ceiling decides; where it has no room the copies are thrown away, and no violation is counted
+abbrev pub roomed : FiberIngressBudget → PeerMessagePolicyEntry → Level → Level → Room → Decision
+roomed i e m b (Room.Left after) = record { cause = Cause.Allowed; entry = withLevels e m b; ingress = after }
+roomed i e m b Room.NoSlot = record { cause = Cause.NoSlot; entry = e; ingress = i }
+roomed i e m b (Room.BytesShort k) = record { cause = Cause.CeilingShort k; entry = e; ingress = i }
+roomed i e m b Room.Overflow = record { cause = Cause.Overflow; entry = e; ingress = i }
+
+-- an entry whose windows are expired and whose last use is now: the message bucket, the byte bucket, the ceiling, in this order
+unfoldable pub weighed : PeerMessagePolicyConfig → FiberIngressBudget → PeerMessagePolicyEntry → ℕ → ℕ → Decision
+weighed c i e size now =
+    let m = takeMessage c (e .messages) now
+    in let b = takeBytes c (e .bytes) size now
+    in cond (leb 1 (m .short)) (violated c i e now Cause.MessagesShort)
+    (cond (leb 1 (b .short)) (violated c i e now (Cause.BytesShort (b .short)))
+    (roomed i e (m .level) (b .level) (tryReserve c i size)))
+
+-- admit on an entry that is not banned
+unfoldable pub judged : PeerMessagePolicyConfig → FiberIngressBudget → PeerMessagePolicyEntry → ℕ → ℕ → Decision
+judged c i e size now = weighed c i (entryUsed e now (c .«ban_duration_ms»)) size now
+
+-- an invalid message counted on an entry whose windows are expired and whose last use is now
+unfoldable pub noted : PeerMessagePolicyConfig → FiberIngressBudget → PeerMessagePolicyEntry → ℕ → Decision
+noted c i e now =
+    let w = windowRecord (e .«invalid_messages») now (c .«ban_duration_ms»)
+    in cond (reachesBan c w)
+    (record { cause = Cause.BanBegun; entry = entryBan (withInvalidWindow e w) now (c .«ban_duration_ms»); ingress = i })
+    (record { cause = Cause.Allowed; entry = withInvalidWindow e w; ingress = i })
+
+-- record_invalid on an entry that is not banned
+unfoldable pub judgedInvalid : PeerMessagePolicyConfig → FiberIngressBudget → PeerMessagePolicyEntry → ℕ → Decision
+judgedInvalid c i e now = noted c i (entryUsed e now (c .«ban_duration_ms»)) now

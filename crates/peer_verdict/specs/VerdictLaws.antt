@@ -1,0 +1,238 @@
+-- Laws of the verdict: the ways it goes, that it keeps an entry and the load sound, and which causes it names. Assumes nothing.
+use mathlib.Core.Path.{_≡_, refl, subst}
+use mathlib.Core.Bool.{true, false, and-eq-true-iff}
+use Prim.Native.Nat.{ℕ, _≤_}
+use native.Mathlib.Omega.{arith}
+use borrow.Author.Tests.{leb-true, leb-false, not-true}
+use lib.Dec.{leb}
+use Rattle.peer_verdict.specs.declared.config.PeerMessagePolicyConfig.{PeerMessagePolicyConfig}
+use Rattle.peer_verdict.specs.declared.entry.Level.{Level}
+use Rattle.peer_verdict.specs.declared.entry.ViolationWindow.{ViolationWindow}
+use Rattle.peer_verdict.specs.declared.entry.PeerMessagePolicyEntry.{PeerMessagePolicyEntry}
+use Rattle.peer_verdict.specs.declared.ingress.FiberIngressBudget.{FiberIngressBudget}
+use Rattle.peer_verdict.specs.declared.ingress.Room.{Room}
+use Rattle.peer_verdict.specs.declared.ingress.Room.the-variants as Room
+use Rattle.peer_verdict.specs.declared.verdict.Cause.{Cause}
+use Rattle.peer_verdict.specs.declared.verdict.Cause.the-variants as Cause
+use Rattle.peer_verdict.specs.declared.verdict.Decision.{Decision}
+use Rattle.peer_verdict.specs.Config.{banDisabled, unlimited}
+use Rattle.peer_verdict.specs.Entry.{windowRecord, entryBan, entryUsed, entrySound}
+use Rattle.peer_verdict.specs.Ingress.{ingressReserved, tryReserve, ingressSound}
+use Rattle.peer_verdict.specs.Verdict.{
+  takeMessage,
+  takeBytes,
+  withRateWindow,
+  withInvalidWindow,
+  withLevels,
+  reachesBan,
+  violated,
+  roomed,
+  weighed,
+  judged,
+  noted,
+  judgedInvalid,
+}
+use Rattle.peer_verdict.specs.EntryLaws.{chosen, EntryHolds, sound-holds, holds-sound, ban-holds, used-holds, count-record}
+use Rattle.peer_verdict.specs.IngressLaws.{RoomHolds, room-holds}
+use Rattle.peer_verdict.specs.TakeLaws.{message-level, bytes-level}
+
+-- ════ The ways it goes ════════════════════════════════════════════════════════════════════════════
+
+-- the window of violations, and the window of invalid messages, with one more
+abbrev pub rateCounted : PeerMessagePolicyConfig → PeerMessagePolicyEntry → ℕ → ViolationWindow
+rateCounted c e now = windowRecord (e .«rate_limit_violations») now (c .«ban_duration_ms»)
+
+abbrev pub invalidCounted : PeerMessagePolicyConfig → PeerMessagePolicyEntry → ℕ → ViolationWindow
+invalidCounted c e now = windowRecord (e .«invalid_messages») now (c .«ban_duration_ms»)
+
+-- a ban begun on an entry
+abbrev pub banBegun : PeerMessagePolicyConfig → FiberIngressBudget → PeerMessagePolicyEntry → ℕ → Decision
+banBegun c i e now = record { cause = Cause.BanBegun; entry = entryBan e now (c .«ban_duration_ms»); ingress = i }
+
+-- what holds of the decision on an entry, for each way that it may go; the test that leads there is at hand
+module _ (P : Decision → Type 0) (c : PeerMessagePolicyConfig) (i : FiberIngressBudget) (e : PeerMessagePolicyEntry) where
+  pub violated-ways : (now : ℕ) (cause : Cause) → (reachesBan c (rateCounted c e now) ≡ true → P (banBegun c i (withRateWindow e (rateCounted c e now)) now)) → (reachesBan c (rateCounted c e now) ≡ false → P (record { cause = cause; entry = withRateWindow e (rateCounted c e now); ingress = i })) → P (violated c i e now cause)
+  unfolding violated
+  violated-ways now cause begun counted = chosen P (reachesBan c (rateCounted c e now)) begun counted
+
+  pub noted-ways : (now : ℕ) → (reachesBan c (invalidCounted c e now) ≡ true → P (banBegun c i (withInvalidWindow e (invalidCounted c e now)) now)) → (reachesBan c (invalidCounted c e now) ≡ false → P (record { cause = Cause.Allowed; entry = withInvalidWindow e (invalidCounted c e now); ingress = i })) → P (noted c i e now)
+  unfolding noted
+  noted-ways now begun counted = chosen P (reachesBan c (invalidCounted c e now)) begun counted
+
+  pub weighed-ways : (size now : ℕ) → (1 ≤ takeMessage c (e .messages) now .short → P (violated c i e now Cause.MessagesShort)) → (takeMessage c (e .messages) now .short ≡ 0 → 1 ≤ takeBytes c (e .bytes) size now .short → P (violated c i e now (Cause.BytesShort (takeBytes c (e .bytes) size now .short)))) → (takeMessage c (e .messages) now .short ≡ 0 → takeBytes c (e .bytes) size now .short ≡ 0 → P (roomed i e (takeMessage c (e .messages) now .level) (takeBytes c (e .bytes) size now .level) (tryReserve c i size))) → P (weighed c i e size now)
+  unfolding weighed
+  weighed-ways size now messages bytes passed =
+      let m = takeMessage c (e .messages) now .short in
+      let b = takeBytes c (e .bytes) size now .short in
+      chosen P (leb 1 m)
+      (λ t. messages (leb-true 1 m t))
+      (λ t.
+      let none : m ≡ 0 = omega (arith, leb-false 1 m t) in
+      chosen P (leb 1 b)
+      (λ s. bytes none (leb-true 1 b s))
+      (λ s. passed none (omega (arith, leb-false 1 b s))))
+
+-- ════ The entry stays sound ═══════════════════════════════════════════════════════════════════════
+
+rate-holds : {c : PeerMessagePolicyConfig} {e : PeerMessagePolicyEntry} {w : ViolationWindow} → EntryHolds c e → w .count ≤ 4294967295 → EntryHolds c (withRateWindow e w)
+rate-holds h k =
+    record { messages = h .messages; bytes = h .bytes; rate = k; invalid = h .invalid; ban = h .ban }
+
+invalid-holds : {c : PeerMessagePolicyConfig} {e : PeerMessagePolicyEntry} {w : ViolationWindow} → EntryHolds c e → w .count ≤ 4294967295 → EntryHolds c (withInvalidWindow e w)
+invalid-holds h k =
+    record { messages = h .messages; bytes = h .bytes; rate = h .rate; invalid = k; ban = h .ban }
+
+abbrev Keeps : PeerMessagePolicyConfig → Decision → Type 0
+Keeps c d = EntryHolds c (d .entry)
+
+violated-holds : (c : PeerMessagePolicyConfig) (i : FiberIngressBudget) (e : PeerMessagePolicyEntry) (now : ℕ) (cause : Cause) → EntryHolds c e → Keeps c (violated c i e now cause)
+violated-holds c i e now cause h =
+    let counted : EntryHolds c (withRateWindow e (rateCounted c e now)) =
+    rate-holds h (count-record (e .«rate_limit_violations») now (c .«ban_duration_ms»))
+    in
+    violated-ways (Keeps c) c i e now cause (λ t. ban-holds now (c .«ban_duration_ms») counted) (λ t. counted)
+
+noted-holds : (c : PeerMessagePolicyConfig) (i : FiberIngressBudget) (e : PeerMessagePolicyEntry) (now : ℕ) → EntryHolds c e → Keeps c (noted c i e now)
+noted-holds c i e now h =
+    let counted : EntryHolds c (withInvalidWindow e (invalidCounted c e now)) =
+    invalid-holds h (count-record (e .«invalid_messages») now (c .«ban_duration_ms»))
+    in
+    noted-ways (Keeps c) c i e now (λ t. ban-holds now (c .«ban_duration_ms») counted) (λ t. counted)
+
+roomed-holds : {c : PeerMessagePolicyConfig} (i : FiberIngressBudget) {e : PeerMessagePolicyEntry} {m b : Level} (r : Room) → EntryHolds c e → EntryHolds c (withLevels e m b) → Keeps c (roomed i e m b r)
+roomed-holds i (Room.Left after) h charged = charged
+roomed-holds i Room.NoSlot h charged = h
+roomed-holds i (Room.BytesShort k) h charged = h
+roomed-holds i Room.Overflow h charged = h
+
+weighed-holds : (c : PeerMessagePolicyConfig) (i : FiberIngressBudget) (e : PeerMessagePolicyEntry) (size now : ℕ) → EntryHolds c e → Keeps c (weighed c i e size now)
+weighed-holds c i e size now h =
+    weighed-ways (Keeps c) c i e size now
+    (λ m. violated-holds c i e now Cause.MessagesShort h)
+    (λ m b. violated-holds c i e now (Cause.BytesShort (takeBytes c (e .bytes) size now .short)) h)
+    (λ m b.
+    roomed-holds i (tryReserve c i size) h
+    (record {
+      messages = message-level c (e .messages) now (h .messages);
+      bytes = bytes-level c (e .bytes) size now (h .bytes);
+      rate = h .rate;
+      invalid = h .invalid;
+      ban = h .ban;
+    }))
+
+pub judged-sound : (c : PeerMessagePolicyConfig) (i : FiberIngressBudget) (e : PeerMessagePolicyEntry) (size now : ℕ) → entrySound c e ≡ true → entrySound c (judged c i e size now .entry) ≡ true
+unfolding judged
+judged-sound c i e size now h =
+    let used = entryUsed e now (c .«ban_duration_ms») in
+    holds-sound (weighed-holds c i used size now (used-holds now (c .«ban_duration_ms») (sound-holds h)))
+
+pub judged-invalid-sound : (c : PeerMessagePolicyConfig) (i : FiberIngressBudget) (e : PeerMessagePolicyEntry) (now : ℕ) → entrySound c e ≡ true → entrySound c (judgedInvalid c i e now .entry) ≡ true
+unfolding judgedInvalid
+judged-invalid-sound c i e now h =
+    let used = entryUsed e now (c .«ban_duration_ms») in
+    holds-sound (noted-holds c i used now (used-holds now (c .«ban_duration_ms») (sound-holds h)))
+
+-- ════ The causes, and what each leaves ════════════════════════════════════════════════════════════
+
+-- which causes a verdict on a message names, and what each says of the settings
+abbrev pub CauseHolds : PeerMessagePolicyConfig → Cause → Type 0
+CauseHolds c Cause.Allowed = Unit {0}
+CauseHolds c Cause.MessagesShort = Unit {0}
+CauseHolds c (Cause.BytesShort k) = 1 ≤ k
+CauseHolds c Cause.NoSlot = unlimited c ≡ false
+CauseHolds c (Cause.CeilingShort k) = (unlimited c ≡ false) × (1 ≤ k)
+CauseHolds c Cause.LiveBan = ⊥
+CauseHolds c Cause.BanBegun = banDisabled c ≡ false
+CauseHolds c Cause.Overflow = unlimited c ≡ true
+
+abbrev pub NotAllowed : Cause → Type 0
+NotAllowed Cause.Allowed = ⊥
+NotAllowed Cause.MessagesShort = Unit {0}
+NotAllowed (Cause.BytesShort k) = Unit {0}
+NotAllowed Cause.NoSlot = Unit {0}
+NotAllowed (Cause.CeilingShort k) = Unit {0}
+NotAllowed Cause.LiveBan = Unit {0}
+NotAllowed Cause.BanBegun = Unit {0}
+NotAllowed Cause.Overflow = Unit {0}
+
+-- an admitted message: both buckets passed, are charged, and the load is one message more
+pub record Admitted (c : PeerMessagePolicyConfig) (i : FiberIngressBudget) (e : PeerMessagePolicyEntry) (size now : ℕ) (d : Decision) : Type 0 where
+  pub messages : takeMessage c (e .messages) now .short ≡ 0
+  pub bytes : takeBytes c (e .bytes) size now .short ≡ 0
+  pub entry : d .entry ≡ withLevels e (takeMessage c (e .messages) now .level) (takeBytes c (e .bytes) size now .level)
+  pub ingress : d .ingress ≡ ingressReserved i size
+
+-- any other: buckets and load are as they were
+pub record Kept (i : FiberIngressBudget) (e : PeerMessagePolicyEntry) (d : Decision) : Type 0 where
+  pub messages : d .entry .messages ≡ e .messages
+  pub bytes : d .entry .bytes ≡ e .bytes
+  pub ingress : d .ingress ≡ i
+
+pub record Orderly (c : PeerMessagePolicyConfig) (i : FiberIngressBudget) (e : PeerMessagePolicyEntry) (size now : ℕ) (d : Decision) : Type 0 where
+  pub cause : CauseHolds c (d .cause)
+  pub load : ingressSound c i ≡ true → ingressSound c (d .ingress) ≡ true
+  pub allowed : d .cause ≡ Cause.Allowed → Admitted c i e size now d
+  pub other : NotAllowed (d .cause) → Kept i e d
+
+not-allowed : (x : Cause) → NotAllowed x → x ≡ Cause.Allowed → ⊥
+not-allowed x n q = subst NotAllowed q n
+
+-- a decision that admits nothing and leaves buckets and load
+kept-orderly : {c : PeerMessagePolicyConfig} {i : FiberIngressBudget} {e : PeerMessagePolicyEntry} {size now : ℕ} {d : Decision} → CauseHolds c (d .cause) → NotAllowed (d .cause) → Kept i e d → Orderly c i e size now d
+kept-orderly {c} {d = d} cause n k =
+    record {
+      cause = cause;
+      load = λ h. rw (k .ingress) h;
+      allowed = λ q. absurd (not-allowed (d .cause) n q);
+      other = λ m. k;
+    }
+
+banning : (c : PeerMessagePolicyConfig) (w : ViolationWindow) → reachesBan c w ≡ true → banDisabled c ≡ false
+banning c w h = not-true (banDisabled c) (and-eq-true-iff _ _ .0 h .0)
+
+violated-orderly : (c : PeerMessagePolicyConfig) (i : FiberIngressBudget) (e : PeerMessagePolicyEntry) (size now : ℕ) (cause : Cause) → CauseHolds c cause → NotAllowed cause → Orderly c i e size now (violated c i e now cause)
+unfolding entryBan
+violated-orderly c i e size now cause holds n =
+    violated-ways (Orderly c i e size now) c i e now cause
+    (λ t.
+    kept-orderly (banning c (rateCounted c e now) t) tt (record { messages = refl; bytes = refl; ingress = refl }))
+    (λ t. kept-orderly holds n (record { messages = refl; bytes = refl; ingress = refl }))
+
+roomed-orderly : (c : PeerMessagePolicyConfig) (i : FiberIngressBudget) (e : PeerMessagePolicyEntry) (size now : ℕ) → takeMessage c (e .messages) now .short ≡ 0 → takeBytes c (e .bytes) size now .short ≡ 0 → (r : Room) → RoomHolds c i size r → Orderly c i e size now (roomed i e (takeMessage c (e .messages) now .level) (takeBytes c (e .bytes) size now .level) r)
+roomed-orderly c i e size now m b (Room.Left after) h =
+    record {
+      cause = tt;
+      load = h .1;
+      allowed = λ q. record { messages = m; bytes = b; entry = refl; ingress = h .0 };
+      other = λ n. absurd n;
+    }
+roomed-orderly c i e size now m b Room.NoSlot h =
+    kept-orderly h tt (record { messages = refl; bytes = refl; ingress = refl })
+roomed-orderly c i e size now m b (Room.BytesShort k) h =
+    kept-orderly h tt (record { messages = refl; bytes = refl; ingress = refl })
+roomed-orderly c i e size now m b Room.Overflow h =
+    kept-orderly h tt (record { messages = refl; bytes = refl; ingress = refl })
+
+weighed-orderly : (c : PeerMessagePolicyConfig) (i : FiberIngressBudget) (e : PeerMessagePolicyEntry) (size now : ℕ) → Orderly c i e size now (weighed c i e size now)
+weighed-orderly c i e size now =
+    weighed-ways (Orderly c i e size now) c i e size now
+    (λ m. violated-orderly c i e size now Cause.MessagesShort tt tt)
+    (λ m b. violated-orderly c i e size now (Cause.BytesShort (takeBytes c (e .bytes) size now .short)) b tt)
+    (λ m b. roomed-orderly c i e size now m b (tryReserve c i size) (room-holds c i size))
+
+-- of a verdict on a message, with the entry as it finds it
+pub judged-orderly : (c : PeerMessagePolicyConfig) (i : FiberIngressBudget) (e : PeerMessagePolicyEntry) (size now : ℕ) → Orderly c i (entryUsed e now (c .«ban_duration_ms»)) size now (judged c i e size now)
+unfolding judged
+judged-orderly c i e size now = weighed-orderly c i (entryUsed e now (c .«ban_duration_ms»)) size now
+
+-- a sound load stays sound
+pub judged-load : (c : PeerMessagePolicyConfig) (i : FiberIngressBudget) (e : PeerMessagePolicyEntry) (size now : ℕ) → ingressSound c i ≡ true → ingressSound c (judged c i e size now .ingress) ≡ true
+judged-load c i e size now = judged-orderly c i e size now .load
+
+-- no verdict names a live ban
+pub judged-no-live-ban : (c : PeerMessagePolicyConfig) (i : FiberIngressBudget) (e : PeerMessagePolicyEntry) (size now : ℕ) → judged c i e size now .cause ≡ Cause.LiveBan → ⊥
+judged-no-live-ban c i e size now h = subst (CauseHolds c) h (judged-orderly c i e size now .cause)
+
+-- the load overflows its numbers only where there is no ceiling
+pub judged-overflow : (c : PeerMessagePolicyConfig) (i : FiberIngressBudget) (e : PeerMessagePolicyEntry) (size now : ℕ) → judged c i e size now .cause ≡ Cause.Overflow → unlimited c ≡ true
+judged-overflow c i e size now h = subst (CauseHolds c) h (judged-orderly c i e size now .cause)

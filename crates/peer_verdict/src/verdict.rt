@@ -1,0 +1,291 @@
+// What admit and record_invalid decide on one entry, before a byte is written.
+ghost use mathlib.Core.Path.{_≡_};
+ghost use mathlib.Core.Bool.{true};
+ghost use Prim.Native.Nat.{_≤_};
+ghost use Rattle.peer_verdict.specs.Entry.{entrySound};
+ghost use Rattle.peer_verdict.specs.Verdict.{shortOf, takeMessage, takeBytes, withRateWindow, withInvalidWindow, withLevels};
+ghost use Rattle.peer_verdict.specs.Verdict.{reachesBan, violated, roomed, weighed, judged, noted, judgedInvalid};
+use super::config::PeerMessagePolicyConfig;
+use super::entry::Level;
+use super::entry::PeerMessagePolicyEntry;
+use super::entry::ViolationWindow;
+use super::ingress::FiberIngressBudget;
+use super::ingress::Room;
+use amount::Amount;
+use token_bucket::answer::Consumed;
+use token_bucket::bytes::ByteRateLimitConfig;
+use token_bucket::bytes::ByteTokenBucket;
+use token_bucket::discrete::DiscreteTokenBucket;
+
+// A bucket's answer on a copy: by how much it falls short, 0 where it passes, and the level after.
+pub struct Take {
+    pub short: u64,
+    pub level: Level,
+}
+
+// Why a message is admitted or not, in the order in which the limits are judged.
+pub enum Cause {
+    Allowed,
+    MessagesShort,
+    BytesShort(u64),
+    NoSlot,
+    CeilingShort(u64),
+    LiveBan,
+    BanBegun,
+    Overflow,
+}
+
+// The cause, the entry as it is to be stored, and the load in flight.
+pub struct Decision {
+    pub cause: Cause,
+    pub entry: PeerMessagePolicyEntry,
+    pub ingress: FiberIngressBudget,
+}
+
+fn short_of(answer: Consumed) -> u64
+    ensures { λ r. ⌜ r ≡ shortOf answer ⌝ }
+{
+    match answer {
+        Consumed::Yes => 0,
+        Consumed::No(short) => short,
+        Consumed::Refused(number) => number as u64,
+    }
+}
+
+// One message out of the message bucket. Where the limit is off the bucket is passed by: it would say no once it is empty.
+pub fn take_message(config: PeerMessagePolicyConfig, level: Level, now_ms: u64) -> Take
+    requires { ⌜ level .available ≤ config .«peer_message_burst» ⌝ }
+    ensures { λ r. ⌜ r ≡ takeMessage config level «now_ms» ⌝ }
+{
+    if config.message_limit_disabled() {
+        return Take { short: 0, level };
+    }
+    let bucket = DiscreteTokenBucket {
+        interval_ms: config.peer_message_interval_ms,
+        capacity: config.peer_message_burst,
+        available: level.available as u32,
+        last_refill_ms: level.last_refill_ms,
+    };
+    let consumed = bucket.try_consume(now_ms);
+    let after = consumed.bucket;
+    let answer = consumed.answer;
+    Take {
+        short: short_of(answer),
+        level: Level {
+            available: after.available as u64,
+            last_refill_ms: after.last_refill_ms,
+        },
+    }
+}
+
+// The message's bytes out of the byte bucket.
+pub fn take_bytes(config: PeerMessagePolicyConfig, level: Level, size: u64, now_ms: u64) -> Take
+    requires { ⌜ level .available ≤ config .«peer_message_burst_bytes» ⌝ }
+    ensures { λ r. ⌜ r ≡ takeBytes config level size «now_ms» ⌝ }
+{
+    let bucket = ByteTokenBucket {
+        config: ByteRateLimitConfig::new(
+            config.peer_message_rate_bytes_per_sec,
+            config.peer_message_burst_bytes,
+        ),
+        available_bytes: Amount::from_u64(level.available),
+        last_refill_ms: level.last_refill_ms,
+    };
+    let consumed = bucket.try_consume(size, now_ms);
+    let after = consumed.bucket;
+    let answer = consumed.answer;
+    let available = after.available_bytes;
+    Take {
+        short: short_of(answer),
+        level: Level {
+            available: available.to_u64(),
+            last_refill_ms: after.last_refill_ms,
+        },
+    }
+}
+
+fn with_rate_window(e: PeerMessagePolicyEntry, w: ViolationWindow) -> PeerMessagePolicyEntry
+    ensures { λ r. ⌜ r ≡ withRateWindow e w ⌝ }
+{
+    let messages = e.messages;
+    let bytes = e.bytes;
+    let invalid_messages = e.invalid_messages;
+    let ban = e.ban;
+    PeerMessagePolicyEntry {
+        messages,
+        bytes,
+        rate_limit_violations: w,
+        invalid_messages,
+        ban,
+        last_used_ms: e.last_used_ms,
+    }
+}
+
+fn with_invalid_window(e: PeerMessagePolicyEntry, w: ViolationWindow) -> PeerMessagePolicyEntry
+    ensures { λ r. ⌜ r ≡ withInvalidWindow e w ⌝ }
+{
+    let messages = e.messages;
+    let bytes = e.bytes;
+    let rate_limit_violations = e.rate_limit_violations;
+    let ban = e.ban;
+    PeerMessagePolicyEntry {
+        messages,
+        bytes,
+        rate_limit_violations,
+        invalid_messages: w,
+        ban,
+        last_used_ms: e.last_used_ms,
+    }
+}
+
+fn with_levels(e: PeerMessagePolicyEntry, messages: Level, bytes: Level) -> PeerMessagePolicyEntry
+    ensures { λ r. ⌜ r ≡ withLevels e messages bytes ⌝ }
+{
+    let rate_limit_violations = e.rate_limit_violations;
+    let invalid_messages = e.invalid_messages;
+    let ban = e.ban;
+    PeerMessagePolicyEntry {
+        messages,
+        bytes,
+        rate_limit_violations,
+        invalid_messages,
+        ban,
+        last_used_ms: e.last_used_ms,
+    }
+}
+
+fn decided(cause: Cause, entry: PeerMessagePolicyEntry, ingress: FiberIngressBudget) -> Decision
+    ensures { λ r. ⌜ r ≡ record { cause = cause; entry = entry; ingress = ingress } ⌝ }
+{
+    Decision {
+        cause,
+        entry,
+        ingress,
+    }
+}
+
+fn reaches_ban(config: PeerMessagePolicyConfig, w: ViolationWindow) -> bool
+    ensures { λ r. ⌜ r ≡ reachesBan config w ⌝ }
+{
+    !config.ban_disabled() && w.count >= config.violation_ban_threshold as u64
+}
+
+// A bucket fell short: the violation is counted, and may begin a ban. The buckets stay as they were.
+pub fn violated(
+    config: PeerMessagePolicyConfig,
+    ingress: FiberIngressBudget,
+    entry: PeerMessagePolicyEntry,
+    now_ms: u64,
+    cause: Cause,
+) -> Decision
+    ensures { λ r. ⌜ r ≡ violated config ingress entry «now_ms» cause ⌝ }
+{
+    let window = entry.rate_limit_violations;
+    let counted = window.record(now_ms, config.ban_duration_ms);
+    let noticed = with_rate_window(entry, counted);
+    if reaches_ban(config, counted) {
+        let banned = noticed.ban(now_ms, config.ban_duration_ms);
+        return decided(Cause::BanBegun, banned, ingress);
+    }
+    decided(cause, noticed, ingress)
+}
+
+// Both buckets pass, and `charged` is the entry after their takes: where the ceiling has no room it is thrown away.
+fn roomed(
+    ingress: FiberIngressBudget,
+    entry: PeerMessagePolicyEntry,
+    charged: PeerMessagePolicyEntry,
+    room: Room,
+) -> Decision
+    requires { ⌜ charged ≡ withLevels entry (charged .messages) (charged .bytes) ⌝ }
+    ensures { λ r. ⌜ r ≡ roomed ingress entry (charged .messages) (charged .bytes) room ⌝ }
+{
+    match room {
+        Room::Left(after) => decided(Cause::Allowed, charged, after),
+        Room::NoSlot => decided(Cause::NoSlot, entry, ingress),
+        Room::BytesShort(short) => decided(Cause::CeilingShort(short), entry, ingress),
+        Room::Overflow => decided(Cause::Overflow, entry, ingress),
+    }
+}
+
+// The message bucket, then the byte bucket, then the ceiling, on an entry whose last use is now.
+pub fn weighed(
+    config: PeerMessagePolicyConfig,
+    ingress: FiberIngressBudget,
+    entry: PeerMessagePolicyEntry,
+    size: u64,
+    now_ms: u64,
+) -> Decision
+    requires { ⌜ entrySound config entry ≡ true ⌝ }
+    ensures { λ r. ⌜ r ≡ weighed config ingress entry size «now_ms» ⌝ }
+{
+    let message_level = entry.messages;
+    let messages = take_message(config, message_level, now_ms);
+    if messages.short >= 1 {
+        return violated(config, ingress, entry, now_ms, Cause::MessagesShort);
+    }
+    let byte_level = entry.bytes;
+    let bytes = take_bytes(config, byte_level, size, now_ms);
+    let charged = with_levels(entry, messages.level, bytes.level);
+    if bytes.short >= 1 {
+        let cause = Cause::BytesShort(bytes.short);
+        return violated(config, ingress, entry, now_ms, cause);
+    }
+    roomed(ingress, entry, charged, ingress.try_reserve(config, size))
+}
+
+// A message on an entry that is not banned.
+pub fn judged(
+    config: PeerMessagePolicyConfig,
+    ingress: FiberIngressBudget,
+    entry: PeerMessagePolicyEntry,
+    size: u64,
+    now_ms: u64,
+) -> Decision
+    requires { ⌜ entrySound config entry ≡ true ⌝ }
+    ensures { λ r. ⌜ r ≡ judged config ingress entry size «now_ms» ⌝ }
+{
+    weighed(
+        config,
+        ingress,
+        entry.used(now_ms, config.ban_duration_ms),
+        size,
+        now_ms,
+    )
+}
+
+// An invalid message is counted in a window of its own, and may begin a ban too.
+pub fn noted(
+    config: PeerMessagePolicyConfig,
+    ingress: FiberIngressBudget,
+    entry: PeerMessagePolicyEntry,
+    now_ms: u64,
+) -> Decision
+    ensures { λ r. ⌜ r ≡ noted config ingress entry «now_ms» ⌝ }
+{
+    let window = entry.invalid_messages;
+    let counted = window.record(now_ms, config.ban_duration_ms);
+    let noticed = with_invalid_window(entry, counted);
+    if reaches_ban(config, counted) {
+        let banned = noticed.ban(now_ms, config.ban_duration_ms);
+        return decided(Cause::BanBegun, banned, ingress);
+    }
+    decided(Cause::Allowed, noticed, ingress)
+}
+
+// An invalid message on an entry that is not banned.
+pub fn judged_invalid(
+    config: PeerMessagePolicyConfig,
+    ingress: FiberIngressBudget,
+    entry: PeerMessagePolicyEntry,
+    now_ms: u64,
+) -> Decision
+    ensures { λ r. ⌜ r ≡ judgedInvalid config ingress entry «now_ms» ⌝ }
+{
+    noted(
+        config,
+        ingress,
+        entry.used(now_ms, config.ban_duration_ms),
+        now_ms,
+    )
+}
