@@ -1,0 +1,41 @@
+-- `peer_table::places::overwrite_at` meets its contract: the write leaves memory with the entry (`overwritten`). Assumes nothing.
+use native.Mathlib.Omega.{arith}
+use Rattle.peer_table.proofs.Changes.{overwritten}
+use borrow.Author.Needs.{needs}
+use Rattle.peer_table.proofs.places.overwrite_at.Statement.{statement}
+use Rattle.peer_table.proofs.places.overwrite_at.Tie as tie
+
+words-of-requires : tie.Need-words-of-requires
+words-of-requires c κs = search needs
+
+mul-put-words : tie.Need-mul-put-words
+mul-put-words c = search needs
+
+add-put-words : tie.Need-add-put-words
+add-put-words c = search needs
+
+slice-aggregate-put-words : tie.Need-slice-aggregate-put-words
+slice-aggregate-put-words c = search needs
+
+put-words-requires : tie.Need-put-words-requires
+put-words-requires c κs = search needs
+
+same-length : tie.Need-same-length
+same-length c = search needs
+
+returns : tie.Need-returns
+returns c = let a = c .before .before .before .before .before .before .before .args in
+    overwritten (a .table .now) _ (a .count) (λ i. c .before .before .before .before .before .before .slice-known .given i .fits) (omega arith) (a .index) (a .e)
+    (c .before .before .before .before .before .words-of .result) (omega arith) (omega (arith, c .before .before .before .before .before .before .before .good)) (c .before .before .before .before .before .words-of .ensures) (c .before .before .put-words .ensures)
+
+pub overwrite-at-spec : {M : Type 1} → statement M
+overwrite-at-spec =
+    tie.close
+    (tie.spec
+    words-of-requires
+    mul-put-words
+    add-put-words
+    slice-aggregate-put-words
+    put-words-requires
+    same-length
+    returns)

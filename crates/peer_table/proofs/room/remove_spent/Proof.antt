@@ -1,0 +1,36 @@
+-- `peer_table::room::remove_spent` meets its contract: the rows gathered, and zeros behind them (`spent-removed`). Assumes nothing.
+use native.Mathlib.Omega.{arith}
+use Rattle.table.specs.Memory.{rows}
+use Rattle.table.specs.MemoryLaws.{length-rows}
+use Rattle.peer_table.specs.Rows.{peerLayout}
+use Rattle.peer_table.specs.RoomLaws.{length-prune}
+use Rattle.peer_table.proofs.Kept.{spent-removed}
+use borrow.Author.Needs.{needs}
+use Rattle.peer_table.proofs.room.remove_spent.Statement.{statement}
+use Rattle.peer_table.proofs.room.remove_spent.Tie as tie
+
+gather-unspent-requires : tie.Need-gather-unspent-requires
+gather-unspent-requires c κs = search needs
+
+sub-zero-rows : tie.Need-sub-zero-rows
+sub-zero-rows c = let a = c .before .before .before .before .before .before .args in
+    omega (arith, c .before .before .before .gather-unspent .ensures .1, length-prune (a .now-ms) (rows peerLayout (a .table .now) (a .count)), length-rows peerLayout (a .table .now) (a .count))
+
+zero-rows-requires : tie.Need-zero-rows-requires
+zero-rows-requires c κs = let a = c .before .before .before .before .before .before .args in
+    omega (arith, c .before .before .before .before .before .before .pre, c .before .before .before .gather-unspent .ensures .1, length-prune (a .now-ms) (rows peerLayout (a .table .now) (a .count)), length-rows peerLayout (a .table .now) (a .count))
+
+same-length : tie.Need-same-length
+same-length c = search needs
+
+returns : tie.Need-returns
+returns c = let a = c .before .before .before .before .before .before .before .before .before .args in (
+  spent-removed (a .now-ms) (a .table .now) (a .count) (λ i. c .before .before .before .before .before .before .before .before .slice-known .given i .fits) (omega (arith, c .before .before .before .before .before .before .before .before .before .pre))
+      _ _ (c .before .before .before .before .before .before .gather-unspent .result) (c .before .before .before .before .before .before .gather-unspent .ensures .0) (c .before .before .before .before .before .before .gather-unspent .ensures .1) (c .before .before .zero-rows .ensures),
+  c .before .before .before .before .before .before .gather-unspent .ensures .1,
+)
+
+pub remove-spent-spec : {M : Type 1} → statement M
+remove-spent-spec =
+    tie.close
+    (tie.spec gather-unspent-requires sub-zero-rows zero-rows-requires same-length returns)

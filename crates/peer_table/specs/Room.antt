@@ -1,0 +1,43 @@
+-- Making room among the peers' rows, as peer_message_policy.rs makes it. Definitions only.
+use mathlib.Core.Bool.{not, cond}
+use mathlib.Core.Option.{Option, none, some}
+use Prim.Native.Nat.{ℕ}
+use lib.Dec.{ltb, eqb}
+use lib.ListN.{length}
+use Rattle.table.specs.Table.{Best, nothing, best, leastFrom, retain, removeAt}
+use Rattle.peer_verdict.specs.declared.config.PeerMessagePolicyConfig.{PeerMessagePolicyConfig}
+use Rattle.peer_verdict.specs.declared.entry.PeerMessagePolicyEntry.{PeerMessagePolicyEntry}
+use Rattle.peer_verdict.specs.Config.{limit}
+use Rattle.peer_verdict.specs.Entry.{entryIsSpent}
+use Rattle.peer_table.specs.Rows.{Peers}
+
+-- prune_expired_bans: all spent bans go
+abbrev pub pruneExpiredBans : ℕ → Peers → Peers
+pruneExpiredBans now rs = retain (λ e. not (entryIsSpent e now)) rs
+
+-- ordinary_lru: peers without a ban, by their last use
+abbrev pub ordinaryLru : PeerMessagePolicyEntry → Option ℕ
+ordinaryLru e = cond (eqb (e .ban .mark) 1) none (some (e .«last_used_ms»))
+
+-- banned_expirations: banned peers, by the end of their ban
+abbrev pub bannedExpirations : PeerMessagePolicyEntry → Option ℕ
+bannedExpirations e = cond (eqb (e .ban .mark) 1) (some (e .ban .«until_ms»)) none
+
+-- the row that was found goes, or that of the other search if nothing was
+abbrev pub evictFound : Best → Best → Peers → Peers
+evictFound (best j n) other rs = removeAt j rs
+evictFound nothing (best j n) rs = removeAt j rs
+evictFound nothing nothing rs = rs
+
+-- pop_first of the ordinary peers, or else of the banned ones: the smaller key where two are equal
+unfoldable pub evict : Peers → Peers
+evict rs = evictFound (leastFrom ordinaryLru nothing 0 rs) (leastFrom bannedExpirations nothing 0 rs) rs
+
+-- the spent bans have gone; where the table is still full, one row more
+abbrev pub evictIfFull : ℕ → Peers → Peers
+evictIfFull lim rs = cond (ltb (length rs) lim) rs (evict rs)
+
+-- make_room, for a peer that has no row
+unfoldable pub makeRoom : PeerMessagePolicyConfig → ℕ → Peers → Peers
+makeRoom c now rs =
+    cond (ltb (length rs) (limit c)) rs (evictIfFull (limit c) (pruneExpiredBans now rs))

@@ -1,0 +1,43 @@
+-- The peers' rows: how an entry stands in its 88 bytes behind the key. Definitions only.
+use mathlib.Core.List.{List, [], _∷_}
+use Prim.Native.Nat.{ℕ}
+use Rattle.table.specs.Table.{Row}
+use Rattle.table.specs.Memory.{Layout, wordBytes, wordOf}
+use Rattle.peer_verdict.specs.declared.entry.PeerMessagePolicyEntry.{PeerMessagePolicyEntry}
+use Rattle.peer_verdict.specs.Entry.{level, window}
+
+-- the eleven numbers of an entry, in the order of the row
+unfoldable pub entryWords : PeerMessagePolicyEntry → List ℕ
+entryWords e =
+    e .messages .available
+    ∷ e .messages .«last_refill_ms»
+    ∷ e .bytes .available
+    ∷ e .bytes .«last_refill_ms»
+    ∷ e .«rate_limit_violations» .count
+    ∷ e .«rate_limit_violations» .«started_at_ms»
+    ∷ e .«invalid_messages» .count
+    ∷ e .«invalid_messages» .«started_at_ms»
+    ∷ e .ban .mark
+    ∷ e .ban .«until_ms»
+    ∷ e .«last_used_ms»
+    ∷ []
+
+-- the entry that bytes spell
+unfoldable pub entryOf : List ℕ → PeerMessagePolicyEntry
+entryOf s =
+    record {
+      messages = level (wordOf s 0) (wordOf s 1);
+      bytes = level (wordOf s 2) (wordOf s 3);
+      «rate_limit_violations» = window (wordOf s 4) (wordOf s 5);
+      «invalid_messages» = window (wordOf s 6) (wordOf s 7);
+      ban = record { mark = wordOf s 8; «until_ms» = wordOf s 9 };
+      «last_used_ms» = wordOf s 10;
+    }
+
+-- a peer's row: a key of 33 bytes and eleven numbers, 121 bytes
+abbrev pub peerLayout : Layout PeerMessagePolicyEntry
+peerLayout = record { keyWidth = 33; width = 121; encode = λ e. wordBytes (entryWords e); decode = entryOf }
+
+-- the rows of a policy, each peer's by its key
+abbrev pub Peers : Type 0
+Peers = List (Row PeerMessagePolicyEntry)

@@ -1,0 +1,101 @@
+// Room for one peer more, as the Rust makes it: the bans that are over go, and if the table is still full, one row more.
+ghost use mathlib.Core.Path.{_≡_};
+ghost use mathlib.Core.Bool.{cond};
+ghost use Prim.Native.Nat.{_+_, _*_, _<_, _≤_};
+ghost use lib.ListN.{length};
+ghost use Rattle.lent_bytes.specs.LentBytes.{part, put};
+ghost use Rattle.table.specs.Memory.{rowOf, rows, tableBytes, Holds};
+ghost use Rattle.peer_verdict.specs.Config.{limit};
+ghost use Rattle.peer_verdict.specs.Entry.{entryIsSpent};
+ghost use Rattle.peer_table.specs.Rows.{peerLayout};
+ghost use Rattle.peer_table.specs.Room.{pruneExpiredBans, makeRoom};
+ghost use Rattle.peer_table.specs.Room.{evict as evicted};
+use super::first::First;
+use super::first::find_first;
+use super::places::remove_at;
+use super::row::row_spent;
+use peer_verdict::config::PeerMessagePolicyConfig;
+
+// One step of the walk that keeps rows: the row at the index `from` moves down to `to`, unless its ban is over. Answers where the
+// next one goes.
+fn keep_unspent(table: &mut [u8], from: usize, to: usize, now_ms: u64) -> usize
+    requires { ⌜ to ≤ from ⌝ }
+    requires { ⌜ 121 * (from + 1) ≤ length (now table) ⌝ }
+    ensures { λ r. ⌜ (now (table .exit) ≡ cond (entryIsSpent (rowOf peerLayout (part (now (table .entry)) (121 * from) 121) .entry) «now_ms») (now (table .entry)) (put (now (table .entry)) (121 * to) (part (now (table .entry)) (121 * from) 121))) × (r ≡ cond (entryIsSpent (rowOf peerLayout (part (now (table .entry)) (121 * from) 121) .entry) «now_ms») to (to + 1)) ⌝ }
+{
+    if row_spent(table, 121 * from, now_ms) {
+        return to;
+    }
+    table::rows::keep_row(table, 121, from, to);
+    to + 1
+}
+
+// The rows whose ban is not over, one after another at the front. What stands behind them is left.
+fn gather_unspent(table: &mut [u8], count: usize, now_ms: u64) -> usize
+    requires { ⌜ 121 * count ≤ length (now table) ⌝ }
+    ensures { λ r. ⌜ (now (table .exit) ≡ put (now (table .entry)) 0 (tableBytes peerLayout (pruneExpiredBans «now_ms» (rows peerLayout (now (table .entry)) count)))) × (r ≡ length (pruneExpiredBans «now_ms» (rows peerLayout (now (table .entry)) count))) ⌝ }
+{
+    let mut kept: usize = 0;
+    let mut i: usize = 0;
+    while i < count {
+        kept = keep_unspent(table, i, kept, now_ms);
+        i += 1;
+    }
+    kept
+}
+
+// prune_expired_bans: takes out the rows whose ban is over, and answers how many are left.
+pub fn remove_spent(table: &mut [u8], count: usize, now_ms: u64) -> usize
+    requires { ⌜ 121 * count ≤ length (now table) ⌝ }
+    ensures { λ r. ⌜ Holds peerLayout (now (table .entry)) (now (table .exit)) count (pruneExpiredBans «now_ms» (rows peerLayout (now (table .entry)) count)) × (r ≡ length (pruneExpiredBans «now_ms» (rows peerLayout (now (table .entry)) count))) ⌝ }
+{
+    let kept = gather_unspent(table, count, now_ms);
+    table::rows::zero_rows(table, 121, kept, count - kept);
+    kept
+}
+
+// Takes out the peer without a ban that was used last before all others, or if there is none the peer whose ban ends first, and
+// answers how many rows are left.
+pub fn evict(table: &mut [u8], count: usize) -> usize
+    requires { ⌜ 121 * count ≤ length (now table) ⌝ }
+    ensures { λ r. ⌜ Holds peerLayout (now (table .entry)) (now (table .exit)) count (evicted (rows peerLayout (now (table .entry)) count)) × (r ≡ length (evicted (rows peerLayout (now (table .entry)) count))) ⌝ }
+{
+    if let First::At(index, _) = find_first(table, count, false) {
+        remove_at(table, count, index);
+        return count - 1;
+    }
+    if let First::At(index, _) = find_first(table, count, true) {
+        remove_at(table, count, index);
+        return count - 1;
+    }
+    count
+}
+
+// How many rows the table holds at most; a limit of 0 counts as 1.
+fn limit_of(config: PeerMessagePolicyConfig) -> u64
+    ensures { λ r. ⌜ r ≡ limit config ⌝ }
+{
+    let limit = config.max_tracked_peers;
+    if limit < 1 { 1 } else { limit }
+}
+
+// make_room, for a peer that has no row. Answers how many rows are left.
+pub fn make_room(
+    config: PeerMessagePolicyConfig,
+    table: &mut [u8],
+    count: usize,
+    now_ms: u64,
+) -> usize
+    requires { ⌜ 121 * count ≤ length (now table) ⌝ }
+    ensures { λ r. ⌜ Holds peerLayout (now (table .entry)) (now (table .exit)) count (makeRoom config «now_ms» (rows peerLayout (now (table .entry)) count)) × (r ≡ length (makeRoom config «now_ms» (rows peerLayout (now (table .entry)) count))) ⌝ }
+{
+    let limit = limit_of(config);
+    if (count as u64) < limit {
+        return count;
+    }
+    let left = remove_spent(table, count, now_ms);
+    if (left as u64) < limit {
+        return left;
+    }
+    evict(table, left)
+}
