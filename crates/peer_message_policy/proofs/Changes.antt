@@ -1,0 +1,191 @@
+-- A policy's rows changed in memory: what a write of a private function leaves. Over plain values. Assumes nothing.
+use mathlib.Core.Path.{_≡_, refl, sym, ap, _∙_, subst}
+use mathlib.Core.Bool.{Bool, true, false, _&&_, cond}
+use mathlib.Core.List.{List, [], _∷_, _++_}
+use Prim.Native.Nat.{ℕ, _+_, _-_, _*_, _/_, _≤_, _<_}
+use native.Mathlib.Omega.{arith}
+use borrow.Author.Tests.{eqb-true, ltb-true, lt-ltb, le-ltb}
+use lib.Dec.{eqb, ltb, leb}
+use lib.ListN.{length, take, drop, take-append-drop}
+use Rattle.lent_bytes.specs.LentBytes.{part, put, zeros, Bytes}
+use Rattle.refusal.specs.Refusal.{tooShort, limitTooLarge}
+use Rattle.table.specs.Table.{Row, store, erase, removeAt}
+use Rattle.table.specs.Memory.{rowOf, rows, laid, Holds}
+use Rattle.table.specs.TableLaws.{both-parts, Sub, done, keep, leave}
+use Rattle.table.specs.PlaceLaws.{at-key, at-store, at-erase, at-length-store, at-length-erase}
+use Rattle.table.specs.MemoryLaws.{AllFit, length-rows, key-rows, key-rowOf, fit-rows, rows-cons, holds, laid-rows, laid-laid, put-clear}
+use Rattle.peer_verdict.specs.declared.config.PeerMessagePolicyConfig.{PeerMessagePolicyConfig}
+use Rattle.peer_verdict.specs.declared.entry.PeerMessagePolicyEntry.{PeerMessagePolicyEntry}
+use Rattle.peer_verdict.specs.declared.entry.ViolationWindow.{ViolationWindow}
+use Rattle.peer_verdict.specs.declared.verdict.Decision.{Decision}
+use Rattle.peer_verdict.specs.Config.{limit}
+use Rattle.peer_verdict.specs.Entry.{window, windowExpire, entryExpireWindows}
+use Rattle.peer_table.specs.Rows.{Peers, peerLayout}
+use Rattle.peer_table.specs.Peer.{peerRow}
+use Rattle.peer_table.specs.Room.{makeRoom}
+use Rattle.peer_table.specs.RowsLaws.{EntryFits, peer-faithful}
+use Rattle.peer_table.specs.RoomLaws.{room-for-one, length-makeRoom, sub-makeRoom}
+use Rattle.peer_message_policy.specs.declared.policy.PeerMessagePolicy.{PeerMessagePolicy}
+use Rattle.peer_message_policy.specs.declared.answer.Made.the-variants as Made
+use Rattle.peer_message_policy.specs.Policy.{rowsOf}
+use Rattle.peer_message_policy.specs.Calls.{fresh, newOutcome, NewMeets}
+use Rattle.peer_message_policy.specs.Carry.{Known, Unknown, Carried, Left, sameCounts}
+use Rattle.peer_message_policy.proofs.Judged.{anyRow, entryAt, known-inside, rows-fit, few-rows, limit-fits, long-enough, too-short}
+
+holds-same : {s t : List ℕ} {n : ℕ} {rs qs : Peers} → rs ≡ qs → Holds peerLayout s t n rs → Holds peerLayout s t n qs
+holds-same {s} {t} {n} e h = subst (λ (l : Peers). Holds peerLayout s t n l) e h
+
+-- the rows with an entry written over that of the i-th, whose key stays
+abbrev pub over : List ℕ → ℕ → ℕ → PeerMessagePolicyEntry → Peers
+over s n i e = take i (rows peerLayout s n) ++ (peerRow (part s (121 * i) 33) e ∷ drop (i + 1) (rows peerLayout s n))
+
+module _ (p : PeerMessagePolicy) (s k : List ℕ) (i : ℕ) (h : Known p s k i) where
+  -- the key that stands in the row is the peer's
+  own-key : part s (121 * i) 33 ≡ k
+  own-key = sym (key-rows peer-faithful s (p .rows) i anyRow (known-inside p s k i h)) ∙ at-key k (rowsOf p s) (h .place) anyRow
+
+  -- a write over the peer's row is a store
+  over-store : (e : PeerMessagePolicyEntry) → over s (p .rows) i e ≡ store k e (rowsOf p s)
+  over-store e =
+      ap (λ (l : List ℕ). take i (rowsOf p s) ++ (peerRow l e ∷ drop (i + 1) (rowsOf p s))) own-key
+      ∙ sym (at-store k (rowsOf p s) (h .place) e)
+
+  count-store : (e : PeerMessagePolicyEntry) → p .rows ≡ length (store k e (rowsOf p s))
+  count-store e = sym (at-length-store k (rowsOf p s) (h .place) e ∙ length-rows peerLayout s (p .rows))
+
+  -- the decided entry written over the peer's row
+  pub carried-over : (t : List ℕ) (d : Decision) → Holds peerLayout s t (p .rows) (over s (p .rows) i (d .entry)) → Carried p s k (rowsOf p s) d (record { config = p .config; ingress = d .ingress; rows = p .rows }) t
+  carried-over t d held =
+      record {
+        policy = ap (λ (n : ℕ). record { config = p .config; ingress = d .ingress; rows = n }) (count-store (d .entry));
+        memory = holds-same (over-store (d .entry)) held;
+      }
+
+  -- another entry written over the peer's row
+  pub left-over : (t : List ℕ) (x e : PeerMessagePolicyEntry) → x ≡ e → Holds peerLayout s t (p .rows) (over s (p .rows) i x) → Left p s (store k e (rowsOf p s)) p t
+  left-over t x e same held =
+      record {
+        policy = ap (λ (n : ℕ). record { config = p .config; ingress = p .ingress; rows = n }) (count-store e);
+        memory = holds-same (over-store x ∙ ap (λ (y : PeerMessagePolicyEntry). store k y (rowsOf p s)) same) held;
+      }
+
+  -- the peer's row taken out
+  pub left-out : (t : List ℕ) → Holds peerLayout s t (p .rows) (removeAt i (rowsOf p s)) → Left p s (erase k (rowsOf p s)) (record { config = p .config; ingress = p .ingress; rows = p .rows - 1 }) t
+  left-out t held =
+      let fewer : p .rows - 1 ≡ length (erase k (rowsOf p s)) =
+      omega (arith, at-length-erase k (rowsOf p s) (h .place), length-rows peerLayout s (p .rows)) in
+      record {
+        policy = ap (λ (n : ℕ). record { config = p .config; ingress = p .ingress; rows = n }) fewer;
+        memory = holds-same (sym (at-erase k (rowsOf p s) (h .place))) held;
+      }
+
+  -- the entry that stands there stored again: the rows as they are
+  store-again : (e : PeerMessagePolicyEntry) → e ≡ entryAt s i → store k e (rowsOf p s) ≡ rowsOf p s
+  store-again e read =
+      let row : Row PeerMessagePolicyEntry = rowOf peerLayout (part s (121 * i) 121) in
+      let same : peerRow (part s (121 * i) 33) e ≡ row =
+      ap (λ (l : List ℕ). peerRow l e) (sym (key-rowOf peer-faithful s (121 * i))) ∙ ap (peerRow (row .key)) read in
+      sym (over-store e)
+      ∙ ap (λ (r : Row PeerMessagePolicyEntry). take i (rowsOf p s) ++ (r ∷ drop (i + 1) (rowsOf p s))) same
+      ∙ ap (λ (l : Peers). take i (rowsOf p s) ++ l) (sym (rows-cons peerLayout s (p .rows) i (known-inside p s k i h)))
+      ∙ take-append-drop i (rowsOf p s)
+
+  -- nothing is written where the entry stands there already
+  pub left-alone : Bytes s → (e : PeerMessagePolicyEntry) → e ≡ entryAt s i → Left p s (store k e (rowsOf p s)) p s
+  left-alone b e read =
+      let fits : 121 * p .rows ≤ length s = rows-fit p s (h .is-sound) in
+      record {
+        policy = ap (λ (n : ℕ). record { config = p .config; ingress = p .ingress; rows = n }) (count-store e);
+        memory =
+            holds-same (sym (store-again e read))
+            (holds peer-faithful s s (p .rows) (rowsOf p s) (fit-rows peer-faithful s (p .rows) b fits) (sym (laid-rows peer-faithful s (p .rows) b fits)));
+      }
+
+-- ════ Windows that expire ═════════════════════════════════════════════════════════════════════════
+
+-- a window that keeps its count stays as it is
+expire-kept : (w : ViolationWindow) (now duration : ℕ) → windowExpire w now duration .count ≡ w .count → windowExpire w now duration ≡ w
+unfolding windowExpire
+expire-kept w now duration = by (ltb 0 (w .count) && leb duration (now - w .«started_at_ms»)) (λ t. ltb-true 0 (w .count) (both-parts (ltb 0 (w .count)) _ t .0))
+  where
+    by : (b : Bool) → (b ≡ true → 0 < w .count) → cond b (window 0 now) w .count ≡ w .count → cond b (window 0 now) w ≡ w
+    by true f e = absurd (let z : 0 < w .count = f refl in omega arith)
+    by false f e = refl
+
+-- an entry whose counts stay is left as it is
+pub expire-same : (e : PeerMessagePolicyEntry) (now duration : ℕ) → sameCounts (entryExpireWindows e now duration) e ≡ true → entryExpireWindows e now duration ≡ e
+unfolding entryExpireWindows
+expire-same e now duration h =
+    let rate = windowExpire (e .«rate_limit_violations») now duration in
+    let invalid = windowExpire (e .«invalid_messages») now duration in
+    let parts = both-parts (eqb (rate .count) (e .«rate_limit_violations» .count)) (eqb (invalid .count) (e .«invalid_messages» .count)) h in
+    rw (
+      expire-kept (e .«rate_limit_violations») now duration (eqb-true (rate .count) (e .«rate_limit_violations» .count) (parts .0)),
+      expire-kept (e .«invalid_messages») now duration (eqb-true (invalid .count) (e .«invalid_messages» .count) (parts .1)),
+    )
+
+-- so its row need not be written
+pub left-unexpired : (p : PeerMessagePolicy) (s k : List ℕ) (i : ℕ) → Known p s k i → Bytes s → (e : PeerMessagePolicyEntry) → e ≡ entryAt s i → (now duration : ℕ) (x : PeerMessagePolicyEntry) → x ≡ entryExpireWindows e now duration → sameCounts x e ≡ true → Left p s (store k (entryExpireWindows e now duration) (rowsOf p s)) p s
+left-unexpired p s k i h b e read now duration x v same =
+    let kept : entryExpireWindows e now duration ≡ e =
+    expire-same e now duration (ap (λ (y : PeerMessagePolicyEntry). sameCounts y e) (sym v) ∙ same) in
+    left-alone p s k i h b (entryExpireWindows e now duration) (kept ∙ read)
+
+-- rows taken out of rows that can stand in the table can stand there
+sub-fit : {xs ys : Peers} → Sub xs ys → AllFit peerLayout EntryFits ys → AllFit peerLayout EntryFits xs
+sub-fit done f = tt
+sub-fit (keep s) f = (f .0, sub-fit s (f .1))
+sub-fit (leave s) f = sub-fit s (f .1)
+
+-- ════ A row more ══════════════════════════════════════════════════════════════════════════════════
+
+module _ (p : PeerMessagePolicy) (s k : List ℕ) (i : ℕ) (h : Unknown p s k i) (now : ℕ) where
+  -- the rows that are left when room was made
+  abbrev pub roomed : Peers
+  roomed = makeRoom (p .config) now (rowsOf p s)
+
+  -- after room was made there is room for one row more
+  pub one-more-fits : (n : ℕ) → n ≡ length roomed → 121 * (n + 1) ≤ length s
+  one-more-fits n e =
+      omega (arith, room-for-one (p .config) now (rowsOf p s) (omega (arith, few-rows p s (h .is-sound), length-rows peerLayout s (p .rows))), limit-fits p s (h .is-sound))
+
+  -- the decided entry stored among the rows that were left
+  pub carried-new : Bytes s → (t : List ℕ) (n : ℕ) → Holds peerLayout s t (p .rows) roomed × (n ≡ length roomed) → (u : List ℕ) (m : ℕ) (d : Decision) → Holds peerLayout t u n (store k (d .entry) (rows peerLayout t n)) × (m ≡ length (store k (d .entry) (rows peerLayout t n))) → Carried p s k roomed d (record { config = p .config; ingress = d .ingress; rows = m }) u
+  carried-new b t n first u m d second =
+      let fit : AllFit peerLayout EntryFits roomed =
+      sub-fit (sub-makeRoom (p .config) now (rowsOf p s)) (fit-rows peer-faithful s (p .rows) b (rows-fit p s (h .is-sound))) in
+      let fewer : length roomed ≤ p .rows = omega (arith, length-makeRoom (p .config) now (rowsOf p s), length-rows peerLayout s (p .rows)) in
+      let left : rows peerLayout t n ≡ roomed = ap (rows peerLayout t) (first .1) ∙ first .0 .reads in
+      let stored : Peers = store k (d .entry) roomed in
+      let held : Holds peerLayout t u (length roomed) stored =
+      subst (λ (c : ℕ). Holds peerLayout t u c stored) (first .1) (holds-same (ap (store k (d .entry)) left) (second .0)) in
+      record {
+        policy =
+            ap (λ (c : ℕ). record { config = p .config; ingress = d .ingress; rows = c })
+            (second .1 ∙ ap (λ (l : Peers). length (store k (d .entry) l)) left);
+        memory =
+            record {
+              memory =
+                  held .memory ∙ ap (λ (l : List ℕ). laid peerLayout l (length roomed) stored) (first .0 .memory)
+                  ∙ laid-laid peer-faithful s (p .rows) roomed stored fit (omega arith);
+              reads = held .reads;
+            };
+      }
+
+-- ════ A policy made ═══════════════════════════════════════════════════════════════════════════════
+
+module _ (c : PeerMessagePolicyConfig) (s : List ℕ) where
+  pub new-large : 1024 < c .«max_tracked_peers» → NewMeets c s (Made.Refused limitTooLarge) s
+  unfolding NewMeets newOutcome
+  new-large h = rw (lt-ltb 1024 (c .«max_tracked_peers») h) (record { answers = refl; leaves = refl })
+
+  module _ (h : c .«max_tracked_peers» ≤ 1024) where
+    pub new-short : length s / 121 < limit c → NewMeets c s (Made.Refused tooShort) s
+    unfolding NewMeets newOutcome
+    new-short l = rw (le-ltb 1024 (c .«max_tracked_peers») h, too-short c s l) (record { answers = refl; leaves = refl })
+
+    pub new-made : limit c ≤ length s / 121 → (t : List ℕ) → t ≡ put s 0 (zeros (121 * limit c)) → NewMeets c s (Made.Policy (fresh c)) t
+    unfolding NewMeets newOutcome
+    new-made l t e =
+        rw (le-ltb 1024 (c .«max_tracked_peers») h, long-enough c s l)
+        (record { answers = refl; leaves = holds peer-faithful s t (limit c) [] tt (e ∙ put-clear peer-faithful s (limit c)) })

@@ -1,0 +1,197 @@
+-- The ways out of each call: what it answers and leaves is its outcome. Over plain values. Assumes nothing.
+use mathlib.Core.Path.{_≡_, refl, sym, ap, _∙_}
+use mathlib.Core.Bool.{Bool, true, false, _&&_, cond}
+use mathlib.Core.List.{List}
+use mathlib.Core.Option.{none, some}
+use Prim.Native.Nat.{ℕ, _≤_}
+use native.Mathlib.Nat.{max-eq-left, max-eq-right}
+use borrow.Author.Tests.{ltb-true, lt-leb}
+use lib.Dec.{eqb, ltb, leb}
+use Rattle.pubkey.specs.declared.Pubkey.{Pubkey}
+use Rattle.refusal.specs.Refusal.{unsound, overflow}
+use Rattle.table.specs.Table.{look, store, erase}
+use Rattle.table.specs.TableLaws.{true-is-not-false, both-parts}
+use Rattle.peer_verdict.specs.declared.config.PeerMessagePolicyConfig.{PeerMessagePolicyConfig}
+use Rattle.peer_verdict.specs.declared.entry.PeerMessagePolicyEntry.{PeerMessagePolicyEntry}
+use Rattle.peer_verdict.specs.declared.ingress.FiberIngressBudget.{FiberIngressBudget}
+use Rattle.peer_verdict.specs.declared.verdict.Cause.{Cause}
+use Rattle.peer_verdict.specs.declared.verdict.Cause.the-variants as Cause
+use Rattle.peer_verdict.specs.declared.verdict.Decision.{Decision}
+use Rattle.peer_verdict.specs.Entry.{entryNew, entryUsed, entryIsBanned, entryIsSpent, entryExpireWindows}
+use Rattle.peer_verdict.specs.Verdict.{judged, judgedInvalid}
+use Rattle.peer_verdict.specs.VerdictLaws.{noted-ways}
+use Rattle.peer_table.specs.Rows.{Peers}
+use Rattle.peer_table.specs.Room.{makeRoom}
+use Rattle.peer_message_policy.specs.declared.policy.PeerMessagePolicy.{PeerMessagePolicy}
+use Rattle.peer_message_policy.specs.declared.answer.PeerMessageAdmission.{PeerMessageAdmission}
+use Rattle.peer_message_policy.specs.declared.answer.PeerMessageAdmission.the-variants as Admission
+use Rattle.peer_message_policy.specs.declared.answer.Invalid.{Invalid}
+use Rattle.peer_message_policy.specs.declared.answer.Invalid.the-variants as Invalid
+use Rattle.peer_message_policy.specs.declared.answer.Standing.{Standing}
+use Rattle.peer_message_policy.specs.declared.answer.Standing.the-variants as Standing
+use Rattle.peer_message_policy.specs.declared.answer.Changed.{Changed}
+use Rattle.peer_message_policy.specs.declared.answer.Changed.the-variants as Changed
+use Rattle.peer_message_policy.specs.declared.answer.HeldTime.{HeldTime}
+use Rattle.peer_message_policy.specs.declared.answer.HeldTime.the-variants as HeldTime
+use Rattle.peer_message_policy.specs.Policy.{rowsOf, sound, overflows, carriedOut, update, entryForUpdate, admit, recordInvalid, isBannedChange, disconnectedChange}
+use Rattle.peer_message_policy.specs.Calls.{admissionOf, invalidOf, admitOutcome, AdmitMeets, recordInvalidOutcome, RecordInvalidMeets}
+use Rattle.peer_message_policy.specs.Calls.{isBannedOutcome, IsBannedMeets, onDisconnectedOutcome, OnDisconnectedMeets, HeldTimeMeets}
+use Rattle.peer_message_policy.specs.Carry.{Carried, Left, entryToJudge}
+
+-- ════ What is judged ══════════════════════════════════════════════════════════════════════════════
+
+update-by : (b : Bool) (e f : PeerMessagePolicyEntry) (rs : Peers) → cond b (update e rs) (update f rs) ≡ update (cond b e f) rs
+update-by true e f rs = refl
+update-by false e f rs = refl
+
+-- a known peer that is not banned is judged on its entry, or on a new one
+pub update-known : (c : PeerMessagePolicyConfig) (now : ℕ) (rs : Peers) (k : List ℕ) (e : PeerMessagePolicyEntry) → look k rs ≡ some e → entryIsBanned e now ≡ false → (x : PeerMessagePolicyEntry) → x ≡ entryToJudge c e now → entryForUpdate c now rs (look k rs) ≡ update x rs
+unfolding entryForUpdate
+update-known c now rs k e found free x v = rw (v, found, free) (update-by (entryIsSpent e now) (entryNew c now) e rs)
+
+-- a peer without a row on a new one, and gets room
+pub update-new : (c : PeerMessagePolicyConfig) (now : ℕ) (rs : Peers) (k : List ℕ) → look k rs ≡ none → (x : PeerMessagePolicyEntry) → x ≡ entryNew c now → entryForUpdate c now rs (look k rs) ≡ update x (makeRoom c now rs)
+unfolding entryForUpdate
+update-new c now rs k missing x v = rw (v, missing)
+
+-- refusal 4 is the answer to an overflow alone
+overflow-answer : (q : PeerMessagePolicy) (x : Cause) → overflows x ≡ true → Admission.Refused overflow ≡ admissionOf q x
+overflow-answer q Cause.Allowed o = absurd (true-is-not-false o refl)
+overflow-answer q Cause.MessagesShort o = absurd (true-is-not-false o refl)
+overflow-answer q (Cause.BytesShort k) o = absurd (true-is-not-false o refl)
+overflow-answer q Cause.NoSlot o = absurd (true-is-not-false o refl)
+overflow-answer q (Cause.CeilingShort k) o = absurd (true-is-not-false o refl)
+overflow-answer q Cause.LiveBan o = absurd (true-is-not-false o refl)
+overflow-answer q Cause.BanBegun o = absurd (true-is-not-false o refl)
+overflow-answer q Cause.Overflow o = refl
+
+-- an invalid message never overflows
+invalid-fits : (c : PeerMessagePolicyConfig) (i : FiberIngressBudget) (e : PeerMessagePolicyEntry) (now : ℕ) → overflows (judgedInvalid c i e now .cause) ≡ false
+unfolding judgedInvalid
+invalid-fits c i e now =
+    noted-ways (λ (d : Decision). overflows (d .cause) ≡ false) c i (entryUsed e now (c .«ban_duration_ms»)) now (λ t. refl) (λ t. refl)
+
+-- ════ admit ═══════════════════════════════════════════════════════════════════════════════════════
+
+-- a call that a live ban, an unsound policy or refusal 4 ends changes nothing; any other carries its decision out
+module _ (p : PeerMessagePolicy) (s : List ℕ) (k : Pubkey) (size now : ℕ) where
+  pub admit-unsound : sound p s ≡ false → AdmitMeets p s k size now (Admission.Refused unsound) s
+  unfolding AdmitMeets admitOutcome
+  admit-unsound h = rw h (record { answers = refl; leaves = refl })
+
+  module _ (h : sound p s ≡ true) where
+    pub admit-live : (e : PeerMessagePolicyEntry) → look (k .bytes) (rowsOf p s) ≡ some e → entryIsBanned e now ≡ true → AdmitMeets p s k size now (Admission.Ban p) s
+    unfolding AdmitMeets admitOutcome admit entryForUpdate
+    admit-live e found banned = rw (h, found, banned) (record { answers = refl; leaves = refl })
+
+    module _ (e : PeerMessagePolicyEntry) (rs : Peers) (u : entryForUpdate (p .config) now (rowsOf p s) (look (k .bytes) (rowsOf p s)) ≡ update e rs) (d : Decision) (v : d ≡ judged (p .config) (p .ingress) e size now) where
+      pub admit-overflow : overflows (d .cause) ≡ true → AdmitMeets p s k size now (Admission.Refused overflow) s
+      unfolding AdmitMeets admitOutcome admit carriedOut
+      admit-overflow o = rw (h, u, sym v, o) (record { answers = overflow-answer _ (d .cause) o; leaves = refl })
+
+      pub admit-carried : overflows (d .cause) ≡ false → (q : PeerMessagePolicy) (t : List ℕ) → Carried p s (k .bytes) rs d q t → (r : PeerMessageAdmission) → r ≡ admissionOf q (d .cause) → AdmitMeets p s k size now r t
+      unfolding AdmitMeets admitOutcome admit carriedOut
+      admit-carried o q t carried r answer =
+          rw (h, u, sym v, o)
+          (record { answers = answer ∙ ap (λ (x : PeerMessagePolicy). admissionOf x (d .cause)) (carried .policy); leaves = carried .memory })
+
+-- ════ record_invalid ══════════════════════════════════════════════════════════════════════════════
+
+module _ (p : PeerMessagePolicy) (s : List ℕ) (k : Pubkey) (now : ℕ) where
+  pub invalid-unsound : sound p s ≡ false → RecordInvalidMeets p s k now (Invalid.Refused unsound) s
+  unfolding RecordInvalidMeets recordInvalidOutcome
+  invalid-unsound h = rw h (record { answers = refl; leaves = refl })
+
+  module _ (h : sound p s ≡ true) where
+    pub invalid-live : (e : PeerMessagePolicyEntry) → look (k .bytes) (rowsOf p s) ≡ some e → entryIsBanned e now ≡ true → RecordInvalidMeets p s k now (Invalid.Banned p) s
+    unfolding RecordInvalidMeets recordInvalidOutcome recordInvalid entryForUpdate
+    invalid-live e found banned = rw (h, found, banned) (record { answers = refl; leaves = refl })
+
+    pub invalid-carried : (e : PeerMessagePolicyEntry) (rs : Peers) → entryForUpdate (p .config) now (rowsOf p s) (look (k .bytes) (rowsOf p s)) ≡ update e rs → (d : Decision) → d ≡ judgedInvalid (p .config) (p .ingress) e now → (q : PeerMessagePolicy) (t : List ℕ) → Carried p s (k .bytes) rs d q t → (r : Invalid) → r ≡ invalidOf q (d .cause) → RecordInvalidMeets p s k now r t
+    unfolding RecordInvalidMeets recordInvalidOutcome recordInvalid carriedOut
+    invalid-carried e rs u d v q t carried r answer =
+        let fits : overflows (d .cause) ≡ false =
+        ap (λ (x : Decision). overflows (x .cause)) v ∙ invalid-fits (p .config) (p .ingress) e now in
+        rw (h, u, sym v, fits)
+        (record { answers = answer ∙ ap (λ (x : PeerMessagePolicy). invalidOf x (d .cause)) (carried .policy); leaves = carried .memory })
+
+-- ════ is_banned ═══════════════════════════════════════════════════════════════════════════════════
+
+-- a live ban is not over
+live-unspent : (mark until now : ℕ) → (eqb mark 1 && ltb now until) ≡ true → (eqb mark 1 && leb until now) ≡ false
+live-unspent mark until now h =
+    let parts = both-parts (eqb mark 1) (ltb now until) h in
+    rw (parts .0, lt-leb until now (ltb-true now until (parts .1)))
+
+module _ (p : PeerMessagePolicy) (s : List ℕ) (k : Pubkey) (now : ℕ) where
+  pub standing-unsound : sound p s ≡ false → IsBannedMeets p s k now (Standing.Refused unsound) s
+  unfolding IsBannedMeets isBannedOutcome
+  standing-unsound h = rw h (record { answers = refl; leaves = refl })
+
+  module _ (h : sound p s ≡ true) where
+    pub standing-nobody : look (k .bytes) (rowsOf p s) ≡ none → IsBannedMeets p s k now (Standing.Free p) s
+    unfolding IsBannedMeets isBannedOutcome isBannedChange
+    standing-nobody missing = rw (h, missing) (record { answers = refl; leaves = refl })
+
+    module _ (e : PeerMessagePolicyEntry) (found : look (k .bytes) (rowsOf p s) ≡ some e) where
+      pub standing-live : entryIsBanned e now ≡ true → IsBannedMeets p s k now (Standing.Banned p) s
+      unfolding IsBannedMeets isBannedOutcome isBannedChange
+      standing-live banned =
+          rw (h, found, banned, live-unspent (e .ban .mark) (e .ban .«until_ms») now banned) (record { answers = refl; leaves = refl })
+
+      pub standing-kept : entryIsBanned e now ≡ false → entryIsSpent e now ≡ false → IsBannedMeets p s k now (Standing.Free p) s
+      unfolding IsBannedMeets isBannedOutcome isBannedChange
+      standing-kept free unspent = rw (h, found, free, unspent) (record { answers = refl; leaves = refl })
+
+      pub standing-dropped : entryIsBanned e now ≡ false → entryIsSpent e now ≡ true → (q : PeerMessagePolicy) (t : List ℕ) → Left p s (erase (k .bytes) (rowsOf p s)) q t → IsBannedMeets p s k now (Standing.Free q) t
+      unfolding IsBannedMeets isBannedOutcome isBannedChange
+      standing-dropped free spent q t left =
+          rw (h, found, free, spent) (record { answers = ap Standing.Free (left .policy); leaves = left .memory })
+
+-- ════ on_disconnected ═════════════════════════════════════════════════════════════════════════════
+
+module _ (p : PeerMessagePolicy) (s : List ℕ) (k : Pubkey) (now : ℕ) where
+  pub disconnected-unsound : sound p s ≡ false → OnDisconnectedMeets p s k now (Changed.Refused unsound) s
+  unfolding OnDisconnectedMeets onDisconnectedOutcome
+  disconnected-unsound h = rw h (record { answers = refl; leaves = refl })
+
+  module _ (h : sound p s ≡ true) where
+    pub disconnected-nobody : look (k .bytes) (rowsOf p s) ≡ none → OnDisconnectedMeets p s k now (Changed.Policy p) s
+    unfolding OnDisconnectedMeets onDisconnectedOutcome disconnectedChange
+    disconnected-nobody missing = rw (h, missing) (record { answers = refl; leaves = refl })
+
+    module _ (e : PeerMessagePolicyEntry) (found : look (k .bytes) (rowsOf p s) ≡ some e) where
+      pub disconnected-live : entryIsBanned e now ≡ true → OnDisconnectedMeets p s k now (Changed.Policy p) s
+      unfolding OnDisconnectedMeets onDisconnectedOutcome disconnectedChange
+      disconnected-live banned = rw (h, found, banned) (record { answers = refl; leaves = refl })
+
+      pub disconnected-dropped : entryIsBanned e now ≡ false → entryIsSpent e now ≡ true → (q : PeerMessagePolicy) (t : List ℕ) → Left p s (erase (k .bytes) (rowsOf p s)) q t → OnDisconnectedMeets p s k now (Changed.Policy q) t
+      unfolding OnDisconnectedMeets onDisconnectedOutcome disconnectedChange
+      disconnected-dropped free spent q t left =
+          rw (h, found, free, spent) (record { answers = ap Changed.Policy (left .policy); leaves = left .memory })
+
+      pub disconnected-expired : entryIsBanned e now ≡ false → entryIsSpent e now ≡ false → (q : PeerMessagePolicy) (t : List ℕ) → Left p s (store (k .bytes) (entryExpireWindows e now (p .config .«ban_duration_ms»)) (rowsOf p s)) q t → OnDisconnectedMeets p s k now (Changed.Policy q) t
+      unfolding OnDisconnectedMeets onDisconnectedOutcome disconnectedChange
+      disconnected-expired free unspent q t left =
+          rw (h, found, free, unspent) (record { answers = ap Changed.Policy (left .policy); leaves = left .memory })
+
+-- ════ held_time ═══════════════════════════════════════════════════════════════════════════════════
+
+module _ (p : PeerMessagePolicy) (s : List ℕ) (k : Pubkey) (given : ℕ) where
+  pub held-unsound : sound p s ≡ false → HeldTimeMeets p s k given (HeldTime.Refused unsound)
+  unfolding HeldTimeMeets
+  held-unsound h = rw h
+
+  module _ (h : sound p s ≡ true) where
+    pub held-nobody : look (k .bytes) (rowsOf p s) ≡ none → HeldTimeMeets p s k given (HeldTime.At given)
+    unfolding HeldTimeMeets
+    held-nobody missing = rw (h, missing)
+
+    module _ (e : PeerMessagePolicyEntry) (found : look (k .bytes) (rowsOf p s) ≡ some e) where
+      pub held-later : given ≤ e .«last_used_ms» → HeldTimeMeets p s k given (HeldTime.At (e .«last_used_ms»))
+      unfolding HeldTimeMeets
+      held-later l = rw (h, found) (ap HeldTime.At (sym (max-eq-right l)))
+
+      pub held-given : e .«last_used_ms» ≤ given → HeldTimeMeets p s k given (HeldTime.At given)
+      unfolding HeldTimeMeets
+      held-given l = rw (h, found) (ap HeldTime.At (sym (max-eq-left l)))

@@ -1,0 +1,53 @@
+-- `calls::admit_new` meets its contract. Assumes nothing.
+use mathlib.Core.Path.{sym, _∙_}
+use Rattle.peer_table.specs.Room.{makeRoom}
+use Rattle.peer_message_policy.specs.Policy.{rowsOf}
+use Rattle.peer_message_policy.proofs.Judged.{unknown-look, new-on-sound}
+use Rattle.peer_message_policy.proofs.Turns.{update-new, admit-overflow, admit-carried}
+use borrow.Author.Needs.{needs}
+use Rattle.peer_message_policy.proofs.calls.admit_new.Statement.{statement}
+use Rattle.peer_message_policy.proofs.calls.admit_new.Tie as tie
+
+new-requires : tie.Need-new-requires
+new-requires c κs = search needs
+
+judged-requires : tie.Need-judged-requires
+judged-requires c κs = let a = c .before .before .before .before .args in
+    new-on-sound (a .p .config) (a .now-ms) (c .new .result) (c .new .ensures)
+
+overflows-requires : tie.Need-overflows-requires
+overflows-requires c κs = search needs
+
+returns : tie.Need-returns
+returns c = let a = c .before .before .before .before .before .before .before .args in
+    let x = c .before .before .before .new .result in
+    let rs = rowsOf (a .p) (a .table .now) in
+    admit-overflow (a .p) (a .table .now) (a .peer) (a .bytes) (a .now-ms) (c .before .before .before .before .before .before .before .pre .is-sound) x (makeRoom (a .p .config) (a .now-ms) rs) (update-new (a .p .config) (a .now-ms) rs (a .peer .bytes) (unknown-look (a .p) (a .table .now) (a .peer .bytes) (a .gap) (c .before .before .before .before .before .before .before .pre)) x (c .before .before .before .new .ensures)) (c .before .before .judged .result) (c .before .before .judged .ensures) (sym (c .before .overflows .ensures) ∙ c .if1 .taken)
+
+store-new-requires : tie.Need-store-new-requires
+store-new-requires c κs = search needs
+
+admission-of-requires : tie.Need-admission-of-requires
+admission-of-requires c κs = search needs
+
+same-length : tie.Need-same-length
+same-length c = search needs
+
+returns-2 : tie.Need-returns-2
+returns-2 c = let a = c .before .before .before .before .before .before .before .before .before .before .before .before .args in
+    let x = c .before .before .before .before .before .before .before .before .new .result in
+    let rs = rowsOf (a .p) (a .table .now) in
+    admit-carried (a .p) (a .table .now) (a .peer) (a .bytes) (a .now-ms) (c .before .before .before .before .before .before .before .before .before .before .before .before .pre .is-sound) x (makeRoom (a .p .config) (a .now-ms) rs) (update-new (a .p .config) (a .now-ms) rs (a .peer .bytes) (unknown-look (a .p) (a .table .now) (a .peer .bytes) (a .gap) (c .before .before .before .before .before .before .before .before .before .before .before .before .pre)) x (c .before .before .before .before .before .before .before .before .new .ensures)) (c .before .before .before .before .before .before .before .judged .result) (c .before .before .before .before .before .before .before .judged .ensures) (sym (c .before .before .before .before .before .before .overflows .ensures) ∙ c .before .before .before .before .before .if1 .left) (c .before .before .before .store-new .result) _ (c .before .before .before .store-new .ensures) (c .admission-of .result) (c .admission-of .ensures)
+
+pub admit-new-spec : {M : Type 1} → statement M
+admit-new-spec =
+    tie.close
+    (tie.spec
+    new-requires
+    judged-requires
+    overflows-requires
+    returns
+    store-new-requires
+    admission-of-requires
+    same-length
+    returns-2)

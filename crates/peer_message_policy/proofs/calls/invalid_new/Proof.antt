@@ -1,0 +1,40 @@
+-- `calls::invalid_new` meets its contract. Assumes nothing.
+use Rattle.peer_table.specs.Room.{makeRoom}
+use Rattle.peer_message_policy.specs.Policy.{rowsOf}
+use Rattle.peer_message_policy.proofs.Judged.{unknown-look}
+use Rattle.peer_message_policy.proofs.Turns.{update-new, invalid-carried}
+use borrow.Author.Needs.{needs}
+use Rattle.peer_message_policy.proofs.calls.invalid_new.Statement.{statement}
+use Rattle.peer_message_policy.proofs.calls.invalid_new.Tie as tie
+
+new-requires : tie.Need-new-requires
+new-requires c κs = search needs
+
+judged-invalid-requires : tie.Need-judged-invalid-requires
+judged-invalid-requires c κs = search needs
+
+store-new-requires : tie.Need-store-new-requires
+store-new-requires c κs = search needs
+
+invalid-of-requires : tie.Need-invalid-of-requires
+invalid-of-requires c κs = search needs
+
+same-length : tie.Need-same-length
+same-length c = search needs
+
+returns : tie.Need-returns
+returns c = let a = c .before .before .before .before .before .before .before .before .before .before .args in
+    let x = c .before .before .before .before .before .before .new .result in
+    let rs = rowsOf (a .p) (a .table .now) in
+    invalid-carried (a .p) (a .table .now) (a .peer) (a .now-ms) (c .before .before .before .before .before .before .before .before .before .before .pre .is-sound) x (makeRoom (a .p .config) (a .now-ms) rs) (update-new (a .p .config) (a .now-ms) rs (a .peer .bytes) (unknown-look (a .p) (a .table .now) (a .peer .bytes) (a .gap) (c .before .before .before .before .before .before .before .before .before .before .pre)) x (c .before .before .before .before .before .before .new .ensures)) (c .before .before .before .before .before .judged-invalid .result) (c .before .before .before .before .before .judged-invalid .ensures) (c .before .before .before .store-new .result) _ (c .before .before .before .store-new .ensures) (c .invalid-of .result) (c .invalid-of .ensures)
+
+pub invalid-new-spec : {M : Type 1} → statement M
+invalid-new-spec =
+    tie.close
+    (tie.spec
+    new-requires
+    judged-invalid-requires
+    store-new-requires
+    invalid-of-requires
+    same-length
+    returns)

@@ -1,0 +1,25 @@
+-- `carry::drop_known` meets its contract: the peer's row is taken out (`left-out`). Assumes nothing.
+use native.Mathlib.Omega.{arith}
+use Rattle.peer_message_policy.proofs.Judged.{known-inside, rows-fit}
+use Rattle.peer_message_policy.proofs.Changes.{left-out}
+use borrow.Author.Needs.{needs}
+use Rattle.peer_message_policy.proofs.carry.drop_known.Statement.{statement}
+use Rattle.peer_message_policy.proofs.carry.drop_known.Tie as tie
+
+remove-at-requires : tie.Need-remove-at-requires
+remove-at-requires c κs = let a = c .before .before .before .before .args in
+    (known-inside (a .p) (a .table .now) (a .peer .bytes) (a .index) (c .before .before .before .before .pre), rows-fit (a .p) (a .table .now) (c .before .before .before .before .pre .is-sound))
+
+sub-t11 : tie.Need-sub-t11
+sub-t11 c = let a = c .before .before .before .before .before .before .before .before .args in
+    omega (arith, known-inside (a .p) (a .table .now) (a .peer .bytes) (a .index) (c .before .before .before .before .before .before .before .before .pre))
+
+same-length : tie.Need-same-length
+same-length c = search needs
+
+returns : tie.Need-returns
+returns c = let a = c .before .before .before .before .before .before .before .before .args in
+    left-out (a .p) (a .table .now) (a .peer .bytes) (a .index) (c .before .before .before .before .before .before .before .before .pre) _ (c .before .before .before .remove-at .ensures)
+
+pub drop-known-spec : {M : Type 1} → statement M
+drop-known-spec = tie.close (tie.spec remove-at-requires sub-t11 same-length returns)

@@ -1,0 +1,34 @@
+-- `policy::PeerMessagePolicy::new` meets its contract. Assumes nothing.
+use mathlib.Core.Path.{ap, _∙_}
+use Prim.Native.Nat.{ℕ, _*_}
+use native.Mathlib.Omega.{arith}
+use Rattle.lent_bytes.specs.LentBytes.{put, zeros}
+use Rattle.peer_message_policy.proofs.Changes.{new-large, new-short, new-made}
+use borrow.Author.Needs.{needs}
+use Rattle.peer_message_policy.proofs.policy.PeerMessagePolicy.new.Statement.{statement}
+use Rattle.peer_message_policy.proofs.policy.PeerMessagePolicy.new.Tie as tie
+
+returns : tie.Need-returns
+returns c = let a = c .before .before .before .args in
+    new-large (a .config) (a .table .now) (c .if1 .taken)
+
+limit-requires : tie.Need-limit-requires
+limit-requires c κs = search needs
+
+returns-2 : tie.Need-returns-2
+returns-2 c = let a = c .before .before .before .before .before .args in
+    new-short (a .config) (a .table .now) (c .before .before .if1 .left) (omega (arith, c .if2 .taken, c .before .limit .ensures))
+
+zero-rows-requires : tie.Need-zero-rows-requires
+zero-rows-requires c κs = search needs
+
+same-length : tie.Need-same-length
+same-length c = search needs
+
+returns-3 : tie.Need-returns-3
+returns-3 c = let a = c .before .before .before .before .before .before .before .before .before .args in
+    new-made (a .config) (a .table .now) (c .before .before .before .before .before .before .if1 .left) (omega (arith, c .before .before .before .before .if2 .left, c .before .before .before .before .before .limit .ensures)) _ (c .before .before .zero-rows .ensures ∙ ap (λ (n : ℕ). put (a .table .now) 0 (zeros (121 * n))) (c .before .before .before .before .before .limit .ensures))
+
+pub new-spec : {M : Type 1} → statement M
+new-spec =
+    tie.close (tie.spec returns limit-requires returns-2 zero-rows-requires same-length returns-3)

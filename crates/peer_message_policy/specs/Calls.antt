@@ -1,0 +1,208 @@
+-- The public calls: what each contract says of a call's answer and of every lent byte, for all arguments. Definitions only.
+-- A call on an unsound policy or memory is refused with 3 and changes nothing.
+use mathlib.Core.Path.{_≡_}
+use mathlib.Core.Bool.{Bool, true, false, cond}
+use mathlib.Core.List.{List, [], _∷_}
+use Prim.Native.Nat.{ℕ}
+use lib.Dec.{ltb}
+use lib.ListN.{length}
+use Rattle.pubkey.specs.declared.Pubkey.{Pubkey}
+use Rattle.refusal.specs.Refusal.{Said, gives, refused, tooShort, limitTooLarge, unsound, overflow}
+use Rattle.table.specs.Table.{look}
+use Rattle.table.specs.Memory.{Holds}
+use Rattle.peer_verdict.specs.declared.config.PeerMessagePolicyConfig.{PeerMessagePolicyConfig}
+use Rattle.peer_verdict.specs.declared.ingress.FiberIngressBudget.{FiberIngressBudget}
+use Rattle.peer_message_policy.specs.declared.policy.PeerMessagePolicy.{PeerMessagePolicy}
+use Rattle.peer_verdict.specs.declared.verdict.Cause.{Cause}
+use Rattle.peer_verdict.specs.declared.verdict.Cause.the-variants as Cause
+use Rattle.peer_message_policy.specs.declared.answer.Made.{Made}
+use Rattle.peer_message_policy.specs.declared.answer.Made.the-variants as Made
+use Rattle.peer_message_policy.specs.declared.answer.PeerMessageAdmission.{PeerMessageAdmission}
+use Rattle.peer_message_policy.specs.declared.answer.PeerMessageAdmission.the-variants as Admission
+use Rattle.peer_message_policy.specs.declared.answer.Invalid.{Invalid}
+use Rattle.peer_message_policy.specs.declared.answer.Invalid.the-variants as Invalid
+use Rattle.peer_message_policy.specs.declared.answer.Standing.{Standing}
+use Rattle.peer_message_policy.specs.declared.answer.Standing.the-variants as Standing
+use Rattle.peer_message_policy.specs.declared.answer.Changed.{Changed}
+use Rattle.peer_message_policy.specs.declared.answer.Changed.the-variants as Changed
+use Rattle.peer_message_policy.specs.declared.answer.InFlight.{InFlight}
+use Rattle.peer_message_policy.specs.declared.answer.InFlight.the-variants as InFlight
+use Rattle.peer_message_policy.specs.declared.answer.HeldTime.{HeldTime}
+use Rattle.peer_message_policy.specs.declared.answer.HeldTime.the-variants as HeldTime
+use Rattle.peer_verdict.specs.Config.{limit}
+use Rattle.peer_verdict.specs.Ingress.{inFlight, ingressReleased}
+use Rattle.peer_table.specs.Rows.{peerLayout}
+use Rattle.peer_message_policy.specs.Policy.{rowsOf, policySound, longEnough, sound, Change, same, become, Turn, admit, recordInvalid, isBanned, isBannedChange, disconnectedChange, heldTime}
+
+-- ════ What the answers say ════════════════════════════════════════════════════════════════════════
+
+abbrev pub madeSays : Made → Said
+madeSays (Made.Policy p) = gives []
+madeSays (Made.Refused n) = refused n
+
+-- 0 for Allow, 1 for Disconnect, 2 for Ban
+abbrev pub admissionSays : PeerMessageAdmission → Said
+admissionSays (Admission.Allow p) = gives (0 ∷ [])
+admissionSays (Admission.Disconnect p) = gives (1 ∷ [])
+admissionSays (Admission.Ban p) = gives (2 ∷ [])
+admissionSays (Admission.Refused n) = refused n
+
+-- 1 for banned, 0 for noted
+abbrev pub invalidSays : Invalid → Said
+invalidSays (Invalid.Banned p) = gives (1 ∷ [])
+invalidSays (Invalid.Noted p) = gives (0 ∷ [])
+invalidSays (Invalid.Refused n) = refused n
+
+-- 1 for banned, 0 for free
+abbrev pub standingSays : Standing → Said
+standingSays (Standing.Banned p) = gives (1 ∷ [])
+standingSays (Standing.Free p) = gives (0 ∷ [])
+standingSays (Standing.Refused n) = refused n
+
+abbrev pub changedSays : Changed → Said
+changedSays (Changed.Policy p) = gives []
+changedSays (Changed.Refused n) = refused n
+
+abbrev pub inFlightSays : InFlight → Said
+inFlightSays (InFlight.Numbers messages bytes) = gives (messages ∷ bytes ∷ [])
+inFlightSays (InFlight.Refused n) = refused n
+
+abbrev pub heldTimeSays : HeldTime → Said
+heldTimeSays (HeldTime.At t) = gives (t ∷ [])
+heldTimeSays (HeldTime.Refused n) = refused n
+
+-- ════ Answers and memory ══════════════════════════════════════════════════════════════════════════
+
+-- how many rows there are after a change
+abbrev pub rowsAfter : ℕ → Change → ℕ
+rowsAfter n same = n
+rowsAfter n (become rs) = length rs
+
+-- the policy with this load in flight, after a change of its rows
+abbrev pub policyAfter : PeerMessagePolicy → FiberIngressBudget → Change → PeerMessagePolicy
+policyAfter p i change = record { config = p .config; ingress = i; rows = rowsAfter (p .rows) change }
+
+-- lent memory that held n rows, after a change: every byte of it
+abbrev pub Memory : List ℕ → List ℕ → ℕ → Change → Type 0
+Memory before after n same = after ≡ before
+Memory before after n (become rs) = Holds peerLayout before after n rs
+
+-- an answer, and what becomes of the rows
+pub record Outcome (A : Type 0) : Type 0 where
+  pub answer : A
+  pub change : Change
+
+-- a call gave this answer and left this memory
+pub record Meets {A : Type 0} (answer : A) (before after : List ℕ) (n : ℕ) (o : Outcome A) : Type 0 where
+  pub answers : answer ≡ o .answer
+  pub leaves : Memory before after n (o .change)
+
+-- a refusal changes nothing
+abbrev pub refuse : {A : Type 0} → A → Outcome A
+refuse a = record { answer = a; change = same }
+
+-- ════ The calls ═══════════════════════════════════════════════════════════════════════════════════
+
+-- a policy with no row and nothing in flight; the settings are kept as they are given
+abbrev pub fresh : PeerMessagePolicyConfig → PeerMessagePolicy
+fresh c = record { config = c; ingress = inFlight 0 0; rows = 0 }
+
+-- new: 2 for a limit above 1,024, then 1 for memory that is too short for it
+unfoldable pub newOutcome : PeerMessagePolicyConfig → List ℕ → Outcome Made
+newOutcome c s =
+    cond (ltb 1024 (c .«max_tracked_peers»)) (refuse (Made.Refused limitTooLarge))
+    (cond (longEnough c s) (record { answer = Made.Policy (fresh c); change = become [] }) (refuse (Made.Refused tooShort)))
+
+-- every place of the limit is zeroed, and the bytes further on stay
+unfoldable pub NewMeets : PeerMessagePolicyConfig → List ℕ → Made → List ℕ → Type 0
+NewMeets c before r after = Meets r before after (limit c) (newOutcome c before)
+
+-- the public answer merges the causes
+abbrev pub admissionOf : PeerMessagePolicy → Cause → PeerMessageAdmission
+admissionOf p Cause.Allowed = Admission.Allow p
+admissionOf p Cause.MessagesShort = Admission.Disconnect p
+admissionOf p (Cause.BytesShort k) = Admission.Disconnect p
+admissionOf p Cause.NoSlot = Admission.Disconnect p
+admissionOf p (Cause.CeilingShort k) = Admission.Disconnect p
+admissionOf p Cause.LiveBan = Admission.Ban p
+admissionOf p Cause.BanBegun = Admission.Ban p
+admissionOf p Cause.Overflow = Admission.Refused overflow
+
+abbrev pub admissionTurn : PeerMessagePolicy → Turn → Outcome PeerMessageAdmission
+admissionTurn p t = record { answer = admissionOf (policyAfter p (t .ingress) (t .change)) (t .cause); change = t .change }
+
+unfoldable pub admitOutcome : PeerMessagePolicy → List ℕ → Pubkey → ℕ → ℕ → Outcome PeerMessageAdmission
+admitOutcome p s k size now =
+    cond (sound p s) (admissionTurn p (admit (p .config) (p .ingress) (rowsOf p s) (k .bytes) size now))
+    (refuse (Admission.Refused unsound))
+
+unfoldable pub AdmitMeets : PeerMessagePolicy → List ℕ → Pubkey → ℕ → ℕ → PeerMessageAdmission → List ℕ → Type 0
+AdmitMeets p before k size now r after = Meets r before after (p .rows) (admitOutcome p before k size now)
+
+-- a ban, live or begun, is answered Banned; anything else is noted
+abbrev pub invalidOf : PeerMessagePolicy → Cause → Invalid
+invalidOf p Cause.Allowed = Invalid.Noted p
+invalidOf p Cause.MessagesShort = Invalid.Noted p
+invalidOf p (Cause.BytesShort k) = Invalid.Noted p
+invalidOf p Cause.NoSlot = Invalid.Noted p
+invalidOf p (Cause.CeilingShort k) = Invalid.Noted p
+invalidOf p Cause.LiveBan = Invalid.Banned p
+invalidOf p Cause.BanBegun = Invalid.Banned p
+invalidOf p Cause.Overflow = Invalid.Noted p
+
+abbrev pub invalidTurn : PeerMessagePolicy → Turn → Outcome Invalid
+invalidTurn p t = record { answer = invalidOf (policyAfter p (t .ingress) (t .change)) (t .cause); change = t .change }
+
+unfoldable pub recordInvalidOutcome : PeerMessagePolicy → List ℕ → Pubkey → ℕ → Outcome Invalid
+recordInvalidOutcome p s k now =
+    cond (sound p s) (invalidTurn p (recordInvalid (p .config) (p .ingress) (rowsOf p s) (k .bytes) now))
+    (refuse (Invalid.Refused unsound))
+
+unfoldable pub RecordInvalidMeets : PeerMessagePolicy → List ℕ → Pubkey → ℕ → Invalid → List ℕ → Type 0
+RecordInvalidMeets p before k now r after = Meets r before after (p .rows) (recordInvalidOutcome p before k now)
+
+abbrev pub standingOf : Bool → PeerMessagePolicy → Standing
+standingOf true p = Standing.Banned p
+standingOf false p = Standing.Free p
+
+abbrev pub standingChanged : PeerMessagePolicy → Bool → Change → Outcome Standing
+standingChanged p b change = record { answer = standingOf b (policyAfter p (p .ingress) change); change = change }
+
+unfoldable pub isBannedOutcome : PeerMessagePolicy → List ℕ → Pubkey → ℕ → Outcome Standing
+isBannedOutcome p s k now =
+    let found = look (k .bytes) (rowsOf p s)
+    in cond (sound p s) (standingChanged p (isBanned found now) (isBannedChange (rowsOf p s) (k .bytes) now found))
+    (refuse (Standing.Refused unsound))
+
+unfoldable pub IsBannedMeets : PeerMessagePolicy → List ℕ → Pubkey → ℕ → Standing → List ℕ → Type 0
+IsBannedMeets p before k now r after = Meets r before after (p .rows) (isBannedOutcome p before k now)
+
+abbrev pub changedBy : PeerMessagePolicy → Change → Outcome Changed
+changedBy p change = record { answer = Changed.Policy (policyAfter p (p .ingress) change); change = change }
+
+unfoldable pub onDisconnectedOutcome : PeerMessagePolicy → List ℕ → Pubkey → ℕ → Outcome Changed
+onDisconnectedOutcome p s k now =
+    cond (sound p s)
+    (changedBy p (disconnectedChange (p .config) (rowsOf p s) (k .bytes) now (look (k .bytes) (rowsOf p s))))
+    (refuse (Changed.Refused unsound))
+
+unfoldable pub OnDisconnectedMeets : PeerMessagePolicy → List ℕ → Pubkey → ℕ → Changed → List ℕ → Type 0
+OnDisconnectedMeets p before k now r after = Meets r before after (p .rows) (onDisconnectedOutcome p before k now)
+
+-- release_ingress: no memory is lent, so the record alone is judged
+unfoldable pub ReleaseIngressMeets : PeerMessagePolicy → ℕ → Changed → Type 0
+ReleaseIngressMeets p size r =
+    r
+    ≡ cond (policySound p) (Changed.Policy (policyAfter p (ingressReleased (p .ingress) size) same)) (Changed.Refused unsound)
+
+-- in_flight: no memory is lent, so the record alone is judged
+unfoldable pub InFlightMeets : PeerMessagePolicy → InFlight → Type 0
+InFlightMeets p r =
+    r
+    ≡ cond (policySound p) (InFlight.Numbers (p .ingress .«in_flight_messages») (p .ingress .«in_flight_bytes»))
+    (InFlight.Refused unsound)
+
+-- held_time
+unfoldable pub HeldTimeMeets : PeerMessagePolicy → List ℕ → Pubkey → ℕ → HeldTime → Type 0
+HeldTimeMeets p s k given r =
+    r ≡ cond (sound p s) (HeldTime.At (heldTime given (look (k .bytes) (rowsOf p s)))) (HeldTime.Refused unsound)

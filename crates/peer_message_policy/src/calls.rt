@@ -1,0 +1,236 @@
+// The calls on a policy and its table: judge and find, decide, then write.
+ghost use mathlib.Core.Path.{_≡_};
+ghost use Rattle.peer_message_policy.specs.Calls.{AdmitMeets, RecordInvalidMeets, IsBannedMeets, OnDisconnectedMeets, HeldTimeMeets};
+ghost use Rattle.peer_message_policy.specs.Carry.{Known, Unknown};
+use super::answer::Changed;
+use super::answer::HeldTime;
+use super::answer::Invalid;
+use super::answer::PeerMessageAdmission;
+use super::answer::Standing;
+use super::carry;
+use super::judge;
+use super::policy::PeerMessagePolicy;
+use peer_verdict::entry::PeerMessagePolicyEntry;
+use pubkey::Pubkey;
+use table::seek::Seek;
+
+pub(crate) fn admit(
+    p: PeerMessagePolicy,
+    table: &mut [u8],
+    peer: Pubkey,
+    bytes: u64,
+    now_ms: u64,
+) -> PeerMessageAdmission
+    ensures { λ r. ⌜ AdmitMeets p (now (table .entry)) peer bytes «now_ms» r (now (table .exit)) ⌝ }
+{
+    let found = judge::sought(p, table, peer);
+    match found {
+        Seek::Unsound => PeerMessageAdmission::Refused(refusal::UNSOUND),
+        Seek::At(index) => admit_known(p, table, peer, index, bytes, now_ms),
+        Seek::Gap(gap) => admit_new(p, table, peer, gap, bytes, now_ms),
+    }
+}
+
+fn admit_known(
+    p: PeerMessagePolicy,
+    table: &mut [u8],
+    peer: Pubkey,
+    index: usize,
+    bytes: u64,
+    now_ms: u64,
+) -> PeerMessageAdmission
+    requires { ⌜ Known p (now table) (peer .bytes) index ⌝ }
+    ensures { λ r. ⌜ AdmitMeets p (now (table .entry)) peer bytes «now_ms» r (now (table .exit)) ⌝ }
+{
+    let config = p.config;
+    let ingress = p.ingress;
+    let entry = peer_table::row::entry_at(table, index);
+    if entry.is_banned(now_ms) {
+        return PeerMessageAdmission::Ban(p);
+    }
+    let judged = carry::entry_to_judge(config, entry, now_ms);
+    let d = peer_verdict::verdict::judged(config, ingress, judged, bytes, now_ms);
+    let cause = d.cause;
+    if carry::overflows(cause) {
+        return PeerMessageAdmission::Refused(refusal::OVERFLOW);
+    }
+    carry::admission_of(carry::store_known(p, table, peer, index, d), cause)
+}
+
+fn admit_new(
+    p: PeerMessagePolicy,
+    table: &mut [u8],
+    peer: Pubkey,
+    gap: usize,
+    bytes: u64,
+    now_ms: u64,
+) -> PeerMessageAdmission
+    requires { ⌜ Unknown p (now table) (peer .bytes) gap ⌝ }
+    ensures { λ r. ⌜ AdmitMeets p (now (table .entry)) peer bytes «now_ms» r (now (table .exit)) ⌝ }
+{
+    let config = p.config;
+    let ingress = p.ingress;
+    let entry = PeerMessagePolicyEntry::new(now_ms, config);
+    let d = peer_verdict::verdict::judged(config, ingress, entry, bytes, now_ms);
+    let cause = d.cause;
+    if carry::overflows(cause) {
+        return PeerMessageAdmission::Refused(refusal::OVERFLOW);
+    }
+    carry::admission_of(carry::store_new(p, table, peer, gap, d, now_ms), cause)
+}
+
+pub(crate) fn record_invalid(
+    p: PeerMessagePolicy,
+    table: &mut [u8],
+    peer: Pubkey,
+    now_ms: u64,
+) -> Invalid
+    ensures { λ r. ⌜ RecordInvalidMeets p (now (table .entry)) peer «now_ms» r (now (table .exit)) ⌝ }
+{
+    let found = judge::sought(p, table, peer);
+    match found {
+        Seek::Unsound => Invalid::Refused(refusal::UNSOUND),
+        Seek::At(index) => invalid_known(p, table, peer, index, now_ms),
+        Seek::Gap(gap) => invalid_new(p, table, peer, gap, now_ms),
+    }
+}
+
+fn invalid_known(
+    p: PeerMessagePolicy,
+    table: &mut [u8],
+    peer: Pubkey,
+    index: usize,
+    now_ms: u64,
+) -> Invalid
+    requires { ⌜ Known p (now table) (peer .bytes) index ⌝ }
+    ensures { λ r. ⌜ RecordInvalidMeets p (now (table .entry)) peer «now_ms» r (now (table .exit)) ⌝ }
+{
+    let config = p.config;
+    let ingress = p.ingress;
+    let entry = peer_table::row::entry_at(table, index);
+    if entry.is_banned(now_ms) {
+        return Invalid::Banned(p);
+    }
+    let judged = carry::entry_to_judge(config, entry, now_ms);
+    let d = peer_verdict::verdict::judged_invalid(config, ingress, judged, now_ms);
+    let cause = d.cause;
+    carry::invalid_of(carry::store_known(p, table, peer, index, d), cause)
+}
+
+fn invalid_new(
+    p: PeerMessagePolicy,
+    table: &mut [u8],
+    peer: Pubkey,
+    gap: usize,
+    now_ms: u64,
+) -> Invalid
+    requires { ⌜ Unknown p (now table) (peer .bytes) gap ⌝ }
+    ensures { λ r. ⌜ RecordInvalidMeets p (now (table .entry)) peer «now_ms» r (now (table .exit)) ⌝ }
+{
+    let config = p.config;
+    let ingress = p.ingress;
+    let entry = PeerMessagePolicyEntry::new(now_ms, config);
+    let d = peer_verdict::verdict::judged_invalid(config, ingress, entry, now_ms);
+    let cause = d.cause;
+    carry::invalid_of(carry::store_new(p, table, peer, gap, d, now_ms), cause)
+}
+
+pub(crate) fn is_banned(
+    p: PeerMessagePolicy,
+    table: &mut [u8],
+    peer: Pubkey,
+    now_ms: u64,
+) -> Standing
+    ensures { λ r. ⌜ IsBannedMeets p (now (table .entry)) peer «now_ms» r (now (table .exit)) ⌝ }
+{
+    let found = judge::sought(p, table, peer);
+    match found {
+        Seek::Unsound => Standing::Refused(refusal::UNSOUND),
+        Seek::At(index) => standing_known(p, table, peer, index, now_ms),
+        Seek::Gap(_) => Standing::Free(p),
+    }
+}
+
+fn standing_known(
+    p: PeerMessagePolicy,
+    table: &mut [u8],
+    peer: Pubkey,
+    index: usize,
+    now_ms: u64,
+) -> Standing
+    requires { ⌜ Known p (now table) (peer .bytes) index ⌝ }
+    ensures { λ r. ⌜ IsBannedMeets p (now (table .entry)) peer «now_ms» r (now (table .exit)) ⌝ }
+{
+    let entry = peer_table::row::entry_at(table, index);
+    if entry.is_banned(now_ms) {
+        return Standing::Banned(p);
+    }
+    if entry.is_spent(now_ms) {
+        return Standing::Free(carry::drop_known(p, table, peer, index));
+    }
+    Standing::Free(p)
+}
+
+pub(crate) fn on_disconnected(
+    p: PeerMessagePolicy,
+    table: &mut [u8],
+    peer: Pubkey,
+    now_ms: u64,
+) -> Changed
+    ensures { λ r. ⌜ OnDisconnectedMeets p (now (table .entry)) peer «now_ms» r (now (table .exit)) ⌝ }
+{
+    let found = judge::sought(p, table, peer);
+    match found {
+        Seek::Unsound => Changed::Refused(refusal::UNSOUND),
+        Seek::At(index) => disconnected_known(p, table, peer, index, now_ms),
+        Seek::Gap(_) => Changed::Policy(p),
+    }
+}
+
+fn disconnected_known(
+    p: PeerMessagePolicy,
+    table: &mut [u8],
+    peer: Pubkey,
+    index: usize,
+    now_ms: u64,
+) -> Changed
+    requires { ⌜ Known p (now table) (peer .bytes) index ⌝ }
+    ensures { λ r. ⌜ OnDisconnectedMeets p (now (table .entry)) peer «now_ms» r (now (table .exit)) ⌝ }
+{
+    let entry = peer_table::row::entry_at(table, index);
+    if entry.is_banned(now_ms) {
+        return Changed::Policy(p);
+    }
+    if entry.is_spent(now_ms) {
+        return Changed::Policy(carry::drop_known(p, table, peer, index));
+    }
+    Changed::Policy(carry::expire_known(p, table, peer, index, entry, now_ms))
+}
+
+pub(crate) fn held_time(p: PeerMessagePolicy, table: &[u8], peer: Pubkey, given_ms: u64) -> HeldTime
+    ensures { λ r. ⌜ HeldTimeMeets p (now (table .entry)) peer «given_ms» r ⌝ }
+{
+    let found = judge::sought(p, table, peer);
+    match found {
+        Seek::Unsound => HeldTime::Refused(refusal::UNSOUND),
+        Seek::At(index) => held_known(p, table, peer, index, given_ms),
+        Seek::Gap(_) => HeldTime::At(given_ms),
+    }
+}
+
+fn held_known(
+    p: PeerMessagePolicy,
+    table: &[u8],
+    peer: Pubkey,
+    index: usize,
+    given_ms: u64,
+) -> HeldTime
+    requires { ⌜ Known p (now table) (peer .bytes) index ⌝ }
+    ensures { λ r. ⌜ HeldTimeMeets p (now (table .entry)) peer «given_ms» r ⌝ }
+{
+    let entry = peer_table::row::entry_at(table, index);
+    if given_ms < entry.last_used_ms {
+        return HeldTime::At(entry.last_used_ms);
+    }
+    HeldTime::At(given_ms)
+}

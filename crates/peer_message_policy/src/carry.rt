@@ -1,0 +1,192 @@
+// Carrying a decision out: its entry is stored, and the policy goes on with its load in flight.
+ghost use mathlib.Core.Path.{_≡_};
+ghost use mathlib.Core.Bool.{true, false};
+ghost use Rattle.peer_message_policy.specs.Policy.{overflows};
+ghost use Rattle.peer_message_policy.specs.Calls.{admissionOf, invalidOf};
+ghost use Rattle.table.specs.Table.{store, erase};
+ghost use Rattle.peer_message_policy.specs.Carry.{Known, Unknown, Carried, Left, entryToJudge, sameCounts};
+ghost use Prim.Native.Nat.{_*_};
+ghost use Rattle.lent_bytes.specs.LentBytes.{part};
+ghost use Rattle.table.specs.Memory.{rowOf};
+ghost use Rattle.peer_verdict.specs.Entry.{entryExpireWindows};
+ghost use Rattle.peer_table.specs.Rows.{peerLayout};
+ghost use Rattle.peer_table.specs.Room.{makeRoom};
+ghost use Rattle.peer_message_policy.specs.Policy.{rowsOf};
+use super::answer::Invalid;
+use super::answer::PeerMessageAdmission;
+use super::policy::PeerMessagePolicy;
+use peer_verdict::config::PeerMessagePolicyConfig;
+use peer_verdict::entry::PeerMessagePolicyEntry;
+use peer_verdict::verdict::Cause;
+use peer_verdict::verdict::Decision;
+use pubkey::Pubkey;
+
+// Whether the decision is refusal 4.
+pub(crate) fn overflows(cause: Cause) -> bool
+    ensures { λ r. ⌜ r ≡ overflows cause ⌝ }
+{
+    match cause {
+        Cause::Allowed => false,
+        Cause::MessagesShort => false,
+        Cause::BytesShort(_) => false,
+        Cause::NoSlot => false,
+        Cause::CeilingShort(_) => false,
+        Cause::LiveBan => false,
+        Cause::BanBegun => false,
+        Cause::Overflow => true,
+    }
+}
+
+// The public answer merges the causes.
+pub(crate) fn admission_of(p: PeerMessagePolicy, cause: Cause) -> PeerMessageAdmission
+    ensures { λ r. ⌜ r ≡ admissionOf p cause ⌝ }
+{
+    match cause {
+        Cause::Allowed => PeerMessageAdmission::Allow(p),
+        Cause::MessagesShort => PeerMessageAdmission::Disconnect(p),
+        Cause::BytesShort(_) => PeerMessageAdmission::Disconnect(p),
+        Cause::NoSlot => PeerMessageAdmission::Disconnect(p),
+        Cause::CeilingShort(_) => PeerMessageAdmission::Disconnect(p),
+        Cause::LiveBan => PeerMessageAdmission::Ban(p),
+        Cause::BanBegun => PeerMessageAdmission::Ban(p),
+        Cause::Overflow => PeerMessageAdmission::Refused(refusal::OVERFLOW),
+    }
+}
+
+// Banned where a ban is live or begins, else noted.
+pub(crate) fn invalid_of(p: PeerMessagePolicy, cause: Cause) -> Invalid
+    ensures { λ r. ⌜ r ≡ invalidOf p cause ⌝ }
+{
+    match cause {
+        Cause::Allowed => Invalid::Noted(p),
+        Cause::MessagesShort => Invalid::Noted(p),
+        Cause::BytesShort(_) => Invalid::Noted(p),
+        Cause::NoSlot => Invalid::Noted(p),
+        Cause::CeilingShort(_) => Invalid::Noted(p),
+        Cause::LiveBan => Invalid::Banned(p),
+        Cause::BanBegun => Invalid::Banned(p),
+        Cause::Overflow => Invalid::Noted(p),
+    }
+}
+
+// The entry that a known peer's message is judged on: a spent ban drops it, and it is made anew.
+pub(crate) fn entry_to_judge(
+    config: PeerMessagePolicyConfig,
+    entry: PeerMessagePolicyEntry,
+    now_ms: u64,
+) -> PeerMessagePolicyEntry
+    ensures { λ r. ⌜ r ≡ entryToJudge config entry «now_ms» ⌝ }
+{
+    if entry.is_spent(now_ms) {
+        return PeerMessagePolicyEntry::new(now_ms, config);
+    }
+    entry
+}
+
+// Stores the decided entry of a peer that has a row. The peer is named for the contract: its key stands in the row already.
+pub(crate) fn store_known(
+    p: PeerMessagePolicy,
+    table: &mut [u8],
+    peer: Pubkey,
+    index: usize,
+    d: Decision,
+) -> PeerMessagePolicy
+    requires { ⌜ Known p (now table) (peer .bytes) index ⌝ }
+    ensures { λ r. ⌜ Carried p (now (table .entry)) (peer .bytes) (rowsOf p (now (table .entry))) d r (now (table .exit)) ⌝ }
+{
+    let entry = d.entry;
+    let ingress = d.ingress;
+    let config = p.config;
+    peer_table::places::overwrite_at(table, p.rows as usize, index, entry);
+    PeerMessagePolicy {
+        config,
+        ingress,
+        rows: p.rows,
+    }
+}
+
+// Makes room for a peer that has no row, and stores its decided entry.
+pub(crate) fn store_new(
+    p: PeerMessagePolicy,
+    table: &mut [u8],
+    peer: Pubkey,
+    gap: usize,
+    d: Decision,
+    now_ms: u64,
+) -> PeerMessagePolicy
+    requires { ⌜ Unknown p (now table) (peer .bytes) gap ⌝ }
+    ensures { λ r. ⌜ Carried p (now (table .entry)) (peer .bytes) (makeRoom (p .config) «now_ms» (rowsOf p (now (table .entry)))) d r (now (table .exit)) ⌝ }
+{
+    let entry = d.entry;
+    let ingress = d.ingress;
+    let config = p.config;
+    let count = peer_table::room::make_room(config, table, p.rows as usize, now_ms);
+    let rows = peer_table::places::store(table, count, peer, entry);
+    PeerMessagePolicy {
+        config,
+        ingress,
+        rows: rows as u64,
+    }
+}
+
+// Takes a known peer's row out.
+pub(crate) fn drop_known(
+    p: PeerMessagePolicy,
+    table: &mut [u8],
+    peer: Pubkey,
+    index: usize,
+) -> PeerMessagePolicy
+    requires { ⌜ Known p (now table) (peer .bytes) index ⌝ }
+    ensures { λ r. ⌜ Left p (now (table .entry)) (erase (peer .bytes) (rowsOf p (now (table .entry)))) r (now (table .exit)) ⌝ }
+{
+    let config = p.config;
+    let ingress = p.ingress;
+    peer_table::places::remove_at(table, p.rows as usize, index);
+    PeerMessagePolicy {
+        config,
+        ingress,
+        rows: p.rows - 1,
+    }
+}
+
+// Whether two entries count as many violations, of each kind.
+fn same_counts(a: PeerMessagePolicyEntry, b: PeerMessagePolicyEntry) -> bool
+    ensures { λ r. ⌜ r ≡ sameCounts a b ⌝ }
+{
+    a.rate_limit_violations.count == b.rate_limit_violations.count
+        && a.invalid_messages.count == b.invalid_messages.count
+}
+
+// The entry of a peer that has gone: its windows expire, and its last use stays.
+fn entry_left(
+    config: PeerMessagePolicyConfig,
+    entry: PeerMessagePolicyEntry,
+    now_ms: u64,
+) -> PeerMessagePolicyEntry
+    ensures { λ r. ⌜ r ≡ entryExpireWindows entry «now_ms» (config .«ban_duration_ms») ⌝ }
+{
+    entry.expire_violation_windows(now_ms, config.ban_duration_ms)
+}
+
+// Lets the violation windows of a known peer's entry expire. A row that this leaves as it is, is not written: a window that
+// expires loses its count.
+pub(crate) fn expire_known(
+    p: PeerMessagePolicy,
+    table: &mut [u8],
+    peer: Pubkey,
+    index: usize,
+    entry: PeerMessagePolicyEntry,
+    now_ms: u64,
+) -> PeerMessagePolicy
+    requires { ⌜ Known p (now table) (peer .bytes) index ⌝ }
+    requires { ⌜ entry ≡ rowOf peerLayout (part (now table) (121 * index) 121) .entry ⌝ }
+    ensures { λ r. ⌜ Left p (now (table .entry)) (store (peer .bytes) (entryExpireWindows entry «now_ms» (p .config .«ban_duration_ms»)) (rowsOf p (now (table .entry)))) r (now (table .exit)) ⌝ }
+{
+    let config = p.config;
+    let expired = entry_left(config, entry, now_ms);
+    if same_counts(expired, entry) {
+        return p;
+    }
+    peer_table::places::overwrite_at(table, p.rows as usize, index, expired);
+    p
+}

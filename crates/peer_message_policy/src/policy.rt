@@ -1,0 +1,143 @@
+// The policy by value, and how one is made.
+ghost use mathlib.Core.Path.{_≡_};
+ghost use Rattle.peer_verdict.specs.Config.{configDefault, configWithLimits};
+ghost use Rattle.peer_message_policy.specs.Calls.{NewMeets, AdmitMeets, RecordInvalidMeets, IsBannedMeets, OnDisconnectedMeets, ReleaseIngressMeets, InFlightMeets, HeldTimeMeets};
+use super::answer::Changed;
+use super::answer::HeldTime;
+use super::answer::InFlight;
+use super::answer::Invalid;
+use super::answer::Made;
+use super::answer::PeerMessageAdmission;
+use super::answer::Standing;
+use super::calls;
+use super::judge;
+use peer_verdict::config::PeerMessagePolicyConfig;
+use peer_verdict::ingress::FiberIngressBudget;
+use pubkey::Pubkey;
+
+// Settings, the load in flight over all peers, and how many rows of the lent memory are in use.
+pub struct PeerMessagePolicy {
+    pub config: PeerMessagePolicyConfig,
+    pub ingress: FiberIngressBudget,
+    pub rows: u64,
+}
+
+impl PeerMessagePolicy {
+    // A policy with no peer and nothing in flight. Every row of the limit is zeroed. Refused with 2 where the limit is above
+    // 1,024, then with 1 where the table is too short for it.
+    pub fn new(config: PeerMessagePolicyConfig, table: &mut [u8]) -> Made
+        ensures { λ r. ⌜ NewMeets config (now (table .entry)) r (now (table .exit)) ⌝ }
+    {
+        if config.max_tracked_peers > PeerMessagePolicyConfig::MAX_ROWS {
+            return Made::Refused(refusal::LIMIT_TOO_LARGE);
+        }
+        let limit = config.limit();
+        if ((table.len() / judge::ROW_WIDTH) as u64) < limit {
+            return Made::Refused(refusal::TOO_SHORT);
+        }
+        table::rows::zero_rows(table, judge::ROW_WIDTH, 0, limit as usize);
+        Made::Policy(PeerMessagePolicy {
+            config,
+            ingress: FiberIngressBudget {
+                in_flight_messages: 0,
+                in_flight_bytes: 0,
+            },
+            rows: 0,
+        })
+    }
+
+    // A policy with the default settings.
+    pub fn default(table: &mut [u8]) -> Made
+        ensures { λ r. ⌜ NewMeets configDefault (now (table .entry)) r (now (table .exit)) ⌝ }
+    {
+        PeerMessagePolicy::new(PeerMessagePolicyConfig::default(), table)
+    }
+
+    // A policy with the default settings but for these limits.
+    pub fn with_limits(
+        max_entries: u64,
+        max_in_flight_messages: u32,
+        max_in_flight_bytes: u64,
+        table: &mut [u8],
+    ) -> Made
+        ensures { λ r. ⌜ NewMeets (configWithLimits «max_entries» «max_in_flight_messages» «max_in_flight_bytes») (now (table .entry)) r (now (table .exit)) ⌝ }
+    {
+        let config = PeerMessagePolicyConfig::with_limits(
+            max_entries,
+            max_in_flight_messages,
+            max_in_flight_bytes,
+        );
+        PeerMessagePolicy::new(config, table)
+    }
+
+    // Judges one inbound message. Refused with 3, then with 4 where it would be an Allow and the numbers in flight have no room.
+    pub fn admit(
+        self,
+        table: &mut [u8],
+        peer: Pubkey,
+        bytes: u64,
+        now_ms: u64,
+    ) -> PeerMessageAdmission
+        ensures { λ r. ⌜ AdmitMeets self (now (table .entry)) peer bytes «now_ms» r (now (table .exit)) ⌝ }
+    {
+        calls::admit(self, table, peer, bytes, now_ms)
+    }
+
+    // Counts a message that turned out to be invalid.
+    pub fn record_invalid(self, table: &mut [u8], peer: Pubkey, now_ms: u64) -> Invalid
+        ensures { λ r. ⌜ RecordInvalidMeets self (now (table .entry)) peer «now_ms» r (now (table .exit)) ⌝ }
+    {
+        calls::record_invalid(self, table, peer, now_ms)
+    }
+
+    // Whether a peer is banned. A ban that is over is forgotten, with its peer's row.
+    pub fn is_banned(self, table: &mut [u8], peer: Pubkey, now_ms: u64) -> Standing
+        ensures { λ r. ⌜ IsBannedMeets self (now (table .entry)) peer «now_ms» r (now (table .exit)) ⌝ }
+    {
+        calls::is_banned(self, table, peer, now_ms)
+    }
+
+    // A peer's connection closed: its buckets are kept, its old violations are not.
+    pub fn on_disconnected(self, table: &mut [u8], peer: Pubkey, now_ms: u64) -> Changed
+        ensures { λ r. ⌜ OnDisconnectedMeets self (now (table .entry)) peer «now_ms» r (now (table .exit)) ⌝ }
+    {
+        calls::on_disconnected(self, table, peer, now_ms)
+    }
+
+    // A message that was in flight is done with.
+    pub fn release_ingress(self, bytes: u64) -> Changed
+        ensures { λ r. ⌜ ReleaseIngressMeets self bytes r ⌝ }
+    {
+        if !judge::is_sound(self) {
+            return Changed::Refused(refusal::UNSOUND);
+        }
+        let config = self.config;
+        let load = self.ingress;
+        let ingress = load.release(bytes);
+        Changed::Policy(PeerMessagePolicy {
+            config,
+            ingress,
+            rows: self.rows,
+        })
+    }
+
+    // How many messages and bytes are in flight.
+    pub fn in_flight(self) -> InFlight
+        ensures { λ r. ⌜ InFlightMeets self r ⌝ }
+    {
+        if !judge::is_sound(self) {
+            return InFlight::Refused(refusal::UNSOUND);
+        }
+        let ingress = self.ingress;
+        InFlight::Numbers(ingress.in_flight_messages, ingress.in_flight_bytes)
+    }
+
+    // The later of a given time and the peer's last-used time. A caller who passes the answer on to this peer's admit AND
+    // record_invalid is shielded from a clock that steps back: record_invalid sets the last-used time too, so with a raw, earlier
+    // time it would move back what the next held time answers. Nothing changes.
+    pub fn held_time(self, table: &[u8], peer: Pubkey, given_ms: u64) -> HeldTime
+        ensures { λ r. ⌜ HeldTimeMeets self (now (table .entry)) peer «given_ms» r ⌝ }
+    {
+        calls::held_time(self, table, peer, given_ms)
+    }
+}
