@@ -1,0 +1,17 @@
+pub mod Runs
+pub mod Lives
+pub mod BucketLaw
+pub mod MessageLaw
+pub mod ByteLaw
+pub mod FairLaw
+pub mod Counterexamples
+pub mod SoundRuns
+pub mod PeerRuns
+pub mod FairRuns
+pub mod OrderedRuns
+pub mod Held
+pub mod HeldRuns
+pub mod Samples
+pub mod SamplesLaw
+pub mod Promises
+pub mod Unbounded

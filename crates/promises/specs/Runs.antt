@@ -1,0 +1,123 @@
+-- Runs of the peer policy's calls on lent memory: each call gets the settings, the state and the whole memory that the one before
+-- it left, and is known by its contract alone. Definitions only.
+use mathlib.Core.Path.{_≡_}
+use mathlib.Core.List.{List, [], _∷_}
+use Prim.Native.Nat.{ℕ, _^_, _<_}
+use lib.ListN.{length}
+use Rattle.lent_bytes.specs.LentBytes.{Bytes}
+use Rattle.pubkey.specs.declared.Pubkey.{Pubkey}
+use Rattle.refusal.specs.Refusal.{Said}
+use Rattle.peer_verdict.specs.declared.config.PeerMessagePolicyConfig.{PeerMessagePolicyConfig}
+use Rattle.peer_message_policy.specs.declared.policy.PeerMessagePolicy.{PeerMessagePolicy}
+use Rattle.peer_message_policy.specs.declared.answer.Made.{Made}
+use Rattle.peer_message_policy.specs.declared.answer.Made.the-variants as Made
+use Rattle.peer_message_policy.specs.declared.answer.PeerMessageAdmission.{PeerMessageAdmission}
+use Rattle.peer_message_policy.specs.declared.answer.PeerMessageAdmission.the-variants as Admission
+use Rattle.peer_message_policy.specs.declared.answer.Invalid.{Invalid}
+use Rattle.peer_message_policy.specs.declared.answer.Invalid.the-variants as Invalid
+use Rattle.peer_message_policy.specs.declared.answer.Standing.{Standing}
+use Rattle.peer_message_policy.specs.declared.answer.Standing.the-variants as Standing
+use Rattle.peer_message_policy.specs.declared.answer.Changed.{Changed}
+use Rattle.peer_message_policy.specs.declared.answer.Changed.the-variants as Changed
+use Rattle.peer_message_policy.specs.declared.answer.InFlight.{InFlight}
+use Rattle.peer_message_policy.specs.declared.answer.HeldTime.{HeldTime}
+use Rattle.peer_message_policy.specs.Calls.{admissionSays, invalidSays, standingSays, changedSays, inFlightSays, heldTimeSays}
+use Rattle.peer_message_policy.specs.Calls.{NewMeets, AdmitMeets, RecordInvalidMeets, IsBannedMeets, OnDisconnectedMeets, ReleaseIngressMeets, InFlightMeets, HeldTimeMeets}
+
+-- the calls on a policy, with the times that they are given
+pub data Call : Type 0 where
+  admit : (peer : Pubkey) (bytes now : ℕ) → Call
+  recordInvalid : (peer : Pubkey) (now : ℕ) → Call
+  isBanned : (peer : Pubkey) (now : ℕ) → Call
+  onDisconnected : (peer : Pubkey) (now : ℕ) → Call
+  releaseIngress : (bytes : ℕ) → Call
+  inFlight : Call
+  heldTime : (peer : Pubkey) (given : ℕ) → Call
+
+-- what a caller keeps between two calls: the policy and the lent memory, whole
+pub record State : Type 0 where
+  pub policy : PeerMessagePolicy
+  pub memory : List ℕ
+
+-- the policy that a caller goes on with: the one in the answer, or his own copy after a refusal
+abbrev pub afterAdmit : PeerMessagePolicy → PeerMessageAdmission → PeerMessagePolicy
+afterAdmit p (Admission.Allow q) = q
+afterAdmit p (Admission.Disconnect q) = q
+afterAdmit p (Admission.Ban q) = q
+afterAdmit p (Admission.Refused n) = p
+
+abbrev pub afterInvalid : PeerMessagePolicy → Invalid → PeerMessagePolicy
+afterInvalid p (Invalid.Banned q) = q
+afterInvalid p (Invalid.Noted q) = q
+afterInvalid p (Invalid.Refused n) = p
+
+abbrev pub afterStanding : PeerMessagePolicy → Standing → PeerMessagePolicy
+afterStanding p (Standing.Banned q) = q
+afterStanding p (Standing.Free q) = q
+afterStanding p (Standing.Refused n) = p
+
+abbrev pub afterChanged : PeerMessagePolicy → Changed → PeerMessagePolicy
+afterChanged p (Changed.Policy q) = q
+afterChanged p (Changed.Refused n) = p
+
+-- one call, from a state to a state, with what it says: exactly what the call's contract allows
+abbrev pub Step : State → Call → Said → State → Type 0
+Step s (admit k bytes now) said t =
+    (r : PeerMessageAdmission)
+    × AdmitMeets (s .policy) (s .memory) k bytes now r (t .memory)
+    × (said ≡ admissionSays r)
+    × (t .policy ≡ afterAdmit (s .policy) r)
+Step s (recordInvalid k now) said t =
+    (r : Invalid)
+    × RecordInvalidMeets (s .policy) (s .memory) k now r (t .memory)
+    × (said ≡ invalidSays r)
+    × (t .policy ≡ afterInvalid (s .policy) r)
+Step s (isBanned k now) said t =
+    (r : Standing)
+    × IsBannedMeets (s .policy) (s .memory) k now r (t .memory)
+    × (said ≡ standingSays r)
+    × (t .policy ≡ afterStanding (s .policy) r)
+Step s (onDisconnected k now) said t =
+    (r : Changed)
+    × OnDisconnectedMeets (s .policy) (s .memory) k now r (t .memory)
+    × (said ≡ changedSays r)
+    × (t .policy ≡ afterChanged (s .policy) r)
+Step s (releaseIngress bytes) said t =
+    (r : Changed)
+    × ReleaseIngressMeets (s .policy) bytes r
+    × (said ≡ changedSays r)
+    × (t ≡ record { policy = afterChanged (s .policy) r; memory = s .memory })
+Step s inFlight said t = (r : InFlight) × InFlightMeets (s .policy) r × (said ≡ inFlightSays r) × (t ≡ s)
+Step s (heldTime k given) said t =
+    (r : HeldTime) × HeldTimeMeets (s .policy) (s .memory) k given r × (said ≡ heldTimeSays r) × (t ≡ s)
+
+-- a key of 33 bytes
+abbrev pub KeyFits : Pubkey → Type 0
+KeyFits k = (length (k .bytes) ≡ 33) × Bytes (k .bytes)
+
+-- what the machine gives of any arguments: u64 numbers and keys of 33 bytes
+abbrev pub Fits : Call → Type 0
+Fits (admit k bytes now) = KeyFits k × (bytes < 2 ^ 64) × (now < 2 ^ 64)
+Fits (recordInvalid k now) = KeyFits k × (now < 2 ^ 64)
+Fits (isBanned k now) = KeyFits k × (now < 2 ^ 64)
+Fits (onDisconnected k now) = KeyFits k × (now < 2 ^ 64)
+Fits (releaseIngress bytes) = bytes < 2 ^ 64
+Fits inFlight = Unit {0}
+Fits (heldTime k given) = KeyFits k × (given < 2 ^ 64)
+
+-- what the machine gives of any settings
+pub record ConfigFits (c : PeerMessagePolicyConfig) : Type 0 where
+  pub interval : c .«peer_message_interval_ms» < 2 ^ 64
+  pub burst : c .«peer_message_burst» < 2 ^ 32
+  pub rate : c .«peer_message_rate_bytes_per_sec» < 2 ^ 64
+  pub burstBytes : c .«peer_message_burst_bytes» < 2 ^ 64
+  pub threshold : c .«violation_ban_threshold» < 2 ^ 32
+  pub duration : c .«ban_duration_ms» < 2 ^ 64
+  pub tracked : c .«max_tracked_peers» < 2 ^ 64
+  pub messages : c .«max_in_flight_messages» < 2 ^ 32
+  pub bytes : c .«max_in_flight_bytes» < 2 ^ 64
+
+-- a run from a fresh policy with these settings, over calls (the newest first), to a state
+pub data Run (c : PeerMessagePolicyConfig) : List Call → State → Type 0 where
+  made : (before after : List ℕ) (p : PeerMessagePolicy) → Bytes before → NewMeets c before (Made.Policy p) after → Run c [] (record { policy = p; memory = after })
+  then : {h : List Call} {s : State} (call : Call) (said : Said) (t : State) → Run c h s → Fits call → Step s call said t → Run c (call ∷ h) t

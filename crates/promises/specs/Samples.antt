@@ -1,0 +1,154 @@
+-- Samples A to F, I and J of document 01, run on the definitions: what the steps of each say, and what the document says that
+-- they say. Definitions only; that the two agree is `Promises.samples`.
+use mathlib.Core.Path.{_≡_}
+use mathlib.Core.Bool.{Bool, true, false, cond}
+use mathlib.Core.List.{List, [], _∷_, _++_}
+use Prim.Native.Nat.{ℕ}
+use lib.ListN.{getD, replicate}
+use Rattle.refusal.specs.Refusal.{Said, gives, refused}
+use Rattle.token_bucket.specs.declared.discrete.DiscreteTokenBucket.{DiscreteTokenBucket}
+use Rattle.token_bucket.specs.declared.bytes.ByteTokenBucket.{ByteTokenBucket}
+use Rattle.token_bucket.specs.TokenBucket.{consumedSays, delaySays, toldSays, told}
+use Rattle.token_bucket.specs.TokenBucket.{discreteNew, discreteTryConsume, byteLimit, byteNew, byteTryConsume, byteReserve, byteHasDebt}
+use Rattle.table.specs.Table.{Row}
+use Rattle.peer_verdict.specs.declared.config.PeerMessagePolicyConfig.{PeerMessagePolicyConfig}
+use Rattle.peer_verdict.specs.declared.entry.ViolationWindow.{ViolationWindow}
+use Rattle.peer_verdict.specs.declared.ingress.FiberIngressBudget.{FiberIngressBudget}
+use Rattle.peer_verdict.specs.Entry.{window, windowRecord}
+use Rattle.peer_verdict.specs.Ingress.{inFlight}
+use Rattle.peer_table.specs.Rows.{Peers}
+use Rattle.peer_message_policy.specs.Policy.{Change, same, become, admit}
+use Rattle.peer_message_policy.specs.Calls.{admissionSays, admissionOf, fresh}
+
+-- a sample: what its steps say on the definitions, and what the document says
+pub record Sample : Type 0 where
+  pub says : List Said
+  pub document : List Said
+
+-- every sample says what the document says
+abbrev pub Agree : List Sample → Type 0
+Agree [] = Unit {0}
+Agree (x ∷ xs) = (x .says ≡ x .document) × Agree xs
+
+-- ════ Steps ═══════════════════════════════════════════════════════════════════════════════════════
+
+-- a time, with a number of bytes where one is needed
+pub record At : Type 0 where
+  pub time : ℕ
+  pub bytes : ℕ
+
+-- messages asked for at these times
+unfoldable pub messages : DiscreteTokenBucket → List ℕ → List Said
+messages b [] = []
+messages b (now ∷ times) = consumedSays (discreteTryConsume b now .answer) ∷ messages (discreteTryConsume b now .bucket) times
+
+-- bytes asked for
+unfoldable pub bytes : ByteTokenBucket → List At → List Said
+bytes b [] = []
+bytes b (z ∷ zs) =
+    consumedSays (byteTryConsume b (z .bytes) (z .time) .answer) ∷ bytes (byteTryConsume b (z .bytes) (z .time) .bucket) zs
+
+-- bytes promised, and then whether there is debt at these times
+unfoldable pub promised : ByteTokenBucket → At → List ℕ → List Said
+promised b z times = delaySays (byteReserve b (z .bytes) (z .time) .answer) ∷ debts (byteReserve b (z .bytes) (z .time) .bucket) times
+  where
+    debts : ByteTokenBucket → List ℕ → List Said
+    debts b [] = []
+    debts b (now ∷ times) = toldSays (told (byteHasDebt b now)) ∷ debts b times
+
+-- violations at these times: how many the window counts at the last
+unfoldable pub violations : ViolationWindow → ℕ → List ℕ → ℕ
+violations w duration [] = w .count
+violations w duration (now ∷ times) = violations (windowRecord w now duration) duration times
+
+-- a message of a peer, whose key is 33 times this byte
+pub record Message : Type 0 where
+  pub peer : ℕ
+  pub size : ℕ
+  pub now : ℕ
+
+abbrev pub rowsAfter : Peers → Change → Peers
+rowsAfter rs same = rs
+rowsAfter rs (become qs) = qs
+
+-- the first byte of each row's key
+unfoldable pub peersOf : Peers → List ℕ
+peersOf [] = []
+peersOf (r ∷ rs) = getD (r .key) 0 0 ∷ peersOf rs
+
+-- messages admitted from a fresh policy: each answer, and at the end the peers that have a row
+unfoldable pub admitted : PeerMessagePolicyConfig → FiberIngressBudget → Peers → List Message → List Said
+admitted c i rs [] = gives (peersOf rs) ∷ []
+admitted c i rs (m ∷ ms) =
+    admissionSays (admissionOf (fresh c) (admit c i rs (replicate 33 (m .peer)) (m .size) (m .now) .cause))
+    ∷ admitted c (admit c i rs (replicate 33 (m .peer)) (m .size) (m .now) .ingress)
+    (rowsAfter rs (admit c i rs (replicate 33 (m .peer)) (m .size) (m .now) .change))
+    ms
+
+-- ════ What the steps say ══════════════════════════════════════════════════════════════════════════
+
+abbrev yes : Said
+yes = gives (1 ∷ [])
+
+-- a no, short by one
+abbrev no : Said
+no = gives (0 ∷ 1 ∷ [])
+
+abbrev allow : Said
+allow = gives (0 ∷ [])
+
+abbrev disconnect : Said
+disconnect = gives (1 ∷ [])
+
+abbrev at : ℕ → ℕ → At
+at time bytes = record { time = time; bytes = bytes }
+
+abbrev of : ℕ → ℕ → ℕ → Message
+of peer size now = record { peer = peer; size = size; now = now }
+
+-- only a byte limit: message limit off, ban threshold 0, unlimited ceiling
+abbrev bytesOnly : ℕ → ℕ → PeerMessagePolicyConfig
+bytesOnly rate burst =
+    record {
+      «peer_message_interval_ms» = 0;
+      «peer_message_burst» = 0;
+      «peer_message_rate_bytes_per_sec» = rate;
+      «peer_message_burst_bytes» = burst;
+      «violation_ban_threshold» = 0;
+      «ban_duration_ms» = 0;
+      «max_tracked_peers» = 2;
+      «max_in_flight_messages» = 0;
+      «max_in_flight_bytes» = 0;
+    }
+
+-- the samples, in the document's order
+unfoldable pub samplesRun : List Sample
+samplesRun =
+    record { says = messages (discreteNew 10 2) (59 ∷ 59 ∷ 60 ∷ 69 ∷ 70 ∷ []); document = yes ∷ yes ∷ yes ∷ no ∷ yes ∷ [] }
+    ∷ record {
+      says = messages (discreteNew 1 2) (4294967296 ∷ 4294967296 ∷ 4294967296 ∷ 4294967295 ∷ []);
+      document = yes ∷ yes ∷ no ∷ yes ∷ [];
+    }
+    ∷ record { says = bytes (byteNew (byteLimit 999 1)) (at 1 1 ∷ at 2 1 ∷ at 3 1 ∷ []); document = yes ∷ no ∷ no ∷ [] }
+    ∷ record {
+      says = admitted (bytesOnly 999 1) (inFlight 0 0) [] (of 2 1 1 ∷ of 2 1 2 ∷ of 2 1 3 ∷ []);
+      document = allow ∷ disconnect ∷ allow ∷ gives (2 ∷ []) ∷ [];
+    }
+    ∷ record { says = promised (byteNew (byteLimit 125 1)) (at 0 2305843009213693953) []; document = gives (0 ∷ []) ∷ [] }
+    ∷ record {
+      says = promised (byteNew (byteLimit 1 1)) (at 0 18446744073709551615) [];
+      document = gives (18446744073709549616 ∷ []) ∷ [];
+    }
+    ∷ record {
+      says = promised (byteNew (byteLimit 3 10)) (at 0 11) (333 ∷ 334 ∷ []);
+      document = gives (334 ∷ []) ∷ yes ∷ gives (0 ∷ []) ∷ [];
+    }
+    ∷ record {
+      says = gives (violations (window 0 0) 100 (50 ∷ 149 ∷ []) ∷ violations (window 0 0) 100 (50 ∷ 150 ∷ []) ∷ []) ∷ [];
+      document = gives (2 ∷ 1 ∷ []) ∷ [];
+    }
+    ∷ record {
+      says = admitted (bytesOnly 0 0) (inFlight 0 0) [] (of 2 1 5 ∷ of 3 1 5 ∷ of 4 1 6 ∷ []);
+      document = allow ∷ allow ∷ allow ∷ gives (3 ∷ 4 ∷ []) ∷ [];
+    }
+    ∷ []
