@@ -1,0 +1,5 @@
+pub mod Lines
+pub mod LinesLaws
+pub mod Samples
+pub mod Spelling
+pub mod SpellingLaws
