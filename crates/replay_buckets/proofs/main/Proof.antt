@@ -1,0 +1,58 @@
+-- `replay_buckets::main` is safe and ends: the measure is the number of turns that are left. Nothing has to hold from turn to
+-- turn. Assumes nothing.
+use native.Mathlib.Omega.{arith}
+use Rattle.replay_buckets.proofs.main.Statement.{statement}
+use Rattle.replay_buckets.proofs.main.Tie as tie
+
+abbrev Inv-loop : tie.InvT-loop
+Inv-loop buckets₀ turns₀ buckets turns = Unit {0}
+
+abbrev μ-loop : tie.MeasureT-loop
+μ-loop buckets₀ turns₀ buckets turns = turns
+
+new-requires : tie.Need-new-requires Inv-loop μ-loop
+new-requires c κs = tt
+
+new-requires-2 : tie.Need-new-requires-2 Inv-loop μ-loop
+new-requires-2 c κs = tt
+
+new-requires-3 : tie.Need-new-requires-3 Inv-loop μ-loop
+new-requires-3 c κs = tt
+
+loop-holds : tie.Need-loop-holds Inv-loop μ-loop
+loop-holds c = tt
+
+answer-next-requires : tie.Need-answer-next-requires Inv-loop μ-loop
+answer-next-requires c κs = tt
+
+returns : tie.Need-returns Inv-loop μ-loop
+returns c = tt
+
+sub-turns : tie.Need-sub-turns Inv-loop μ-loop
+sub-turns c = omega arith
+
+loop-less : tie.Need-loop-less Inv-loop μ-loop
+loop-less c = omega arith
+
+loop-again : tie.Need-loop-again Inv-loop μ-loop
+loop-again c = tt
+
+returns-2 : tie.Need-returns-2 Inv-loop μ-loop
+returns-2 c = tt
+
+pub main-spec : {M : Type 1} → statement M
+main-spec =
+    tie.close
+    (tie.spec
+    Inv-loop
+    μ-loop
+    new-requires
+    new-requires-2
+    new-requires-3
+    loop-holds
+    answer-next-requires
+    returns
+    sub-turns
+    loop-less
+    loop-again
+    returns-2)

@@ -1,0 +1,97 @@
+// Drives one bucket of each type as recorded: a record of standard input names a step and its operands, a line of standard output
+// gives what crate `token_bucket` answers and the bucket after it. `oracle/record` wrote both files, from the unchanged Rust;
+// `oracle/README.md` lists the steps.
+mod answers;
+mod byte_steps;
+mod discrete_steps;
+mod standard;
+
+use replay::line::Line;
+use replay::record;
+use replay::record::Input;
+use replay::record::Record;
+use token_bucket::bytes::ByteRateLimitConfig;
+use token_bucket::bytes::ByteTokenBucket;
+use token_bucket::discrete::DiscreteTokenBucket;
+
+// The two buckets that the steps drive.
+struct Buckets {
+    discrete: DiscreteTokenBucket,
+    bytes: ByteTokenBucket,
+}
+
+// The buckets after a record, and whether to go on.
+struct Turn {
+    buckets: Buckets,
+    more: bool,
+}
+
+// A proved loop has to end, and nothing says that the input does: so turns are counted down from a number that no run uses up.
+fn main() {
+    let mut buckets = Buckets {
+        discrete: DiscreteTokenBucket::new(0, 0),
+        bytes: ByteTokenBucket::new(ByteRateLimitConfig::new(0, 0)),
+    };
+    let mut turns = u64::MAX;
+    while turns > 0 {
+        let turn = answer_next(buckets);
+        if !turn.more {
+            return;
+        }
+        buckets = turn.buckets;
+        turns -= 1;
+    }
+}
+
+fn answer_next(buckets: Buckets) -> Turn {
+    match standard::next() {
+        Input::Whole(r) => answer(buckets, r),
+        Input::Cut => {
+            standard::print(Line::empty().text(b"cut record"));
+            Turn {
+                buckets,
+                more: false,
+            }
+        }
+        Input::End => Turn {
+            buckets,
+            more: false,
+        },
+    }
+}
+
+fn answer(buckets: Buckets, r: Record) -> Turn {
+    let operation = r.operation;
+    let discrete = buckets.discrete;
+    let bytes = buckets.bytes;
+    match operation {
+        0..=3 | 13 => {
+            let step = discrete_steps::step(discrete, r);
+            let after = step.bucket;
+            let line = step.line;
+            Turn {
+                buckets: Buckets {
+                    discrete: after,
+                    bytes,
+                },
+                more: standard::print(discrete_steps::with_bucket(line, after)),
+            }
+        }
+        4..=12 | 14 => {
+            let step = byte_steps::step(bytes, r);
+            let after = step.bucket;
+            let line = step.line;
+            Turn {
+                buckets: Buckets {
+                    discrete,
+                    bytes: after,
+                },
+                more: standard::print(byte_steps::with_bucket(line, after)),
+            }
+        }
+        _ => Turn {
+            buckets,
+            more: standard::print(Line::empty().text(b"unknown operation").then(operation)),
+        },
+    }
+}

@@ -1,0 +1,223 @@
+//! Runs made-up traces on both sides, counts, and writes down each mismatch as a short trace.
+
+use crate::both_sides::{BothSides, Difference};
+use crate::calls::{self, peers::Plan};
+use crate::dice::Dice;
+use crate::show;
+use crate::shrink::Shrinker;
+use crate::tally::Tally;
+use crate::trace::{Kind, Trace, MAKING};
+use std::time::{Duration, Instant};
+use vocabulary::{Answer, Original, Port, Words};
+
+/// Of a hundred calls, so many are of each kind; a kind of no table is quick.
+const SHARES: [(Kind, u64); 6] = [
+    (Kind::Peers, 66),
+    (Kind::Buckets, 18),
+    (Kind::Amounts, 12),
+    (Kind::Settings, 1),
+    (Kind::PeerRefusals, 2),
+    (Kind::BucketRefusals, 1),
+];
+
+/// So many mismatches are made small, and shown unless they come out the same; all are counted.
+const MOST_SHOWN: u64 = 5;
+
+pub struct Options {
+    pub calls: u64,
+    pub seed: u64,
+    /// Look for events too.
+    pub watch: bool,
+    /// Stop at the first mismatch, without making it small (the self-test needs no more).
+    pub first_only: bool,
+}
+
+pub struct Outcome {
+    pub tally: Tally,
+    /// The first mismatches, as they are to be printed.
+    pub shown: Vec<String>,
+}
+
+pub fn run(original: &mut dyn Original, port: &dyn Port, options: &Options) -> Outcome {
+    let mut outcome = Outcome {
+        tally: Tally::default(),
+        shown: Vec::new(),
+    };
+    outcome.tally.watch = options.watch;
+    let mut progress = Progress::new(options.calls);
+    for (kind, share) in SHARES {
+        let goal = outcome.tally.calls() + (options.calls * share).div_ceil(100);
+        let goal = goal.min(options.calls);
+        let mut number = 0;
+        while outcome.tally.calls() < goal {
+            let mut dice = Dice::new(seed_of(options.seed, kind, number));
+            number += 1;
+            let left = (goal - outcome.tally.calls()) as usize;
+            let (trace, difference) = run_new_trace(kind, &mut dice, original, port, left, &mut outcome.tally);
+            if let Some(difference) = difference {
+                note(&mut outcome, original, port, &trace, &difference, options.first_only);
+                if options.first_only {
+                    return outcome;
+                }
+            }
+            progress.tell(&outcome.tally);
+        }
+    }
+    outcome
+}
+
+fn seed_of(seed: u64, kind: Kind, number: u64) -> u64 {
+    let mut dice = Dice::new(seed);
+    let base = dice.roll() ^ (kind as u64).wrapping_mul(0xd134_2543_de82_ef95);
+    Dice::new(base.wrapping_add(number)).roll()
+}
+
+/// Makes up a trace while running it; at most `left` calls.
+fn run_new_trace(
+    kind: Kind,
+    dice: &mut Dice,
+    original: &mut dyn Original,
+    port: &dyn Port,
+    left: usize,
+    tally: &mut Tally,
+) -> (Trace, Option<Difference>) {
+    let (mut trace, length, mut plan) = begin(kind, dice);
+    let mut left = left;
+    if kind == Kind::Peers && trace.start.is_fresh() {
+        tally.count(kind, MAKING, &Answer::done());
+        left -= 1;
+    }
+    let mut both = match BothSides::begin(&trace, original, port) {
+        Ok(both) => both,
+        Err(what) => {
+            trace.kind = Kind::Peers;
+            return (trace, Some(Difference { at: 0, what }));
+        }
+    };
+    for at in 0..length.min(left) {
+        let call = next(&trace, plan.as_mut(), dice, &both);
+        trace.calls.push(call);
+        if let Err(what) = both.step(&call, tally) {
+            return (trace, Some(Difference { at, what }));
+        }
+    }
+    (trace, None)
+}
+
+fn begin(kind: Kind, dice: &mut Dice) -> (Trace, usize, Option<Plan>) {
+    match kind {
+        Kind::Peers | Kind::PeerRefusals => {
+            let (mut trace, length, plan) = calls::peers::begin(dice);
+            trace.kind = kind;
+            (trace, length.max(1), Some(plan))
+        }
+        Kind::Buckets => (Trace::of_calls(kind, Vec::new()), dice.between(5, 150) as usize, None),
+        _ => (Trace::of_calls(kind, Vec::new()), 200, None),
+    }
+}
+
+fn next(trace: &Trace, plan: Option<&mut Plan>, dice: &mut Dice, both: &BothSides) -> Words {
+    match (trace.kind, plan) {
+        (Kind::Peers, Some(plan)) => plan.next(dice, both.state(), &trace.keys),
+        (Kind::PeerRefusals, _) => calls::refusals::next_peer(dice, trace),
+        (Kind::BucketRefusals, _) => calls::refusals::next_bucket(dice),
+        (Kind::Buckets, _) => calls::buckets::next(dice, both.buckets()),
+        (Kind::Amounts, _) => calls::amounts::next(dice),
+        _ => calls::settings::next(dice),
+    }
+}
+
+/// Runs a trace that is written down.
+pub fn replay(original: &mut dyn Original, port: &dyn Port, trace: &Trace) -> Option<Difference> {
+    replay_and_watch(original, port, trace, &mut |_, _| {})
+}
+
+/// The same; `watch` gets both sides after each call on which the sides agree.
+pub fn replay_and_watch(
+    original: &mut dyn Original,
+    port: &dyn Port,
+    trace: &Trace,
+    watch: &mut dyn FnMut(&BothSides, &Words),
+) -> Option<Difference> {
+    let mut both = match BothSides::begin(trace, original, port) {
+        Ok(both) => both,
+        Err(what) => return Some(Difference { at: 0, what }),
+    };
+    let mut tally = Tally::default();
+    for (at, call) in trace.calls.iter().enumerate() {
+        if let Err(what) = both.step(call, &mut tally) {
+            return Some(Difference { at, what });
+        }
+        watch(&both, call);
+    }
+    None
+}
+
+fn note(
+    outcome: &mut Outcome,
+    original: &mut dyn Original,
+    port: &dyn Port,
+    trace: &Trace,
+    difference: &Difference,
+    as_it_is: bool,
+) {
+    let operation = trace.calls.get(difference.at).map_or(MAKING, |call| call[0]);
+    outcome.tally.mismatch(trace.kind, operation);
+    if outcome.tally.mismatches() > MOST_SHOWN {
+        return;
+    }
+    if as_it_is {
+        outcome.shown.push(difference.what.clone());
+        return;
+    }
+    let mut differs = |trace: &Trace| replay(original, port, trace);
+    let small = Shrinker::new(&mut differs).shrink(trace);
+    let last = differs(&small).unwrap_or(difference.clone());
+    let name = trace.kind.operations()[operation as usize];
+    let form = if show::is_for_admit_trace(&small) {
+        ", as input of admit-trace"
+    } else {
+        ""
+    };
+    let text = format!(
+        "mismatch in {}: {name}; the shortest trace found{form}:\n{}{}\n",
+        trace.kind.name(),
+        show::trace(&small),
+        last.what
+    );
+    if !outcome.shown.contains(&text) {
+        outcome.shown.push(text);
+    }
+}
+
+/// A line on stderr about every two seconds.
+struct Progress {
+    goal: u64,
+    began: Instant,
+    told: Instant,
+}
+
+impl Progress {
+    fn new(goal: u64) -> Self {
+        let now = Instant::now();
+        Self {
+            goal,
+            began: now,
+            told: now,
+        }
+    }
+
+    fn tell(&mut self, tally: &Tally) {
+        if self.told.elapsed() < Duration::from_secs(2) {
+            return;
+        }
+        self.told = Instant::now();
+        eprintln!(
+            "{} of {} calls, {} mismatches, {} s",
+            tally.calls(),
+            self.goal,
+            tally.mismatches(),
+            self.began.elapsed().as_secs()
+        );
+    }
+}

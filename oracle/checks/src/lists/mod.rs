@@ -1,0 +1,48 @@
+//! Recorded answers of the unchanged Rust, for programs of the gate that replay them: the tests then need no Rust.
+//!
+//! Input: records of eight little-endian words, the operation's number and its operands. Output: a line a record.
+
+pub mod amounts;
+pub mod buckets;
+
+use vocabulary::{Original, Words};
+
+pub struct List {
+    pub input: Vec<u8>,
+    pub output: String,
+}
+
+impl List {
+    pub fn new() -> Self {
+        Self {
+            input: Vec::new(),
+            output: String::new(),
+        }
+    }
+
+    pub fn add(&mut self, words: &Words, line: &str) {
+        for word in words {
+            self.input.extend_from_slice(&word.to_le_bytes());
+        }
+        self.output += line;
+        self.output += "\n";
+    }
+
+    pub fn records(&self) -> usize {
+        self.input.len() / 64
+    }
+}
+
+impl Default for List {
+    fn default() -> Self {
+        Self::new()
+    }
+}
+
+pub type Recorder = fn(&mut dyn Original) -> List;
+
+/// Each list and the crate whose files stdin and stdout it becomes.
+pub const LISTS: [(&str, Recorder); 2] = [
+    ("crates/replay_amounts", amounts::record),
+    ("crates/replay_buckets", buckets::record),
+];

@@ -1,0 +1,144 @@
+//! Counts of a run: calls, mismatches and answers for each operation, and what happened to the rows.
+
+use crate::trace::Kind;
+use vocabulary::Answer;
+
+/// What a call on peers did besides its answer.
+#[derive(Clone, Copy)]
+pub enum Event {
+    RowMade,
+    OwnSpentBanDropped,
+    SpentBansDroppedForRoom,
+    UnbannedEvicted,
+    UnbannedEvictedInATie,
+    BannedEvicted,
+    WindowExpired,
+    BanBegun,
+    CeilingDisconnect,
+    BucketDisconnect,
+    LiveBanAnswered,
+    TimeBeforeLastUsed,
+    BanAtItsExactEnd,
+    RefillPast32Bits,
+}
+
+pub const EVENTS: [&str; 14] = [
+    "row made",
+    "own spent ban dropped",
+    "spent bans dropped for room",
+    "unbanned row evicted",
+    "  of these in a tie",
+    "banned row evicted",
+    "window expired",
+    "ban begun",
+    "Disconnect by the ceiling",
+    "Disconnect by a bucket",
+    "live ban answered",
+    "time before the row's last use",
+    "ban at its exact end",
+    "Allow 2^32 intervals or more after refill",
+];
+
+/// Refusals 1 to 6, then the answers from 256 on.
+const ANSWERS: usize = 14;
+
+#[derive(Clone, Default)]
+pub struct OperationTally {
+    pub calls: u64,
+    pub mismatches: u64,
+    answers: [u64; ANSWERS],
+}
+
+#[derive(Clone)]
+pub struct Tally {
+    operations: Vec<(Kind, Vec<OperationTally>)>,
+    pub events: [u64; EVENTS.len()],
+    pub refusal_4: u64,
+    /// Whether events are looked for: they cost time.
+    pub watch: bool,
+}
+
+impl Default for Tally {
+    fn default() -> Self {
+        let of = |kind: Kind| (kind, vec![OperationTally::default(); kind.operations().len()]);
+        Self {
+            operations: Kind::ALL.into_iter().map(of).collect(),
+            events: [0; EVENTS.len()],
+            refusal_4: 0,
+            watch: false,
+        }
+    }
+}
+
+impl Tally {
+    fn of(&mut self, kind: Kind, operation: u64) -> &mut OperationTally {
+        &mut self.operations[kind as usize].1[operation as usize]
+    }
+
+    pub fn count(&mut self, kind: Kind, operation: u64, answer: &Answer) {
+        let tally = self.of(kind, operation);
+        tally.calls += 1;
+        let place = match answer.number {
+            refusal @ 0..=7 => refusal as usize,
+            number => (number as usize).saturating_sub(256) + 8,
+        };
+        tally.answers[place.min(ANSWERS - 1)] += 1;
+    }
+
+    pub fn mismatch(&mut self, kind: Kind, operation: u64) {
+        self.of(kind, operation).mismatches += 1;
+    }
+
+    pub fn event(&mut self, event: Event) {
+        self.events[event as usize] += 1;
+    }
+
+    pub fn calls(&self) -> u64 {
+        self.all().map(|tally| tally.calls).sum()
+    }
+
+    pub fn mismatches(&self) -> u64 {
+        self.all().map(|tally| tally.mismatches).sum()
+    }
+
+    fn all(&self) -> impl Iterator<Item = &OperationTally> {
+        self.operations.iter().flat_map(|(_, tallies)| tallies)
+    }
+
+    /// A line for each operation.
+    pub fn table(&self) -> String {
+        let mut text = format!("{:<40}{:>12}{:>12}\n", "operation", "calls", "mismatches");
+        for (kind, tallies) in &self.operations {
+            for (name, tally) in kind.operations().iter().zip(tallies) {
+                let name = format!("{}: {name}", kind.name());
+                text += &format!("{name:<40}{:>12}{:>12}\n", tally.calls, tally.mismatches);
+            }
+        }
+        text
+    }
+
+    /// The answers of each operation in hundredths, and the events.
+    pub fn distribution(&self) -> String {
+        let mut text = String::new();
+        for (kind, tallies) in &self.operations {
+            for (name, tally) in kind.operations().iter().zip(tallies) {
+                let name = format!("{}: {name}", kind.name());
+                text += &format!("{name:<40}{:>12}", tally.calls);
+                for (place, count) in tally.answers.iter().enumerate() {
+                    if *count > 0 {
+                        let number = if place < 8 { place } else { place + 248 };
+                        let answer = Answer::plain(number as u32).text();
+                        let percent = 100.0 * *count as f64 / tally.calls as f64;
+                        text += &format!("  {answer} {percent:.2}%");
+                    }
+                }
+                text += "\n";
+            }
+        }
+        text += "what calls on peers did:\n";
+        for (name, count) in EVENTS.iter().zip(self.events) {
+            text += &format!("  {name:<42}{count:>12}\n");
+        }
+        text + &format!("  {:<42}{:>12}\n", "refusal 4 (outside the Rust)", self.refusal_4)
+    }
+}

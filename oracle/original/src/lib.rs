@@ -1,0 +1,156 @@
+//! The unchanged Rust of docs/src behind small stand-ins, in the oracle's vocabulary.
+
+mod fiber {
+    pub(crate) use fiber_types::Pubkey;
+
+    include!(concat!(env!("OUT_DIR"), "/modules.rs"));
+}
+
+use fiber::gossip_policy::{ByteRateLimitConfig, ByteTokenBucket, DiscreteTokenBucket};
+use fiber::peer_message_policy::{PeerMessageAdmission, PeerMessagePolicy, PeerMessagePolicyConfig};
+use fiber_types::Pubkey;
+use vocabulary::{
+    answer, Answer, BucketCall, BucketOperation as B, Buckets, Original, PeerCall, PeerOperation as P, PeerState,
+    Settings,
+};
+
+/// Whether the Rust that was built is the one as published, and not an edited copy that RUST_SRC names.
+pub const AS_PUBLISHED: bool = fiber::AS_PUBLISHED;
+
+/// One policy and one bucket of each type.
+pub struct UnchangedRust {
+    policy: PeerMessagePolicy,
+    discrete: DiscreteTokenBucket,
+    byte: ByteTokenBucket,
+}
+
+impl Default for UnchangedRust {
+    fn default() -> Self {
+        Self {
+            policy: PeerMessagePolicy::default(),
+            discrete: DiscreteTokenBucket::new(0, 0),
+            byte: ByteTokenBucket::new(ByteRateLimitConfig {
+                rate_bytes_per_sec: 0,
+                burst_bytes: 0,
+            }),
+        }
+    }
+}
+
+impl UnchangedRust {
+    /// Whether the Rust's two orders list exactly its rows: kept state that no row shows.
+    pub fn orders_agree(&self) -> bool {
+        self.policy.oracle_orders_agree()
+    }
+
+    /// The bare call, for timing.
+    pub fn admit(&mut self, key: &vocabulary::Key, bytes: u64, now: u64) -> bool {
+        self.policy.admit(&Pubkey(*key), bytes, now) == PeerMessageAdmission::Allow
+    }
+}
+
+impl Original for UnchangedRust {
+    fn set_peers(&mut self, state: &PeerState) {
+        self.policy = PeerMessagePolicy::oracle_make(state);
+    }
+
+    fn peers(&mut self, call: &PeerCall) -> Answer {
+        let key = Pubkey(call.key);
+        let (bytes, now) = (call.bytes, call.now);
+        match call.operation {
+            P::Admit => Answer::plain(match self.policy.admit(&key, bytes, now) {
+                PeerMessageAdmission::Allow => answer::ALLOW,
+                PeerMessageAdmission::Disconnect => answer::DISCONNECT,
+                PeerMessageAdmission::Ban => answer::BAN,
+            }),
+            P::RecordInvalid => Answer::yes_or_no(self.policy.record_invalid(&key, now)),
+            P::IsBanned => Answer::yes_or_no(self.policy.is_banned(&key, now)),
+            P::OnDisconnected => {
+                self.policy.on_disconnected(&key, now);
+                Answer::done()
+            }
+            P::ReleaseIngress => {
+                self.policy.release_ingress(bytes);
+                Answer::done()
+            }
+            P::InFlight => {
+                let (messages, bytes) = self.policy.oracle_in_flight();
+                Answer::values([messages.into(), bytes, 0])
+            }
+            // Added by document 01: the Rust has no such call, so it is worked out from its state.
+            P::HeldTime => {
+                let last_used = self.policy.oracle_last_used(&key);
+                Answer::value(last_used.map_or(now, |used| used.max(now)))
+            }
+        }
+    }
+
+    fn read_peers(&self, into: &mut PeerState) {
+        self.policy.oracle_read(into);
+    }
+
+    fn bucket(&mut self, call: &BucketCall) -> Answer {
+        let [a, b, ..] = call.operands;
+        match call.operation {
+            B::DiscreteNew => {
+                self.discrete = DiscreteTokenBucket::new(a, b as u32);
+                Answer::done()
+            }
+            B::DiscreteRefill => {
+                self.discrete.oracle_refill(a);
+                Answer::done()
+            }
+            B::DiscreteTryConsume => Answer::yes_or_no(self.discrete.try_consume(a)),
+            B::DiscreteIsFull => Answer::yes_or_no(self.discrete.oracle_is_full()),
+            B::DiscreteSet => {
+                let bucket = call.discrete_to_set().expect("numbers within u32");
+                self.discrete = DiscreteTokenBucket::oracle_make(&bucket);
+                Answer::done()
+            }
+            B::ByteNew => {
+                self.byte = ByteTokenBucket::new(ByteRateLimitConfig {
+                    rate_bytes_per_sec: a,
+                    burst_bytes: b,
+                });
+                Answer::done()
+            }
+            B::ByteRefill => {
+                self.byte.oracle_refill(a);
+                Answer::done()
+            }
+            B::ByteTryConsume => Answer::yes_or_no(self.byte.try_consume(a, b)),
+            B::ByteReserve => Answer::value(self.byte.reserve(a, b)),
+            B::BytePeekDelayAfterRefill => Answer::value(self.byte.oracle_peek_delay_after_refill(a, b)),
+            B::ByteRefund => {
+                self.byte.refund(a, b);
+                Answer::done()
+            }
+            B::ByteHasDebt => Answer::yes_or_no(self.byte.has_debt(a)),
+            B::ByteBurstBytes => Answer::value(self.byte.burst_bytes()),
+            B::ByteIsDisabled => Answer::yes_or_no(self.byte.is_disabled()),
+            B::ByteSet => {
+                self.byte = ByteTokenBucket::oracle_make(&call.byte_to_set());
+                Answer::done()
+            }
+        }
+    }
+
+    fn buckets(&self) -> Buckets {
+        Buckets {
+            discrete: self.discrete.oracle_read(),
+            byte: self.byte.oracle_read(),
+        }
+    }
+
+    fn default_settings(&self) -> Settings {
+        PeerMessagePolicyConfig::default().oracle_read()
+    }
+
+    fn message_limit_disabled(&self, settings: &Settings) -> bool {
+        PeerMessagePolicyConfig::oracle_make(settings).message_limit_disabled()
+    }
+
+    fn ban_disabled(&self, settings: &Settings) -> bool {
+        PeerMessagePolicyConfig::oracle_make(settings).ban_disabled()
+    }
+}

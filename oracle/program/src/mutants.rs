@@ -1,0 +1,158 @@
+//! The self-test: each edit of the Rust is built and compared; the comparison must notice it.
+
+use checks::mutants::{Mutant, MUTANTS};
+use std::fs;
+use std::path::{Path, PathBuf};
+use std::process::{Command, ExitCode, Stdio};
+use std::time::{Duration, Instant};
+
+const SOURCE: &str = "crates/fiber-lib/src/fiber";
+const FILES: [&str; 2] = ["peer_message_policy.rs", "gossip_policy.rs"];
+/// An edit may make the Rust loop for ever.
+const LONGEST_RUN: Duration = Duration::from_secs(60);
+
+enum Verdict {
+    Caught(String),
+    Survived,
+    Broken(String),
+}
+
+struct SelfTest {
+    oracle: PathBuf,
+    source: PathBuf,
+    calls: String,
+    seed: String,
+}
+
+pub fn run(oracle: &Path, calls: u64, seed: u64) -> ExitCode {
+    let source = std::env::var("RUST_SRC")
+        .ok()
+        .filter(|folder| !folder.is_empty())
+        .map(PathBuf::from)
+        .unwrap_or(oracle.join("../../shared/docs/src"));
+    let test = SelfTest {
+        oracle: oracle.to_path_buf(),
+        source,
+        calls: calls.to_string(),
+        seed: seed.to_string(),
+    };
+    match test.try_text("unchanged", None) {
+        Verdict::Survived => println!("the unchanged Rust: no mismatch in {calls} calls"),
+        Verdict::Caught(how) | Verdict::Broken(how) => {
+            println!("the unchanged Rust doesn't pass: {how}");
+            return ExitCode::FAILURE;
+        }
+    }
+    let (mut caught, mut explained, mut wrong) = (0, 0, Vec::new());
+    for mutant in MUTANTS {
+        let verdict = test.try_text(mutant.name, Some(mutant));
+        match (verdict, mutant.same) {
+            (Verdict::Caught(how), "") => {
+                println!("caught    {}: {how}", mutant.name);
+                caught += 1;
+            }
+            (Verdict::Survived, why) if !why.is_empty() => {
+                println!("survived  {}: {why}", mutant.name);
+                explained += 1;
+            }
+            (Verdict::Survived, _) => wrong.push(format!("SURVIVED  {}", mutant.name)),
+            (Verdict::Caught(how), _) => {
+                wrong.push(format!("CAUGHT, though thought the same: {}: {how}", mutant.name));
+            }
+            (Verdict::Broken(how), _) => wrong.push(format!("BROKEN    {}: {how}", mutant.name)),
+        }
+    }
+    for line in &wrong {
+        println!("{line}");
+    }
+    println!(
+        "{} mutants: {caught} caught, {explained} survived with an explanation, {} wrong",
+        MUTANTS.len(),
+        wrong.len()
+    );
+    ExitCode::from(!wrong.is_empty() as u8)
+}
+
+impl SelfTest {
+    fn try_text(&self, name: &str, mutant: Option<&Mutant>) -> Verdict {
+        let tree = self.oracle.join("target/mutants/source").join(name);
+        match self.write(&tree, mutant).and_then(|()| self.build(&tree)) {
+            Ok(()) => self.compare(),
+            Err(how) => Verdict::Broken(how),
+        }
+    }
+
+    fn write(&self, tree: &Path, mutant: Option<&Mutant>) -> Result<(), String> {
+        let folder = tree.join(SOURCE);
+        fs::create_dir_all(&folder).map_err(|error| error.to_string())?;
+        for file in FILES {
+            let from = self.source.join(SOURCE).join(file);
+            let mut text = fs::read_to_string(&from)
+                .map_err(|error| format!("{}: {error}; RUST_SRC names another folder", from.display()))?;
+            if let Some(mutant) = mutant.filter(|mutant| mutant.file == file) {
+                text = mutant
+                    .apply(&text)
+                    .ok_or("the old text doesn't stand there exactly once")?;
+            }
+            fs::write(folder.join(file), text).map_err(|error| error.to_string())?;
+        }
+        Ok(())
+    }
+
+    /// In a folder of its own, where all but the edited crate and the checker is built once; those two without
+    /// optimising, which is quicker than running them is slower. Sums wrap all the same (Cargo.toml).
+    fn build(&self, tree: &Path) -> Result<(), String> {
+        let output = Command::new("cargo")
+            .args(["build", "--offline", "--release", "--quiet", "--package", "checker"])
+            .args(["--config", "profile.release.package.original.opt-level=0"])
+            .args(["--config", "profile.release.package.checker.opt-level=0"])
+            .arg("--manifest-path")
+            .arg(self.oracle.join("Cargo.toml"))
+            .arg("--target-dir")
+            .arg(self.oracle.join("target/mutants/build"))
+            .env("RUST_SRC", tree)
+            .output()
+            .map_err(|error| error.to_string())?;
+        if output.status.success() {
+            return Ok(());
+        }
+        let errors = String::from_utf8_lossy(&output.stderr);
+        let first = errors.lines().find(|line| line.starts_with("error"));
+        Err(format!("does not build: {}", first.unwrap_or("no error given")))
+    }
+
+    fn compare(&self) -> Verdict {
+        let said = self.oracle.join("target/mutants/said");
+        let run = fs::File::create(&said).and_then(|file| {
+            Command::new(self.oracle.join("target/mutants/build/release/checker"))
+                .args([&self.calls, &self.seed])
+                .stdout(file)
+                .stderr(Stdio::null())
+                .spawn()
+        });
+        let mut run = match run {
+            Ok(run) => run,
+            Err(error) => return Verdict::Broken(error.to_string()),
+        };
+        let began = Instant::now();
+        let status = loop {
+            match run.try_wait() {
+                Ok(Some(status)) => break status,
+                _ if began.elapsed() > LONGEST_RUN => {
+                    let _ = run.kill();
+                    let _ = run.wait();
+                    return Verdict::Caught("does not end".into());
+                }
+                _ => std::thread::sleep(Duration::from_millis(5)),
+            }
+        };
+        let text = fs::read_to_string(&said).unwrap_or_default();
+        let line: String = text.lines().next().unwrap_or("").chars().take(90).collect();
+        match status.code() {
+            Some(0) => Verdict::Survived,
+            Some(1) => Verdict::Caught(line),
+            Some(101) => Verdict::Caught("panics".into()),
+            other => Verdict::Broken(format!("ended with {other:?}")),
+        }
+    }
+}

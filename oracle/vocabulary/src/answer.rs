@@ -1,0 +1,62 @@
+//! An answer as a number and up to three values.
+//!
+//! A refusal is its own number (1 to 17); the answers of the Rust begin at 256.
+
+pub const ALLOW: u32 = 256;
+pub const DISCONNECT: u32 = 257;
+pub const BAN: u32 = 258;
+pub const NO: u32 = 259;
+pub const YES: u32 = 260;
+/// The call answers nothing, or the values.
+pub const DONE: u32 = 261;
+
+#[derive(Clone, Copy, Debug, PartialEq, Eq)]
+pub struct Answer {
+    pub number: u32,
+    pub values: [u64; 3],
+}
+
+impl Answer {
+    pub const fn plain(number: u32) -> Self {
+        Self { number, values: [0; 3] }
+    }
+
+    pub const fn done() -> Self {
+        Self::plain(DONE)
+    }
+
+    pub const fn yes_or_no(yes: bool) -> Self {
+        Self::plain(if yes { YES } else { NO })
+    }
+
+    pub const fn value(value: u64) -> Self {
+        Self::values([value, 0, 0])
+    }
+
+    pub const fn values(values: [u64; 3]) -> Self {
+        Self { number: DONE, values }
+    }
+
+    pub fn is_refusal(&self) -> bool {
+        self.number < 256
+    }
+
+    pub fn text(&self) -> String {
+        match self.number {
+            ALLOW => "Allow".into(),
+            DISCONNECT => "Disconnect".into(),
+            BAN => "Ban".into(),
+            NO => "no".into(),
+            YES => "yes".into(),
+            DONE => "done".into(),
+            number => format!("refusal {number}"),
+        }
+    }
+}
+
+impl std::fmt::Display for Answer {
+    fn fmt(&self, f: &mut std::fmt::Formatter<'_>) -> std::fmt::Result {
+        let [a, b, c] = self.values;
+        write!(f, "{} ({a} {b} {c})", self.text())
+    }
+}

@@ -1,0 +1,15 @@
+//! What both sides of a comparison are read into: plain numbers, the calls, the answers, and the two sides as traits.
+
+pub mod answer;
+pub mod bucket;
+pub mod layout;
+pub mod peer;
+pub mod sides;
+
+pub use answer::Answer;
+pub use bucket::{Amount, BucketCall, BucketOperation, Buckets, ByteBucket, DiscreteBucket};
+pub use peer::{Key, PeerCall, PeerOperation, PeerState, Record, Row, Settings};
+pub use sides::{Original, Port};
+
+/// A call as eight words: the operation's number, then its operands. The recorded lists hold these, little-endian.
+pub type Words = [u64; 8];

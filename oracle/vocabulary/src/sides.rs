@@ -1,0 +1,35 @@
+//! The two sides of a comparison: the unchanged Rust, and the system under test.
+
+use crate::{Answer, BucketCall, Buckets, PeerCall, PeerState, Record, Settings, Words};
+
+/// The unchanged Rust. It keeps its own state, which can be read out and set.
+pub trait Original {
+    fn set_peers(&mut self, state: &PeerState);
+    fn peers(&mut self, call: &PeerCall) -> Answer;
+    fn read_peers(&self, into: &mut PeerState);
+
+    fn bucket(&mut self, call: &BucketCall) -> Answer;
+    fn buckets(&self) -> Buckets;
+
+    fn default_settings(&self) -> Settings;
+    fn message_limit_disabled(&self, settings: &Settings) -> bool;
+    fn ban_disabled(&self, settings: &Settings) -> bool;
+}
+
+/// The system under test. It keeps nothing: each call gets the record and the lent table that the one before it left,
+/// as the functions of the C boundary do.
+pub trait Port {
+    fn name(&self) -> &'static str;
+
+    /// `PeerMessagePolicy::new`: the settings stand in the record. Answers DONE or a refusal.
+    fn make_peers(&self, record: &mut Record, table: &mut [u8]) -> Answer;
+    fn peers(&self, call: &PeerCall, record: &mut Record, table: &mut [u8]) -> Answer;
+
+    fn bucket(&self, call: &BucketCall, buckets: &mut Buckets) -> Answer;
+
+    /// A call on settings alone: operation, then operands (`checks::settings`).
+    fn settings(&self, call: &Words) -> Answer;
+
+    /// A call on 128-bit amounts: operation, then operands (`checks::amounts`).
+    fn amount(&self, call: &Words) -> Answer;
+}
