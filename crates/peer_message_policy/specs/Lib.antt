@@ -1,10 +1,4 @@
 pub mod Policy
 pub mod Calls
-pub mod OneOutcome
-pub mod KeyedLaws
-pub mod SoundLaws
-pub mod CallLaws
-pub mod DecisionLaws
-pub mod PeerLaws
 pub mod Sought
 pub mod Carry

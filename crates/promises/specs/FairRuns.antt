@@ -29,9 +29,9 @@ use Rattle.peer_message_policy.specs.declared.answer.Made.the-variants as Made
 use Rattle.peer_message_policy.specs.Calls.{NewMeets}
 use Rattle.peer_message_policy.specs.Policy
 use Rattle.peer_message_policy.specs.Policy.{rowsOf, overflows}
-use Rattle.peer_message_policy.specs.CallLaws.{new-fresh}
-use Rattle.peer_message_policy.specs.DecisionLaws.{judged-used, judged-invalid-noted, roomCause, judged-passes}
-use Rattle.peer_message_policy.specs.PeerLaws.{Fate, stayed, gone, expired, Lands, kept, absent, remade, Own, live, undone, carried, live-not-spent}
+use Rattle.peer_laws.specs.CallLaws.{new-fresh}
+use Rattle.peer_laws.specs.DecisionLaws.{judged-used, judged-invalid-noted, roomCause, judged-passes}
+use Rattle.peer_laws.specs.PeerLaws.{Fate, stayed, gone, expired, Lands, kept, absent, remade, Own, live, undone, carried, live-not-spent}
 use Rattle.promises.specs.Runs.{Call, admit, recordInvalid, isBanned, onDisconnected, releaseIngress, inFlight, heldTime, State, Step, Fits, ConfigFits, Run, made, then}
 use Rattle.promises.specs.Lives.{Allow, entryIn, logFor, logged, unlessRefused, keptLog, logAfter, logOf, lastUsed, notBeforeOwn, Shielded, AtMost, Within, ceilingSays}
 use Rattle.promises.specs.FairLaw.{NotAfter, Fair, fair-new, fair-allow, fair-most, fair-least}

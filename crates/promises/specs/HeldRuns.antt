@@ -15,7 +15,7 @@ use Rattle.peer_message_policy.specs.declared.answer.HeldTime.the-variants as H
 use Rattle.peer_message_policy.specs.Policy
 use Rattle.peer_message_policy.specs.Policy.{sound}
 use Rattle.peer_message_policy.specs.Calls.{HeldTimeMeets}
-use Rattle.peer_message_policy.specs.CallLaws.{held-time-answer}
+use Rattle.peer_laws.specs.CallLaws.{held-time-answer}
 use Rattle.promises.specs.Runs.{Call, admit, recordInvalid, isBanned, onDisconnected, releaseIngress, inFlight, heldTime, State, Step, Fits, ConfigFits, Run, made, then}
 use Rattle.promises.specs.Lives.{entryIn, logFor, logOf, lastUsed, notBeforeOwn, Shielded, AtMost, Within, ceilingSays}
 use Rattle.promises.specs.Held.{Answered, heldOwn, Held}

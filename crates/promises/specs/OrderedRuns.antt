@@ -16,8 +16,8 @@ use Rattle.peer_verdict.specs.declared.verdict.Decision.{Decision}
 use Rattle.peer_verdict.specs.Entry.{entryExpireWindows}
 use Rattle.peer_verdict.specs.Ingress.{tryReserve}
 use Rattle.peer_message_policy.specs.Policy
-use Rattle.peer_message_policy.specs.DecisionLaws.{judged-used, judged-invalid-noted}
-use Rattle.peer_message_policy.specs.PeerLaws.{Fate, stayed, gone, expired, Own, live, undone, carried}
+use Rattle.peer_laws.specs.DecisionLaws.{judged-used, judged-invalid-noted}
+use Rattle.peer_laws.specs.PeerLaws.{Fate, stayed, gone, expired, Own, live, undone, carried}
 use Rattle.promises.specs.Runs.{Call, admit, recordInvalid, isBanned, onDisconnected, releaseIngress, inFlight, heldTime, State, Step, Fits, ConfigFits, Run, made, then}
 use Rattle.promises.specs.Lives.{entryIn, logFor, logOf, timeOf, latestOf, latest, notBefore, Ordered, lastUsed, notBeforeOwn, Shielded, AtMost, Within, ceilingSays}
 use Rattle.promises.specs.SoundRuns.{StateHolds, run-holds}

@@ -22,9 +22,9 @@ use Rattle.peer_message_policy.specs.declared.policy.PeerMessagePolicy.{PeerMes
 use Rattle.peer_message_policy.specs.Policy
 use Rattle.peer_message_policy.specs.Policy.{Change, Turn}
 use Rattle.peer_message_policy.specs.Calls.{policyAfter, admissionSays, admissionOf, invalidSays, invalidOf}
-use Rattle.peer_message_policy.specs.SoundLaws.{changedRows, turnOf, admit-turn, record-invalid-turn, policy-holds}
-use Rattle.peer_message_policy.specs.CallLaws.{admit-answer, record-invalid-answer}
-use Rattle.peer_message_policy.specs.PeerLaws.{Fate, is-banned-fate, disconnected-fate, turn-fate, Own, own-turn}
+use Rattle.peer_laws.specs.SoundLaws.{changedRows, turnOf, admit-turn, record-invalid-turn, policy-holds}
+use Rattle.peer_laws.specs.CallLaws.{admit-answer, record-invalid-answer}
+use Rattle.peer_laws.specs.PeerLaws.{Fate, is-banned-fate, disconnected-fate, turn-fate, Own, own-turn}
 use Rattle.promises.specs.Runs.{admit, recordInvalid, isBanned, onDisconnected, releaseIngress, State, Step, KeyFits}
 use Rattle.promises.specs.Lives.{entryIn, sameKey}
 use Rattle.promises.specs.SoundRuns.{StateLeaves, StateHolds, rowsIn, admit-left, record-invalid-left, is-banned-left, on-disconnected-left, release-ingress-left}

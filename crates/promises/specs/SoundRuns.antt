@@ -20,8 +20,8 @@ use Rattle.peer_message_policy.specs.declared.answer.Changed.{Changed}
 use Rattle.peer_message_policy.specs.declared.answer.Changed.the-variants as Changed
 use Rattle.peer_message_policy.specs.Policy
 use Rattle.peer_message_policy.specs.Policy.{rowsOf, sound, Change, same}
-use Rattle.peer_message_policy.specs.SoundLaws.{Leaves}
-use Rattle.peer_message_policy.specs.CallLaws.{
+use Rattle.peer_laws.specs.SoundLaws.{Leaves}
+use Rattle.peer_laws.specs.CallLaws.{
   OfAdmission,
   OfInvalid,
   OfStanding,

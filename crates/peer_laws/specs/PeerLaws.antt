@@ -24,8 +24,8 @@ use Rattle.peer_verdict.specs.EntryLaws.{chosen}
 use Rattle.peer_table.specs.Rows.{Peers}
 use Rattle.peer_table.specs.Room.{makeRoom}
 use Rattle.peer_table.specs.RoomLaws.{sub-look, sub-makeRoom}
 use Rattle.peer_message_policy.specs.Policy.{Change, become, Turn, overflows, carriedOut, Update, banned, update, entryForUpdate, isBannedChange, disconnectedChange}
-use Rattle.peer_message_policy.specs.SoundLaws.{changedRows, turnOf}
+use Rattle.peer_laws.specs.SoundLaws.{changedRows, turnOf}
 
 -- ════ Calls that do not judge the entry ═══════════════════════════════════════════════════════════
 

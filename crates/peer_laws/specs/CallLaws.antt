@@ -83,8 +83,8 @@ use Rattle.peer_message_policy.specs.Calls.{
   InFlightMeets,
   HeldTimeMeets,
 }
-use Rattle.peer_message_policy.specs.KeyedLaws.{Key, length-laid-keyed, bytes-laid-keyed}
-use Rattle.peer_message_policy.specs.SoundLaws.{
+use Rattle.peer_laws.specs.KeyedLaws.{Key, length-laid-keyed, bytes-laid-keyed}
+use Rattle.peer_laws.specs.SoundLaws.{
   RecordHolds,
   record-holds,
   holds-record,

@@ -53,8 +53,8 @@ use Rattle.peer_message_policy.specs.Policy.{
   isBannedChange,
   disconnectedChange,
 }
 use Rattle.peer_message_policy.specs.Calls.{Memory, policyAfter}
-use Rattle.peer_message_policy.specs.KeyedLaws.{Key, Keyed, keyed-rows, keyed-sub, keyed-store, length-laid-keyed, bytes-laid-keyed}
+use Rattle.peer_laws.specs.KeyedLaws.{Key, Keyed, keyed-rows, keyed-sub, keyed-store, length-laid-keyed, bytes-laid-keyed}
 
 -- ════ Soundness, part by part ═════════════════════════════════════════════════════════════════════
 

@@ -1,0 +1,6 @@
+pub mod OneOutcome
+pub mod KeyedLaws
+pub mod SoundLaws
+pub mod CallLaws
+pub mod DecisionLaws
+pub mod PeerLaws
