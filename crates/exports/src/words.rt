@@ -3,8 +3,8 @@ ghost use mathlib.Core.Path.{_≡_};
 ghost use Rattle.exports.specs.Words.{policyOf, configOf, longsOf, shortsOf, Leaves};
 use super::answers::Told;
 use peer_message_policy::policy::PeerMessagePolicy;
-use peer_verdict::config::PeerMessagePolicyConfig;
-use peer_verdict::ingress::FiberIngressBudget;
+use peer_settings::config::PeerMessagePolicyConfig;
+use peer_state::ingress::FiberIngressBudget;
 
 pub(crate) fn config_of(longs: &[u64; 8], shorts: &[u32; 4]) -> PeerMessagePolicyConfig
     ensures { λ r. ⌜ r ≡ configOf (now (longs .entry)) (now (shorts .entry)) ⌝ }

@@ -15,14 +15,15 @@ use Rattle.refusal.specs.Refusal.{limitTooLarge, tooShort}
 use Rattle.table.specs.Table.{every, ascending, look}
 use Rattle.table.specs.TableLaws.{by-test}
 use Rattle.table.specs.Memory.{rows}
-use Rattle.peer_verdict.specs.declared.config.PeerMessagePolicyConfig.{PeerMessagePolicyConfig}
-use Rattle.peer_verdict.specs.declared.entry.PeerMessagePolicyEntry.{PeerMessagePolicyEntry}
-use Rattle.peer_verdict.specs.declared.ingress.FiberIngressBudget.{FiberIngressBudget}
+use Rattle.peer_settings.specs.declared.config.PeerMessagePolicyConfig.{PeerMessagePolicyConfig}
+use Rattle.peer_state.specs.declared.entry.PeerMessagePolicyEntry.{PeerMessagePolicyEntry}
+use Rattle.peer_state.specs.declared.ingress.FiberIngressBudget.{FiberIngressBudget}
 use Rattle.peer_verdict.specs.declared.verdict.Cause.{Cause}
 use Rattle.peer_verdict.specs.declared.verdict.Cause.the-variants as Cause
-use Rattle.peer_verdict.specs.Config.{limit}
-use Rattle.peer_verdict.specs.Ingress.{inFlight, ingressReleased, ingressSound}
-use Rattle.peer_verdict.specs.IngressLaws.{released-sound, within-sound}
+use Rattle.peer_settings.specs.Config.{limit}
+use Rattle.peer_state.specs.Ingress.{inFlight, ingressReleased, ingressSound}
+use Rattle.peer_state.specs.IngressLaws.{released-sound, within-sound}
+use Rattle.peer_verdict.specs.Verdict.{overflows}
 use Rattle.peer_message_policy.specs.declared.policy.PeerMessagePolicy.{PeerMessagePolicy}
 use Rattle.peer_message_policy.specs.declared.answer.Made.{Made}
 use Rattle.peer_message_policy.specs.declared.answer.Made.the-variants as Made
@@ -47,7 +48,6 @@ use Rattle.peer_message_policy.specs.Policy.{
   same,
   become,
   Turn,
-  overflows,
   admit,
   recordInvalid,
   isBanned,

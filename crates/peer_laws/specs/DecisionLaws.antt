@@ -4,20 +4,19 @@ use mathlib.Core.Path.{_≡_, refl}
 use mathlib.Core.Bool.{false}
 use Prim.Native.Nat.{ℕ}
 use native.Mathlib.Omega.{arith}
-use Rattle.peer_verdict.specs.declared.config.PeerMessagePolicyConfig.{PeerMessagePolicyConfig}
-use Rattle.peer_verdict.specs.declared.entry.Level.{Level}
-use Rattle.peer_verdict.specs.declared.entry.PeerMessagePolicyEntry.{PeerMessagePolicyEntry}
-use Rattle.peer_verdict.specs.declared.ingress.FiberIngressBudget.{FiberIngressBudget}
-use Rattle.peer_verdict.specs.declared.ingress.Room.{Room}
-use Rattle.peer_verdict.specs.declared.ingress.Room.the-variants as Room
+use Rattle.peer_settings.specs.declared.config.PeerMessagePolicyConfig.{PeerMessagePolicyConfig}
+use Rattle.peer_state.specs.declared.entry.Level.{Level}
+use Rattle.peer_state.specs.declared.entry.PeerMessagePolicyEntry.{PeerMessagePolicyEntry}
+use Rattle.peer_state.specs.declared.ingress.FiberIngressBudget.{FiberIngressBudget}
+use Rattle.peer_state.specs.declared.ingress.Room.{Room}
+use Rattle.peer_state.specs.declared.ingress.Room.the-variants as Room
 use Rattle.peer_verdict.specs.declared.verdict.Cause.{Cause}
 use Rattle.peer_verdict.specs.declared.verdict.Cause.the-variants as Cause
 use Rattle.peer_verdict.specs.declared.verdict.Decision.{Decision}
-use Rattle.peer_verdict.specs.Entry.{entryBan, entryUsed}
-use Rattle.peer_verdict.specs.Ingress.{tryReserve}
-use Rattle.peer_verdict.specs.Verdict.{takeMessage, takeBytes, roomed, violated, weighed, judged, judgedInvalid}
+use Rattle.peer_state.specs.Entry.{entryBan, entryUsed}
+use Rattle.peer_state.specs.Ingress.{tryReserve}
+use Rattle.peer_verdict.specs.Verdict.{takeMessage, takeBytes, roomed, violated, weighed, judged, judgedInvalid, overflows}
 use Rattle.peer_verdict.specs.VerdictLaws.{violated-ways, noted-ways, weighed-ways}
-use Rattle.peer_message_policy.specs.Policy.{overflows}
 
 -- the cause that the ceiling gives
 abbrev pub roomCause : Room → Cause

@@ -13,7 +13,7 @@ use Rattle.table.specs.Table.{store}
 use Rattle.table.specs.TableLaws.{by-answer, Sub, done, keep, leave}
 use Rattle.table.specs.Memory.{rowOf, rows, rowBytes, tableBytes, laid, wordBytes}
 use Rattle.table.specs.MemoryLaws.{length-wordBytes, Bytes-wordBytes}
-use Rattle.peer_verdict.specs.declared.entry.PeerMessagePolicyEntry.{PeerMessagePolicyEntry}
+use Rattle.peer_state.specs.declared.entry.PeerMessagePolicyEntry.{PeerMessagePolicyEntry}
 use Rattle.peer_table.specs.Rows.{Peers, peerLayout, entryWords}
 
 -- a key of 33 bytes

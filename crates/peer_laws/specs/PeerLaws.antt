@@ -13,18 +13,19 @@ use lib.Dec.{leb, ltb, eqb}
 use Rattle.table.specs.Table.{ascending, look, store}
 use Rattle.table.specs.TableLaws.{by-test, both-parts, Sub, sub-erase}
 use Rattle.table.specs.LookLaws.{look-store-same, look-store-other}
-use Rattle.peer_verdict.specs.declared.config.PeerMessagePolicyConfig.{PeerMessagePolicyConfig}
-use Rattle.peer_verdict.specs.declared.entry.PeerMessagePolicyEntry.{PeerMessagePolicyEntry}
-use Rattle.peer_verdict.specs.declared.ingress.FiberIngressBudget.{FiberIngressBudget}
+use Rattle.peer_settings.specs.declared.config.PeerMessagePolicyConfig.{PeerMessagePolicyConfig}
+use Rattle.peer_state.specs.declared.entry.PeerMessagePolicyEntry.{PeerMessagePolicyEntry}
+use Rattle.peer_state.specs.declared.ingress.FiberIngressBudget.{FiberIngressBudget}
 use Rattle.peer_verdict.specs.declared.verdict.Cause.{Cause}
 use Rattle.peer_verdict.specs.declared.verdict.Cause.the-variants as Cause
 use Rattle.peer_verdict.specs.declared.verdict.Decision.{Decision}
-use Rattle.peer_verdict.specs.Entry.{entryNew, entryIsBanned, entryIsSpent, entryExpireWindows}
-use Rattle.peer_verdict.specs.EntryLaws.{chosen}
+use Rattle.peer_state.specs.Entry.{entryNew, entryIsBanned, entryIsSpent, entryExpireWindows}
+use Rattle.peer_state.specs.EntryLaws.{chosen}
 use Rattle.peer_table.specs.Rows.{Peers}
 use Rattle.peer_table.specs.Room.{makeRoom}
 use Rattle.peer_table.specs.RoomLaws.{sub-look, sub-makeRoom}
-use Rattle.peer_message_policy.specs.Policy.{Change, become, Turn, overflows, carriedOut, Update, banned, update, entryForUpdate, isBannedChange, disconnectedChange}
+use Rattle.peer_verdict.specs.Verdict.{overflows}
+use Rattle.peer_message_policy.specs.Policy.{Change, become, Turn, carriedOut, Update, banned, update, entryForUpdate, isBannedChange, disconnectedChange}
 use Rattle.peer_laws.specs.SoundLaws.{changedRows, turnOf}
 
 -- ════ Calls that do not judge the entry ═══════════════════════════════════════════════════════════

@@ -16,17 +16,17 @@ use Rattle.table.specs.LookLaws.{look-before, look-first, look-later, look-belo
 use Rattle.table.specs.PlaceLaws.{length-store-some, length-store-none}
 use Rattle.table.specs.Memory.{rows}
 use Rattle.table.specs.MemoryLaws.{length-rows}
-use Rattle.peer_verdict.specs.declared.config.PeerMessagePolicyConfig.{PeerMessagePolicyConfig}
-use Rattle.peer_verdict.specs.declared.entry.PeerMessagePolicyEntry.{PeerMessagePolicyEntry}
-use Rattle.peer_verdict.specs.declared.ingress.FiberIngressBudget.{FiberIngressBudget}
+use Rattle.peer_settings.specs.declared.config.PeerMessagePolicyConfig.{PeerMessagePolicyConfig}
+use Rattle.peer_state.specs.declared.entry.PeerMessagePolicyEntry.{PeerMessagePolicyEntry}
+use Rattle.peer_state.specs.declared.ingress.FiberIngressBudget.{FiberIngressBudget}
 use Rattle.peer_verdict.specs.declared.verdict.Cause.{Cause}
 use Rattle.peer_verdict.specs.declared.verdict.Cause.the-variants as Cause
 use Rattle.peer_verdict.specs.declared.verdict.Decision.{Decision}
-use Rattle.peer_verdict.specs.Config.{limit}
-use Rattle.peer_verdict.specs.Entry.{entrySound, entryIsBanned, entryIsSpent, entryExpireWindows, entryUsed}
-use Rattle.peer_verdict.specs.EntryLaws.{chosen, new-sound, expire-sound}
-use Rattle.peer_verdict.specs.Ingress.{ingressSound}
-use Rattle.peer_verdict.specs.Verdict.{judged, judgedInvalid}
+use Rattle.peer_settings.specs.Config.{limit}
+use Rattle.peer_state.specs.Entry.{entrySound, entryIsBanned, entryIsSpent, entryExpireWindows, entryUsed}
+use Rattle.peer_state.specs.EntryLaws.{chosen, new-sound, expire-sound}
+use Rattle.peer_state.specs.Ingress.{ingressSound}
+use Rattle.peer_verdict.specs.Verdict.{judged, judgedInvalid, overflows}
 use Rattle.peer_verdict.specs.VerdictLaws.{judged-sound, judged-invalid-sound, judged-load, noted-ways}
 use Rattle.peer_table.specs.Rows.{Peers, peerLayout}
 use Rattle.peer_table.specs.Room.{makeRoom}
@@ -40,7 +40,6 @@ use Rattle.peer_message_policy.specs.Policy.{
   same,
   become,
   Turn,
-  overflows,
   carriedOut,
   Update,
   banned,

@@ -14,12 +14,12 @@ use Rattle.table.specs.Memory.{rowOf, rows, laid, Holds}
 use Rattle.table.specs.TableLaws.{both-parts, Sub, done, keep, leave}
 use Rattle.table.specs.PlaceLaws.{at-key, at-store, at-erase, at-length-store, at-length-erase}
 use Rattle.table.specs.MemoryLaws.{AllFit, length-rows, key-rows, key-rowOf, fit-rows, rows-cons, holds, laid-rows, laid-laid, put-clear}
-use Rattle.peer_verdict.specs.declared.config.PeerMessagePolicyConfig.{PeerMessagePolicyConfig}
-use Rattle.peer_verdict.specs.declared.entry.PeerMessagePolicyEntry.{PeerMessagePolicyEntry}
-use Rattle.peer_verdict.specs.declared.entry.ViolationWindow.{ViolationWindow}
+use Rattle.peer_settings.specs.declared.config.PeerMessagePolicyConfig.{PeerMessagePolicyConfig}
+use Rattle.peer_state.specs.declared.entry.PeerMessagePolicyEntry.{PeerMessagePolicyEntry}
+use Rattle.peer_state.specs.declared.entry.ViolationWindow.{ViolationWindow}
 use Rattle.peer_verdict.specs.declared.verdict.Decision.{Decision}
-use Rattle.peer_verdict.specs.Config.{limit}
-use Rattle.peer_verdict.specs.Entry.{window, windowExpire, entryExpireWindows}
+use Rattle.peer_settings.specs.Config.{limit}
+use Rattle.peer_state.specs.Entry.{window, windowExpire, entryExpireWindows, sameCounts}
 use Rattle.peer_table.specs.Rows.{Peers, peerLayout}
 use Rattle.peer_table.specs.Peer.{peerRow}
 use Rattle.peer_table.specs.Room.{makeRoom}
@@ -29,7 +29,7 @@ use Rattle.peer_message_policy.specs.declared.policy.PeerMessagePolicy.{
 use Rattle.peer_message_policy.specs.declared.answer.Made.the-variants as Made
 use Rattle.peer_message_policy.specs.Policy.{rowsOf}
 use Rattle.peer_message_policy.specs.Calls.{fresh, newOutcome, NewMeets}
-use Rattle.peer_message_policy.specs.Carry.{Known, Unknown, Carried, Left, sameCounts}
+use Rattle.peer_message_policy.specs.Carry.{Known, Unknown, Carried, Left}
 use Rattle.peer_message_policy.proofs.Judged.{anyRow, entryAt, known-inside, rows-fit, few-rows, limit-fits, long-enough, too-short}
 
 holds-same : {s t : List ℕ} {n : ℕ} {rs qs : Peers} → rs ≡ qs → Holds peerLayout s t n rs → Holds peerLayout s t n qs

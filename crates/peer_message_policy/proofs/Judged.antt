@@ -17,16 +17,16 @@ use Rattle.table.specs.Memory.{rowOf}
 use Rattle.table.specs.TableLaws.{both, both-parts, every-at}
 use Rattle.table.specs.PlaceLaws.{Sought, at-is-not-unsound, gap-is-not-unsound, seek-sought, seek-unsound, at-inside, at-look, gap-look}
 use Rattle.table.specs.MemoryLaws.{length-rows, getD-rows}
-use Rattle.peer_verdict.specs.declared.config.PeerMessagePolicyConfig.{PeerMessagePolicyConfig}
-use Rattle.peer_verdict.specs.declared.entry.PeerMessagePolicyEntry.{PeerMessagePolicyEntry}
-use Rattle.peer_verdict.specs.Config.{limit}
-use Rattle.peer_verdict.specs.Entry.{entrySound, entryNew, entryIsSpent}
-use Rattle.peer_verdict.specs.EntryLaws.{chosen, new-sound}
+use Rattle.peer_settings.specs.declared.config.PeerMessagePolicyConfig.{PeerMessagePolicyConfig}
+use Rattle.peer_state.specs.declared.entry.PeerMessagePolicyEntry.{PeerMessagePolicyEntry}
+use Rattle.peer_settings.specs.Config.{limit}
+use Rattle.peer_state.specs.Entry.{entrySound, entryNew, entryIsSpent, entryToJudge}
+use Rattle.peer_state.specs.EntryLaws.{chosen, new-sound}
 use Rattle.peer_table.specs.Rows.{peerLayout}
 use Rattle.peer_message_policy.specs.declared.policy.PeerMessagePolicy.{PeerMessagePolicy}
 use Rattle.peer_message_policy.specs.Policy.{rowsOf, policySound, longEnough, rowsSound, sound}
 use Rattle.peer_message_policy.specs.Sought.{soughtIn}
-use Rattle.peer_message_policy.specs.Carry.{Known, Unknown, entryToJudge}
+use Rattle.peer_message_policy.specs.Carry.{Known, Unknown}
 
 -- ════ The record and the memory's length ══════════════════════════════════════════════════════════
 

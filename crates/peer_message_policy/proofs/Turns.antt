@@ -11,14 +11,14 @@ use Rattle.pubkey.specs.declared.Pubkey.{Pubkey}
 use Rattle.refusal.specs.Refusal.{unsound, overflow}
 use Rattle.table.specs.Table.{look, store, erase}
 use Rattle.table.specs.TableLaws.{true-is-not-false, both-parts}
-use Rattle.peer_verdict.specs.declared.config.PeerMessagePolicyConfig.{PeerMessagePolicyConfig}
-use Rattle.peer_verdict.specs.declared.entry.PeerMessagePolicyEntry.{PeerMessagePolicyEntry}
-use Rattle.peer_verdict.specs.declared.ingress.FiberIngressBudget.{FiberIngressBudget}
+use Rattle.peer_settings.specs.declared.config.PeerMessagePolicyConfig.{PeerMessagePolicyConfig}
+use Rattle.peer_state.specs.declared.entry.PeerMessagePolicyEntry.{PeerMessagePolicyEntry}
+use Rattle.peer_state.specs.declared.ingress.FiberIngressBudget.{FiberIngressBudget}
 use Rattle.peer_verdict.specs.declared.verdict.Cause.{Cause}
 use Rattle.peer_verdict.specs.declared.verdict.Cause.the-variants as Cause
 use Rattle.peer_verdict.specs.declared.verdict.Decision.{Decision}
-use Rattle.peer_verdict.specs.Entry.{entryNew, entryUsed, entryIsBanned, entryIsSpent, entryExpireWindows}
-use Rattle.peer_verdict.specs.Verdict.{judged, judgedInvalid}
+use Rattle.peer_state.specs.Entry.{entryNew, entryUsed, entryIsBanned, entryIsSpent, entryExpireWindows, entryToJudge}
+use Rattle.peer_verdict.specs.Verdict.{judged, judgedInvalid, overflows}
 use Rattle.peer_verdict.specs.VerdictLaws.{noted-ways}
 use Rattle.peer_table.specs.Rows.{Peers}
 use Rattle.peer_table.specs.Room.{makeRoom}
@@ -33,10 +33,10 @@ use Rattle.peer_message_policy.specs.declared.answer.Changed.{Changed}
 use Rattle.peer_message_policy.specs.declared.answer.Changed.the-variants as Changed
 use Rattle.peer_message_policy.specs.declared.answer.HeldTime.{HeldTime}
 use Rattle.peer_message_policy.specs.declared.answer.HeldTime.the-variants as HeldTime
-use Rattle.peer_message_policy.specs.Policy.{rowsOf, sound, overflows, carriedOut, update, entryForUpdate, admit, recordInvalid, isBannedChange, disconnectedChange}
+use Rattle.peer_message_policy.specs.Policy.{rowsOf, sound, carriedOut, update, entryForUpdate, admit, recordInvalid, isBannedChange, disconnectedChange}
 use Rattle.peer_message_policy.specs.Calls.{admissionOf, invalidOf, admitOutcome, AdmitMeets, recordInvalidOutcome, RecordInvalidMeets}
 use Rattle.peer_message_policy.specs.Calls.{isBannedOutcome, IsBannedMeets, onDisconnectedOutcome, OnDisconnectedMeets, HeldTimeMeets}
-use Rattle.peer_message_policy.specs.Carry.{Carried, Left, entryToJudge}
+use Rattle.peer_message_policy.specs.Carry.{Carried, Left}
 
 -- ════ What is judged ══════════════════════════════════════════════════════════════════════════════
 

@@ -10,8 +10,8 @@ use Rattle.pubkey.specs.declared.Pubkey.{Pubkey}
 use Rattle.refusal.specs.Refusal.{Said, gives, refused, tooShort, limitTooLarge, unsound, overflow}
 use Rattle.table.specs.Table.{look}
 use Rattle.table.specs.Memory.{Holds}
-use Rattle.peer_verdict.specs.declared.config.PeerMessagePolicyConfig.{PeerMessagePolicyConfig}
-use Rattle.peer_verdict.specs.declared.ingress.FiberIngressBudget.{FiberIngressBudget}
+use Rattle.peer_settings.specs.declared.config.PeerMessagePolicyConfig.{PeerMessagePolicyConfig}
+use Rattle.peer_state.specs.declared.ingress.FiberIngressBudget.{FiberIngressBudget}
 use Rattle.peer_message_policy.specs.declared.policy.PeerMessagePolicy.{PeerMessagePolicy}
 use Rattle.peer_verdict.specs.declared.verdict.Cause.{Cause}
 use Rattle.peer_verdict.specs.declared.verdict.Cause.the-variants as Cause
@@ -29,8 +29,8 @@ use Rattle.peer_message_policy.specs.declared.answer.InFlight.{InFlight}
 use Rattle.peer_message_policy.specs.declared.answer.InFlight.the-variants as InFlight
 use Rattle.peer_message_policy.specs.declared.answer.HeldTime.{HeldTime}
 use Rattle.peer_message_policy.specs.declared.answer.HeldTime.the-variants as HeldTime
-use Rattle.peer_verdict.specs.Config.{limit}
-use Rattle.peer_verdict.specs.Ingress.{inFlight, ingressReleased}
+use Rattle.peer_settings.specs.Config.{limit}
+use Rattle.peer_state.specs.Ingress.{inFlight, ingressReleased}
 use Rattle.peer_table.specs.Rows.{peerLayout}
 use Rattle.peer_message_policy.specs.Policy.{rowsOf, policySound, longEnough, sound, Change, same, become, Turn, admit, recordInvalid, isBanned, isBannedChange, disconnectedChange, heldTime}
 

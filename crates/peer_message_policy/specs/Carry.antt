@@ -1,16 +1,12 @@
 -- What the private functions of the calls promise each other. Definitions only.
 use mathlib.Core.Path.{_≡_}
-use mathlib.Core.Bool.{Bool, true, _&&_, cond}
+use mathlib.Core.Bool.{true}
 use mathlib.Core.List.{List}
 use Prim.Native.Nat.{ℕ}
-use lib.Dec.{eqb}
 use Rattle.table.specs.declared.seek.Seek.the-variants.{At, Gap}
 use Rattle.table.specs.Table.{placeFrom, store}
 use Rattle.table.specs.Memory.{Holds}
-use Rattle.peer_verdict.specs.declared.config.PeerMessagePolicyConfig.{PeerMessagePolicyConfig}
-use Rattle.peer_verdict.specs.declared.entry.PeerMessagePolicyEntry.{PeerMessagePolicyEntry}
 use Rattle.peer_verdict.specs.declared.verdict.Decision.{Decision}
-use Rattle.peer_verdict.specs.Entry.{entryNew, entryIsSpent}
 use Rattle.peer_table.specs.Rows.{Peers, peerLayout}
 use Rattle.peer_message_policy.specs.declared.policy.PeerMessagePolicy.{PeerMessagePolicy}
 use Rattle.peer_message_policy.specs.Policy.{rowsOf, sound, become}
@@ -25,16 +21,6 @@ pub record Known (p : PeerMessagePolicy) (s : List ℕ) (k : List ℕ) (i : ℕ)
 pub record Unknown (p : PeerMessagePolicy) (s : List ℕ) (k : List ℕ) (i : ℕ) : Type 0 where
   pub is-sound : sound p s ≡ true
   pub place : placeFrom 0 k (rowsOf p s) ≡ Gap i
-
--- the entry that a known peer's message is judged on: a spent ban drops it, and it is made anew
-abbrev pub entryToJudge : PeerMessagePolicyConfig → PeerMessagePolicyEntry → ℕ → PeerMessagePolicyEntry
-entryToJudge c e now = cond (entryIsSpent e now) (entryNew c now) e
-
--- whether two entries count as many violations, of each kind
-abbrev pub sameCounts : PeerMessagePolicyEntry → PeerMessagePolicyEntry → Bool
-sameCounts a b =
-    eqb (a .«rate_limit_violations» .count) (b .«rate_limit_violations» .count)
-    && eqb (a .«invalid_messages» .count) (b .«invalid_messages» .count)
 
 -- a decision is carried out: its entry is stored among these rows, and the policy goes on with its load in flight
 pub record Carried (p : PeerMessagePolicy) (s : List ℕ) (k : List ℕ) (rs : Peers) (d : Decision) (q : PeerMessagePolicy) (t : List ℕ) : Type 0 where

@@ -1,5 +1,5 @@
 -- PeerMessagePolicy of peer_message_policy.rs, on settings, the load in flight and a list of rows. Definitions only.
-use mathlib.Core.Bool.{Bool, true, false, _&&_, _||_, cond}
+use mathlib.Core.Bool.{Bool, false, _&&_, _||_, cond}
 use mathlib.Core.List.{List}
 use mathlib.Core.Option.{Option, none, some}
 use Prim.Native.Nat.{ℕ, _*_, max}
@@ -7,15 +7,15 @@ use lib.Dec.{leb}
 use lib.ListN.{length}
 use Rattle.table.specs.Table.{Row, every, ascending, look, store, erase}
 use Rattle.table.specs.Memory.{rows}
-use Rattle.peer_verdict.specs.declared.config.PeerMessagePolicyConfig.{PeerMessagePolicyConfig}
-use Rattle.peer_verdict.specs.declared.entry.PeerMessagePolicyEntry.{PeerMessagePolicyEntry}
-use Rattle.peer_verdict.specs.declared.ingress.FiberIngressBudget.{FiberIngressBudget}
+use Rattle.peer_settings.specs.declared.config.PeerMessagePolicyConfig.{PeerMessagePolicyConfig}
+use Rattle.peer_state.specs.declared.entry.PeerMessagePolicyEntry.{PeerMessagePolicyEntry}
+use Rattle.peer_state.specs.declared.ingress.FiberIngressBudget.{FiberIngressBudget}
 use Rattle.peer_verdict.specs.declared.verdict.Cause.{Cause}
 use Rattle.peer_verdict.specs.declared.verdict.Cause.the-variants as Cause
 use Rattle.peer_verdict.specs.declared.verdict.Decision.{Decision}
-use Rattle.peer_verdict.specs.Config.{unlimited, limit}
-use Rattle.peer_verdict.specs.Entry.{entrySound, entryNew, entryIsBanned, entryIsSpent, entryExpireWindows}
-use Rattle.peer_verdict.specs.Verdict.{judged, judgedInvalid}
+use Rattle.peer_settings.specs.Config.{unlimited, limit}
+use Rattle.peer_state.specs.Entry.{entrySound, entryNew, entryIsBanned, entryIsSpent, entryExpireWindows}
+use Rattle.peer_verdict.specs.Verdict.{judged, judgedInvalid, overflows}
 use Rattle.peer_table.specs.Rows.{Peers, peerLayout}
 use Rattle.peer_table.specs.Room.{makeRoom}
 use Rattle.peer_message_policy.specs.declared.policy.PeerMessagePolicy.{PeerMessagePolicy}
@@ -59,17 +59,6 @@ pub record Turn : Type 0 where
   pub cause : Cause
   pub ingress : FiberIngressBudget
   pub change : Change
-
--- whether the decision is refusal 4: it would be an Allow, and the numbers in flight have no room
-abbrev pub overflows : Cause → Bool
-overflows Cause.Allowed = false
-overflows Cause.MessagesShort = false
-overflows (Cause.BytesShort k) = false
-overflows Cause.NoSlot = false
-overflows (Cause.CeilingShort k) = false
-overflows Cause.LiveBan = false
-overflows Cause.BanBegun = false
-overflows Cause.Overflow = true
 
 -- insert_entry, with the load in flight; refusal 4 undoes everything
 unfoldable pub carriedOut : FiberIngressBudget → List ℕ → Peers → Decision → Turn

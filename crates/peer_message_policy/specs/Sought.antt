@@ -6,7 +6,7 @@ use Prim.Native.Nat.{ℕ}
 use Rattle.table.specs.declared.seek.Seek.{Seek}
 use Rattle.table.specs.declared.seek.Seek.the-variants.{Unsound}
 use Rattle.table.specs.Table.{seek}
-use Rattle.peer_verdict.specs.Entry.{entrySound}
+use Rattle.peer_state.specs.Entry.{entrySound}
 use Rattle.peer_message_policy.specs.declared.policy.PeerMessagePolicy.{PeerMessagePolicy}
 use Rattle.peer_message_policy.specs.Policy.{rowsOf, policySound, longEnough}
 

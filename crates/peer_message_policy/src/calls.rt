@@ -10,7 +10,7 @@ use super::answer::Standing;
 use super::carry;
 use super::judge;
 use super::policy::PeerMessagePolicy;
-use peer_verdict::entry::PeerMessagePolicyEntry;
+use peer_state::entry::PeerMessagePolicyEntry;
 use pubkey::Pubkey;
 use table::seek::Seek;
 
@@ -48,10 +48,10 @@ fn admit_known(
     if entry.is_banned(now_ms) {
         return PeerMessageAdmission::Ban(p);
     }
-    let judged = carry::entry_to_judge(config, entry, now_ms);
+    let judged = peer_state::entry::entry_to_judge(config, entry, now_ms);
     let d = peer_verdict::verdict::judged(config, ingress, judged, bytes, now_ms);
     let cause = d.cause;
-    if carry::overflows(cause) {
+    if peer_verdict::verdict::overflows(cause) {
         return PeerMessageAdmission::Refused(refusal::OVERFLOW);
     }
     carry::admission_of(carry::store_known(p, table, peer, index, d), cause)
@@ -73,7 +73,7 @@ fn admit_new(
     let entry = PeerMessagePolicyEntry::new(now_ms, config);
     let d = peer_verdict::verdict::judged(config, ingress, entry, bytes, now_ms);
     let cause = d.cause;
-    if carry::overflows(cause) {
+    if peer_verdict::verdict::overflows(cause) {
         return PeerMessageAdmission::Refused(refusal::OVERFLOW);
     }
     carry::admission_of(carry::store_new(p, table, peer, gap, d, now_ms), cause)
@@ -111,7 +111,7 @@ fn invalid_known(
     if entry.is_banned(now_ms) {
         return Invalid::Banned(p);
     }
-    let judged = carry::entry_to_judge(config, entry, now_ms);
+    let judged = peer_state::entry::entry_to_judge(config, entry, now_ms);
     let d = peer_verdict::verdict::judged_invalid(config, ingress, judged, now_ms);
     let cause = d.cause;
     carry::invalid_of(carry::store_known(p, table, peer, index, d), cause)

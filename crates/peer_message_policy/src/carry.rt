@@ -1,41 +1,22 @@
 // Carrying a decision out: its entry is stored, and the policy goes on with its load in flight.
 ghost use mathlib.Core.Path.{_≡_};
-ghost use mathlib.Core.Bool.{true, false};
-ghost use Rattle.peer_message_policy.specs.Policy.{overflows};
 ghost use Rattle.peer_message_policy.specs.Calls.{admissionOf, invalidOf};
 ghost use Rattle.table.specs.Table.{store, erase};
-ghost use Rattle.peer_message_policy.specs.Carry.{Known, Unknown, Carried, Left, entryToJudge, sameCounts};
+ghost use Rattle.peer_message_policy.specs.Carry.{Known, Unknown, Carried, Left};
 ghost use Prim.Native.Nat.{_*_};
 ghost use Rattle.lent_bytes.specs.LentBytes.{part};
 ghost use Rattle.table.specs.Memory.{rowOf};
-ghost use Rattle.peer_verdict.specs.Entry.{entryExpireWindows};
+ghost use Rattle.peer_state.specs.Entry.{entryExpireWindows};
 ghost use Rattle.peer_table.specs.Rows.{peerLayout};
 ghost use Rattle.peer_table.specs.Room.{makeRoom};
 ghost use Rattle.peer_message_policy.specs.Policy.{rowsOf};
 use super::answer::Invalid;
 use super::answer::PeerMessageAdmission;
 use super::policy::PeerMessagePolicy;
-use peer_verdict::config::PeerMessagePolicyConfig;
-use peer_verdict::entry::PeerMessagePolicyEntry;
+use peer_state::entry::PeerMessagePolicyEntry;
 use peer_verdict::verdict::Cause;
 use peer_verdict::verdict::Decision;
 use pubkey::Pubkey;
-
-// Whether the decision is refusal 4.
-pub(crate) fn overflows(cause: Cause) -> bool
-    ensures { λ r. ⌜ r ≡ overflows cause ⌝ }
-{
-    match cause {
-        Cause::Allowed => false,
-        Cause::MessagesShort => false,
-        Cause::BytesShort(_) => false,
-        Cause::NoSlot => false,
-        Cause::CeilingShort(_) => false,
-        Cause::LiveBan => false,
-        Cause::BanBegun => false,
-        Cause::Overflow => true,
-    }
-}
 
 // The public answer merges the causes.
 pub(crate) fn admission_of(p: PeerMessagePolicy, cause: Cause) -> PeerMessageAdmission
@@ -67,20 +48,6 @@ pub(crate) fn invalid_of(p: PeerMessagePolicy, cause: Cause) -> Invalid
         Cause::BanBegun => Invalid::Banned(p),
         Cause::Overflow => Invalid::Noted(p),
     }
-}
-
-// The entry that a known peer's message is judged on: a spent ban drops it, and it is made anew.
-pub(crate) fn entry_to_judge(
-    config: PeerMessagePolicyConfig,
-    entry: PeerMessagePolicyEntry,
-    now_ms: u64,
-) -> PeerMessagePolicyEntry
-    ensures { λ r. ⌜ r ≡ entryToJudge config entry «now_ms» ⌝ }
-{
-    if entry.is_spent(now_ms) {
-        return PeerMessagePolicyEntry::new(now_ms, config);
-    }
-    entry
 }
 
 // Stores the decided entry of a peer that has a row. The peer is named for the contract: its key stands in the row already.
@@ -149,25 +116,6 @@ pub(crate) fn drop_known(
     }
 }
 
-// Whether two entries count as many violations, of each kind.
-fn same_counts(a: PeerMessagePolicyEntry, b: PeerMessagePolicyEntry) -> bool
-    ensures { λ r. ⌜ r ≡ sameCounts a b ⌝ }
-{
-    a.rate_limit_violations.count == b.rate_limit_violations.count
-        && a.invalid_messages.count == b.invalid_messages.count
-}
-
-// The entry of a peer that has gone: its windows expire, and its last use stays.
-fn entry_left(
-    config: PeerMessagePolicyConfig,
-    entry: PeerMessagePolicyEntry,
-    now_ms: u64,
-) -> PeerMessagePolicyEntry
-    ensures { λ r. ⌜ r ≡ entryExpireWindows entry «now_ms» (config .«ban_duration_ms») ⌝ }
-{
-    entry.expire_violation_windows(now_ms, config.ban_duration_ms)
-}
-
 // Lets the violation windows of a known peer's entry expire. A row that this leaves as it is, is not written: a window that
 // expires loses its count.
 pub(crate) fn expire_known(
@@ -183,8 +131,8 @@ pub(crate) fn expire_known(
     ensures { λ r. ⌜ Left p (now (table .entry)) (store (peer .bytes) (entryExpireWindows entry «now_ms» (p .config .«ban_duration_ms»)) (rowsOf p (now (table .entry)))) r (now (table .exit)) ⌝ }
 {
     let config = p.config;
-    let expired = entry_left(config, entry, now_ms);
-    if same_counts(expired, entry) {
+    let expired = peer_state::entry::entry_left(config, entry, now_ms);
+    if peer_state::entry::same_counts(expired, entry) {
         return p;
     }
     peer_table::places::overwrite_at(table, p.rows as usize, index, expired);

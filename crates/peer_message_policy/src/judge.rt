@@ -3,7 +3,7 @@ ghost use mathlib.Core.Path.{_≡_};
 ghost use Rattle.peer_message_policy.specs.Policy.{policySound};
 ghost use Rattle.peer_message_policy.specs.Sought.{soughtIn};
 use super::policy::PeerMessagePolicy;
-use peer_verdict::config::PeerMessagePolicyConfig;
+use peer_settings::config::PeerMessagePolicyConfig;
 use pubkey::Pubkey;
 use table::seek::Seek;
 

@@ -1,6 +1,6 @@
 // The policy by value, and how one is made.
 ghost use mathlib.Core.Path.{_≡_};
-ghost use Rattle.peer_verdict.specs.Config.{configDefault, configWithLimits};
+ghost use Rattle.peer_settings.specs.Config.{configDefault, configWithLimits};
 ghost use Rattle.peer_message_policy.specs.Calls.{NewMeets, AdmitMeets, RecordInvalidMeets, IsBannedMeets, OnDisconnectedMeets, ReleaseIngressMeets, InFlightMeets, HeldTimeMeets};
 use super::answer::Changed;
 use super::answer::HeldTime;
@@ -11,8 +11,8 @@ use super::answer::PeerMessageAdmission;
 use super::answer::Standing;
 use super::calls;
 use super::judge;
-use peer_verdict::config::PeerMessagePolicyConfig;
-use peer_verdict::ingress::FiberIngressBudget;
+use peer_settings::config::PeerMessagePolicyConfig;
+use peer_state::ingress::FiberIngressBudget;
 use pubkey::Pubkey;
 
 // Settings, the load in flight over all peers, and how many rows of the lent memory are in use.

@@ -12,7 +12,7 @@ use Rattle.table.specs.Memory.{wordBytes, rowBytes, rowOf, rows, Holds}
 use Rattle.table.specs.PlaceLaws.{at-inside, at-key, at-store, at-length-store, gap-inside, gap-store, gap-length-store}
 use Rattle.table.specs.MemoryLaws.{AllFit, Fit, length-rows, fit-rows, fit-append, fit-take, fit-drop, fit-insertAt, fit-removeAt}
 use Rattle.table.specs.MemoryLaws.{put-remove, put-insert, put-entry, holds, key-rows, laid-rows}
-use Rattle.peer_verdict.specs.declared.entry.PeerMessagePolicyEntry.{PeerMessagePolicyEntry}
+use Rattle.peer_state.specs.declared.entry.PeerMessagePolicyEntry.{PeerMessagePolicyEntry}
 use Rattle.peer_table.specs.Rows.{entryWords, Peers, peerLayout}
 use Rattle.peer_table.specs.Peer.{peerRow}
 use Rattle.peer_table.specs.RowsLaws.{EntryFits, peer-faithful, fit-peerRow}

@@ -18,9 +18,9 @@ use Rattle.table.specs.TableLaws.{second-fails, below-inside, below-end, sound-
 use Rattle.table.specs.PlaceLaws.{search-ends, search-before, search-finds, search-goes-on, seek-sound, seek-unsound}
 use Rattle.table.specs.LeastLaws.{least-ends, least-goes-on}
 use Rattle.table.specs.MemoryLaws.{length-rows, getD-rows, rows-cons, key-rows, key-rowOf}
-use Rattle.peer_verdict.specs.declared.config.PeerMessagePolicyConfig.{PeerMessagePolicyConfig}
-use Rattle.peer_verdict.specs.declared.entry.PeerMessagePolicyEntry.{PeerMessagePolicyEntry}
-use Rattle.peer_verdict.specs.Entry.{entrySound}
+use Rattle.peer_settings.specs.declared.config.PeerMessagePolicyConfig.{PeerMessagePolicyConfig}
+use Rattle.peer_state.specs.declared.entry.PeerMessagePolicyEntry.{PeerMessagePolicyEntry}
+use Rattle.peer_state.specs.Entry.{entrySound}
 use Rattle.peer_table.specs.Rows.{Peers, peerLayout}
 use Rattle.peer_table.specs.RowsLaws.{peer-faithful}
 use Rattle.peer_table.specs.First.{measureBy}

@@ -13,8 +13,8 @@ use Rattle.table.specs.Memory.{rowOf, rows, tableBytes, Holds}
 use Rattle.table.specs.TableLaws.{by-test}
 use Rattle.table.specs.RetainLaws.{retain-keeps, retain-drops, retain-ends, length-retain-tried}
 use Rattle.table.specs.MemoryLaws.{AllFit, length-rows, getD-rows, fit-rows, fit-take, fit-retain, part-kept, put-kept, put-retained, holds}
-use Rattle.peer_verdict.specs.declared.entry.PeerMessagePolicyEntry.{PeerMessagePolicyEntry}
-use Rattle.peer_verdict.specs.Entry.{entryIsSpent}
+use Rattle.peer_state.specs.declared.entry.PeerMessagePolicyEntry.{PeerMessagePolicyEntry}
+use Rattle.peer_state.specs.Entry.{entryIsSpent}
 use Rattle.peer_table.specs.Rows.{Peers, peerLayout}
 use Rattle.peer_table.specs.RowsLaws.{EntryFits, peer-faithful}
 use Rattle.peer_table.specs.Room.{pruneExpiredBans}

@@ -11,8 +11,8 @@ use Rattle.table.specs.Memory.{rowOf, rows, Holds}
 use Rattle.table.specs.LeastLaws.{least-found}
 use Rattle.table.specs.PlaceLaws.{length-removeAt}
 use Rattle.table.specs.MemoryLaws.{length-rows}
-use Rattle.peer_verdict.specs.declared.config.PeerMessagePolicyConfig.{PeerMessagePolicyConfig}
-use Rattle.peer_verdict.specs.Config.{limit}
+use Rattle.peer_settings.specs.declared.config.PeerMessagePolicyConfig.{PeerMessagePolicyConfig}
+use Rattle.peer_settings.specs.Config.{limit}
 use Rattle.peer_table.specs.Rows.{Peers, peerLayout}
 use Rattle.peer_table.specs.First.{measureBy}
 use Rattle.peer_table.specs.Room.{pruneExpiredBans, ordinaryLru, bannedExpirations, evict, makeRoom}

@@ -3,7 +3,7 @@ use mathlib.Core.Bool.{Bool, true, false}
 use mathlib.Core.Option.{Option, none, some}
 use Prim.Native.Nat.{ℕ}
 use Rattle.table.specs.Table.{Best, nothing, best}
-use Rattle.peer_verdict.specs.declared.entry.PeerMessagePolicyEntry.{PeerMessagePolicyEntry}
+use Rattle.peer_state.specs.declared.entry.PeerMessagePolicyEntry.{PeerMessagePolicyEntry}
 use Rattle.peer_table.specs.declared.first.First.{First}
 use Rattle.peer_table.specs.declared.first.First.the-variants.{Nothing, At}
 use Rattle.peer_table.specs.declared.first.Measure.{Measure}

@@ -3,8 +3,8 @@ use mathlib.Core.List.{List}
 use Prim.Native.Nat.{ℕ, _+_, _*_}
 use lib.ListN.{getD}
 use Rattle.table.specs.Table.{Row}
-use Rattle.peer_verdict.specs.declared.entry.Ban.{Ban}
-use Rattle.peer_verdict.specs.declared.entry.PeerMessagePolicyEntry.{PeerMessagePolicyEntry}
+use Rattle.peer_state.specs.declared.entry.Ban.{Ban}
+use Rattle.peer_state.specs.declared.entry.PeerMessagePolicyEntry.{PeerMessagePolicyEntry}
 
 -- the row of a peer
 abbrev pub peerRow : List ℕ → PeerMessagePolicyEntry → Row PeerMessagePolicyEntry

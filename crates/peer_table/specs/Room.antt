@@ -5,10 +5,10 @@ use Prim.Native.Nat.{ℕ}
 use lib.Dec.{ltb, eqb}
 use lib.ListN.{length}
 use Rattle.table.specs.Table.{Best, nothing, best, leastFrom, retain, removeAt}
-use Rattle.peer_verdict.specs.declared.config.PeerMessagePolicyConfig.{PeerMessagePolicyConfig}
-use Rattle.peer_verdict.specs.declared.entry.PeerMessagePolicyEntry.{PeerMessagePolicyEntry}
-use Rattle.peer_verdict.specs.Config.{limit}
-use Rattle.peer_verdict.specs.Entry.{entryIsSpent}
+use Rattle.peer_settings.specs.declared.config.PeerMessagePolicyConfig.{PeerMessagePolicyConfig}
+use Rattle.peer_state.specs.declared.entry.PeerMessagePolicyEntry.{PeerMessagePolicyEntry}
+use Rattle.peer_settings.specs.Config.{limit}
+use Rattle.peer_state.specs.Entry.{entryIsSpent}
 use Rattle.peer_table.specs.Rows.{Peers}
 
 -- prune_expired_bans: all spent bans go

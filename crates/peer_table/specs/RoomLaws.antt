@@ -19,10 +19,10 @@ use Rattle.table.specs.LeastLaws.{least-found, least-nothing}
 use Rattle.table.specs.PlaceLaws.{length-removeAt}
 use Rattle.table.specs.Memory.{Layout}
 use Rattle.table.specs.MemoryLaws.{AllFit}
-use Rattle.peer_verdict.specs.declared.config.PeerMessagePolicyConfig.{PeerMessagePolicyConfig}
-use Rattle.peer_verdict.specs.declared.entry.PeerMessagePolicyEntry.{PeerMessagePolicyEntry}
-use Rattle.peer_verdict.specs.Config.{limit}
-use Rattle.peer_verdict.specs.Entry.{entryIsSpent}
+use Rattle.peer_settings.specs.declared.config.PeerMessagePolicyConfig.{PeerMessagePolicyConfig}
+use Rattle.peer_state.specs.declared.entry.PeerMessagePolicyEntry.{PeerMessagePolicyEntry}
+use Rattle.peer_settings.specs.Config.{limit}
+use Rattle.peer_state.specs.Entry.{entryIsSpent}
 use Rattle.peer_table.specs.Rows.{Peers, peerLayout}
 use Rattle.peer_table.specs.RowsLaws.{EntryFits}
 use Rattle.peer_table.specs.Room.{pruneExpiredBans, ordinaryLru, bannedExpirations, evict, makeRoom}

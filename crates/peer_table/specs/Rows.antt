@@ -3,8 +3,8 @@ use mathlib.Core.List.{List, [], _∷_}
 use Prim.Native.Nat.{ℕ}
 use Rattle.table.specs.Table.{Row}
 use Rattle.table.specs.Memory.{Layout, wordBytes, wordOf}
-use Rattle.peer_verdict.specs.declared.entry.PeerMessagePolicyEntry.{PeerMessagePolicyEntry}
-use Rattle.peer_verdict.specs.Entry.{level, window}
+use Rattle.peer_state.specs.declared.entry.PeerMessagePolicyEntry.{PeerMessagePolicyEntry}
+use Rattle.peer_state.specs.Entry.{level, window}
 
 -- the eleven numbers of an entry, in the order of the row
 unfoldable pub entryWords : PeerMessagePolicyEntry → List ℕ

@@ -12,9 +12,9 @@ use Rattle.lent_bytes.specs.LentBytesLaws.{drop-part, part-part}
 use Rattle.table.specs.Memory.{wordBytes, wordOf, words, rowOf, laid, Holds}
 use Rattle.table.specs.MemoryLaws.{AllFit, laid-laid}
 use Rattle.table.specs.MemoryLaws.{Words, Faithful, Fit, length-wordBytes, Bytes-wordBytes, wordOf-wordBytes, wordBytes-all, wordOf-lt}
-use Rattle.peer_verdict.specs.declared.config.PeerMessagePolicyConfig.{PeerMessagePolicyConfig}
-use Rattle.peer_verdict.specs.declared.entry.PeerMessagePolicyEntry.{PeerMessagePolicyEntry}
-use Rattle.peer_verdict.specs.Entry.{level, window, entrySound, entryIsSpent}
+use Rattle.peer_settings.specs.declared.config.PeerMessagePolicyConfig.{PeerMessagePolicyConfig}
+use Rattle.peer_state.specs.declared.entry.PeerMessagePolicyEntry.{PeerMessagePolicyEntry}
+use Rattle.peer_state.specs.Entry.{level, window, entrySound, entryIsSpent}
 use Rattle.peer_table.specs.Rows.{entryWords, entryOf, peerLayout, Peers}
 use Rattle.peer_table.specs.Peer.{peerRow, ban}
 

@@ -11,7 +11,7 @@ ghost use Rattle.peer_table.specs.Rows.{peerLayout};
 ghost use Rattle.peer_table.specs.Peer.{peerRow};
 use super::row::words_of;
 use super::walk::place_of;
-use peer_verdict::entry::PeerMessagePolicyEntry;
+use peer_state::entry::PeerMessagePolicyEntry;
 use pubkey::Pubkey;
 use table::seek::Seek;
 

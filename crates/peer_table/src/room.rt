@@ -5,8 +5,8 @@ ghost use Prim.Native.Nat.{_+_, _*_, _<_, _≤_};
 ghost use lib.ListN.{length};
 ghost use Rattle.lent_bytes.specs.LentBytes.{part, put};
 ghost use Rattle.table.specs.Memory.{rowOf, rows, tableBytes, Holds};
-ghost use Rattle.peer_verdict.specs.Config.{limit};
-ghost use Rattle.peer_verdict.specs.Entry.{entryIsSpent};
+ghost use Rattle.peer_settings.specs.Config.{limit};
+ghost use Rattle.peer_state.specs.Entry.{entryIsSpent};
 ghost use Rattle.peer_table.specs.Rows.{peerLayout};
 ghost use Rattle.peer_table.specs.Room.{pruneExpiredBans, makeRoom};
 ghost use Rattle.peer_table.specs.Room.{evict as evicted};
@@ -14,7 +14,7 @@ use super::first::First;
 use super::first::find_first;
 use super::places::remove_at;
 use super::row::row_spent;
-use peer_verdict::config::PeerMessagePolicyConfig;
+use peer_settings::config::PeerMessagePolicyConfig;
 
 // One step of the walk that keeps rows: the row at the index `from` moves down to `to`, unless its ban is over. Answers where the
 // next one goes.

@@ -7,15 +7,15 @@ ghost use lib.Dec.{eqb};
 ghost use lib.ListN.{length};
 ghost use Rattle.lent_bytes.specs.LentBytes.{part, le};
 ghost use Rattle.table.specs.Memory.{rowOf};
-ghost use Rattle.peer_verdict.specs.Entry.{level, window, entrySound, entryIsSpent};
+ghost use Rattle.peer_state.specs.Entry.{level, window, entrySound, entryIsSpent};
 ghost use Rattle.peer_table.specs.Rows.{entryWords, peerLayout};
 ghost use Rattle.peer_table.specs.Peer.{ban};
 use lent_bytes::number::get_u64;
-use peer_verdict::config::PeerMessagePolicyConfig;
-use peer_verdict::entry::Ban;
-use peer_verdict::entry::Level;
-use peer_verdict::entry::PeerMessagePolicyEntry;
-use peer_verdict::entry::ViolationWindow;
+use peer_settings::config::PeerMessagePolicyConfig;
+use peer_state::entry::Ban;
+use peer_state::entry::Level;
+use peer_state::entry::PeerMessagePolicyEntry;
+use peer_state::entry::ViolationWindow;
 
 // What a bucket holds, read at the place.
 fn level_at(table: &[u8], at: usize) -> Level

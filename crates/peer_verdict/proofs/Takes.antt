@@ -7,10 +7,10 @@ use lib.IntN.{pos}
 use Rattle.amount.specs.Amount.{value, natural}
 use Rattle.token_bucket.specs.declared.bytes.ByteConsumed.{ByteConsumed}
 use Rattle.token_bucket.specs.TokenBucket.{byteLevel, ByteTryConsumeMeets}
-use Rattle.peer_verdict.specs.declared.config.PeerMessagePolicyConfig.{PeerMessagePolicyConfig}
-use Rattle.peer_verdict.specs.declared.entry.Level.{Level}
+use Rattle.peer_settings.specs.declared.config.PeerMessagePolicyConfig.{PeerMessagePolicyConfig}
+use Rattle.peer_state.specs.declared.entry.Level.{Level}
 use Rattle.peer_verdict.specs.declared.verdict.Take.{Take}
-use Rattle.peer_verdict.specs.Config.{bytesOf}
+use Rattle.peer_settings.specs.Config.{bytesOf}
 use Rattle.peer_verdict.specs.Verdict.{bytesTaken, takeBytes}
 use Rattle.peer_verdict.specs.TakeLaws.{level-sound, bytes-level}
 

@@ -18,12 +18,12 @@ use Rattle.token_bucket.specs.declared.discrete.DiscreteConsumed.{DiscreteConsu
 use Rattle.token_bucket.specs.declared.bytes.ByteTokenBucket.{ByteTokenBucket}
 use Rattle.token_bucket.specs.declared.bytes.ByteConsumed.{ByteConsumed}
 use Rattle.token_bucket.specs.TokenBucket.{discreteRefill, discreteTake, discreteTryConsume, byteDisabled, byteSound, byteLevel, byteRefill, byteDeficit, byteTake, byteTryConsume}
-use Rattle.peer_verdict.specs.declared.config.PeerMessagePolicyConfig.{PeerMessagePolicyConfig}
-use Rattle.peer_verdict.specs.declared.entry.Level.{Level}
+use Rattle.peer_settings.specs.declared.config.PeerMessagePolicyConfig.{PeerMessagePolicyConfig}
+use Rattle.peer_state.specs.declared.entry.Level.{Level}
 use Rattle.peer_verdict.specs.declared.verdict.Take.{Take}
-use Rattle.peer_verdict.specs.Config.{messageLimitDisabled, bytesOf}
+use Rattle.peer_settings.specs.Config.{messageLimitDisabled, bytesOf}
 use Rattle.peer_verdict.specs.Verdict.{shortOf, messageBucket, takeMessage, takeBytes}
-use Rattle.peer_verdict.specs.EntryLaws.{chosen}
+use Rattle.peer_state.specs.EntryLaws.{chosen}
 
 -- ════ The message bucket ══════════════════════════════════════════════════════════════════════════
 

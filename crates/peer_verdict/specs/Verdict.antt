@@ -1,5 +1,5 @@
 -- What admit and record_invalid decide on one entry: pure, on values. Definitions only.
-use mathlib.Core.Bool.{Bool, _&&_, not, cond}
+use mathlib.Core.Bool.{Bool, true, false, _&&_, not, cond}
 use Prim.Native.Nat.{ℕ}
 use lib.Dec.{leb}
 use lib.IntN.{pos}
@@ -10,20 +10,20 @@ use Rattle.token_bucket.specs.declared.discrete.DiscreteTokenBucket.{DiscreteTo
 use Rattle.token_bucket.specs.declared.discrete.DiscreteConsumed.{DiscreteConsumed}
 use Rattle.token_bucket.specs.declared.bytes.ByteConsumed.{ByteConsumed}
 use Rattle.token_bucket.specs.TokenBucket.{discreteTryConsume, byteLevel, byteTryConsume}
-use Rattle.peer_verdict.specs.declared.config.PeerMessagePolicyConfig.{PeerMessagePolicyConfig}
-use Rattle.peer_verdict.specs.declared.entry.Level.{Level}
-use Rattle.peer_verdict.specs.declared.entry.ViolationWindow.{ViolationWindow}
-use Rattle.peer_verdict.specs.declared.entry.PeerMessagePolicyEntry.{PeerMessagePolicyEntry}
-use Rattle.peer_verdict.specs.declared.ingress.FiberIngressBudget.{FiberIngressBudget}
-use Rattle.peer_verdict.specs.declared.ingress.Room.{Room}
-use Rattle.peer_verdict.specs.declared.ingress.Room.the-variants as Room
+use Rattle.peer_settings.specs.declared.config.PeerMessagePolicyConfig.{PeerMessagePolicyConfig}
+use Rattle.peer_state.specs.declared.entry.Level.{Level}
+use Rattle.peer_state.specs.declared.entry.ViolationWindow.{ViolationWindow}
+use Rattle.peer_state.specs.declared.entry.PeerMessagePolicyEntry.{PeerMessagePolicyEntry}
+use Rattle.peer_state.specs.declared.ingress.FiberIngressBudget.{FiberIngressBudget}
+use Rattle.peer_state.specs.declared.ingress.Room.{Room}
+use Rattle.peer_state.specs.declared.ingress.Room.the-variants as Room
 use Rattle.peer_verdict.specs.declared.verdict.Cause.{Cause}
 use Rattle.peer_verdict.specs.declared.verdict.Cause.the-variants as Cause
 use Rattle.peer_verdict.specs.declared.verdict.Decision.{Decision}
 use Rattle.peer_verdict.specs.declared.verdict.Take.{Take}
-use Rattle.peer_verdict.specs.Config.{messageLimitDisabled, banDisabled, bytesOf}
-use Rattle.peer_verdict.specs.Entry.{level, windowRecord, entryBan, entryUsed}
-use Rattle.peer_verdict.specs.Ingress.{tryReserve}
+use Rattle.peer_settings.specs.Config.{messageLimitDisabled, banDisabled, bytesOf}
+use Rattle.peer_state.specs.Entry.{level, windowRecord, entryBan, entryUsed}
+use Rattle.peer_state.specs.Ingress.{tryReserve}
 
 -- ════ The two buckets, on copies ══════════════════════════════════════════════════════════════════
 
@@ -146,3 +146,14 @@ noted c i e now =
 -- record_invalid on an entry that is not banned
 unfoldable pub judgedInvalid : PeerMessagePolicyConfig → FiberIngressBudget → PeerMessagePolicyEntry → ℕ → Decision
 judgedInvalid c i e now = noted c i (entryUsed e now (c .«ban_duration_ms»)) now
+
+-- whether the decision is refusal 4: it would be an Allow, and the numbers in flight have no room
+abbrev pub overflows : Cause → Bool
+overflows Cause.Allowed = false
+overflows Cause.MessagesShort = false
+overflows (Cause.BytesShort k) = false
+overflows Cause.NoSlot = false
+overflows (Cause.CeilingShort k) = false
+overflows Cause.LiveBan = false
+overflows Cause.BanBegun = false
+overflows Cause.Overflow = true

@@ -5,19 +5,19 @@ use Prim.Native.Nat.{ℕ, _≤_}
 use native.Mathlib.Omega.{arith}
 use borrow.Author.Tests.{leb-true, leb-false, not-true}
 use lib.Dec.{leb}
-use Rattle.peer_verdict.specs.declared.config.PeerMessagePolicyConfig.{PeerMessagePolicyConfig}
-use Rattle.peer_verdict.specs.declared.entry.Level.{Level}
-use Rattle.peer_verdict.specs.declared.entry.ViolationWindow.{ViolationWindow}
-use Rattle.peer_verdict.specs.declared.entry.PeerMessagePolicyEntry.{PeerMessagePolicyEntry}
-use Rattle.peer_verdict.specs.declared.ingress.FiberIngressBudget.{FiberIngressBudget}
-use Rattle.peer_verdict.specs.declared.ingress.Room.{Room}
-use Rattle.peer_verdict.specs.declared.ingress.Room.the-variants as Room
+use Rattle.peer_settings.specs.declared.config.PeerMessagePolicyConfig.{PeerMessagePolicyConfig}
+use Rattle.peer_state.specs.declared.entry.Level.{Level}
+use Rattle.peer_state.specs.declared.entry.ViolationWindow.{ViolationWindow}
+use Rattle.peer_state.specs.declared.entry.PeerMessagePolicyEntry.{PeerMessagePolicyEntry}
+use Rattle.peer_state.specs.declared.ingress.FiberIngressBudget.{FiberIngressBudget}
+use Rattle.peer_state.specs.declared.ingress.Room.{Room}
+use Rattle.peer_state.specs.declared.ingress.Room.the-variants as Room
 use Rattle.peer_verdict.specs.declared.verdict.Cause.{Cause}
 use Rattle.peer_verdict.specs.declared.verdict.Cause.the-variants as Cause
 use Rattle.peer_verdict.specs.declared.verdict.Decision.{Decision}
-use Rattle.peer_verdict.specs.Config.{banDisabled, unlimited}
-use Rattle.peer_verdict.specs.Entry.{windowRecord, entryBan, entryUsed, entrySound}
-use Rattle.peer_verdict.specs.Ingress.{ingressReserved, tryReserve, ingressSound}
+use Rattle.peer_settings.specs.Config.{banDisabled, unlimited}
+use Rattle.peer_state.specs.Entry.{windowRecord, entryBan, entryUsed, entrySound}
+use Rattle.peer_state.specs.Ingress.{ingressReserved, tryReserve, ingressSound}
 use Rattle.peer_verdict.specs.Verdict.{
   takeMessage,
   takeBytes,
@@ -32,8 +32,8 @@ use Rattle.peer_verdict.specs.Verdict.{
   noted,
   judgedInvalid,
 }
-use Rattle.peer_verdict.specs.EntryLaws.{chosen, EntryHolds, sound-holds, holds-sound, ban-holds, used-holds, count-record}
-use Rattle.peer_verdict.specs.IngressLaws.{RoomHolds, room-holds}
+use Rattle.peer_state.specs.EntryLaws.{chosen, EntryHolds, sound-holds, holds-sound, ban-holds, used-holds, count-record}
+use Rattle.peer_state.specs.IngressLaws.{RoomHolds, room-holds}
 use Rattle.peer_verdict.specs.TakeLaws.{message-level, bytes-level}
 
 -- ════ The ways it goes ════════════════════════════════════════════════════════════════════════════

@@ -2,16 +2,16 @@
 ghost use mathlib.Core.Path.{_≡_};
 ghost use mathlib.Core.Bool.{true};
 ghost use Prim.Native.Nat.{_≤_};
-ghost use Rattle.peer_verdict.specs.Entry.{entrySound};
+ghost use Rattle.peer_state.specs.Entry.{entrySound};
 ghost use Rattle.peer_verdict.specs.Verdict.{shortOf, takeMessage, takeBytes, withRateWindow, withInvalidWindow, withLevels};
-ghost use Rattle.peer_verdict.specs.Verdict.{reachesBan, violated, roomed, weighed, judged, noted, judgedInvalid};
-use super::config::PeerMessagePolicyConfig;
-use super::entry::Level;
-use super::entry::PeerMessagePolicyEntry;
-use super::entry::ViolationWindow;
-use super::ingress::FiberIngressBudget;
-use super::ingress::Room;
+ghost use Rattle.peer_verdict.specs.Verdict.{reachesBan, violated, roomed, weighed, judged, noted, judgedInvalid, overflows};
 use amount::Amount;
+use peer_settings::config::PeerMessagePolicyConfig;
+use peer_state::entry::Level;
+use peer_state::entry::PeerMessagePolicyEntry;
+use peer_state::entry::ViolationWindow;
+use peer_state::ingress::FiberIngressBudget;
+use peer_state::ingress::Room;
 use token_bucket::answer::Consumed;
 use token_bucket::bytes::ByteRateLimitConfig;
 use token_bucket::bytes::ByteTokenBucket;
@@ -288,4 +288,20 @@ pub fn judged_invalid(
         entry.used(now_ms, config.ban_duration_ms),
         now_ms,
     )
+}
+
+// Whether the decision is refusal 4.
+pub fn overflows(cause: Cause) -> bool
+    ensures { λ r. ⌜ r ≡ overflows cause ⌝ }
+{
+    match cause {
+        Cause::Allowed => false,
+        Cause::MessagesShort => false,
+        Cause::BytesShort(_) => false,
+        Cause::NoSlot => false,
+        Cause::CeilingShort(_) => false,
+        Cause::LiveBan => false,
+        Cause::BanBegun => false,
+        Cause::Overflow => true,
+    }
 }

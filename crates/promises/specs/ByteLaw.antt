@@ -14,10 +14,10 @@ use Rattle.token_bucket.specs.declared.answer.Consumed.the-variants as Consumed
 use Rattle.token_bucket.specs.TokenBucket.{byteDisabled, byteLevel, byteTryConsume}
 use Rattle.token_bucket.specs.Natural.{refilledTo, refilledAt, naturalTake}
 use Rattle.token_bucket.specs.NaturalLaws.{value-of, try-consume-natural}
-use Rattle.peer_verdict.specs.declared.config.PeerMessagePolicyConfig.{PeerMessagePolicyConfig}
-use Rattle.peer_verdict.specs.declared.entry.Level.{Level}
-use Rattle.peer_verdict.specs.Config.{bytesOf}
-use Rattle.peer_verdict.specs.Entry.{level}
+use Rattle.peer_settings.specs.declared.config.PeerMessagePolicyConfig.{PeerMessagePolicyConfig}
+use Rattle.peer_state.specs.declared.entry.Level.{Level}
+use Rattle.peer_settings.specs.Config.{bytesOf}
+use Rattle.peer_state.specs.Entry.{level}
 use Rattle.peer_verdict.specs.Verdict.{takeBytes}
 use Rattle.promises.specs.Runs.{ConfigFits}
 use Rattle.promises.specs.Lives.{Allow, bytesAllowed}

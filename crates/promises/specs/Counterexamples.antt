@@ -5,10 +5,10 @@ use mathlib.Core.List.{List, [], _∷_}
 use Prim.Native.Nat.{ℕ, _-_, _/_, _≤_}
 use native.Mathlib.Omega.{arith}
 use Rattle.table.specs.TableLaws.{true-is-not-false}
-use Rattle.peer_verdict.specs.declared.config.PeerMessagePolicyConfig.{PeerMessagePolicyConfig}
+use Rattle.peer_settings.specs.declared.config.PeerMessagePolicyConfig.{PeerMessagePolicyConfig}
 use Rattle.token_bucket.specs.TokenBucket.{discreteTryConsume, discreteRefill, discreteTake}
-use Rattle.peer_verdict.specs.Config.{messageLimitDisabled}
-use Rattle.peer_verdict.specs.Entry.{level}
+use Rattle.peer_settings.specs.Config.{messageLimitDisabled}
+use Rattle.peer_state.specs.Entry.{level}
 use Rattle.peer_verdict.specs.Verdict.{takeMessage}
 use Rattle.promises.specs.Lives.{Allow, FromEvery}
 

@@ -9,10 +9,10 @@ use native.Mathlib.Nat.{le-refl, mul-add, mul-sub, mul-le-mul-left, mul-div-le}
 use native.Mathlib.Omega.{arith}
 use Rattle.table.specs.TableLaws.{by-test}
 use Rattle.token_bucket.specs.TokenBucket.{byteDisabled}
-use Rattle.peer_verdict.specs.declared.config.PeerMessagePolicyConfig.{PeerMessagePolicyConfig}
-use Rattle.peer_verdict.specs.declared.entry.Level.{Level}
-use Rattle.peer_verdict.specs.Config.{messageLimitDisabled, bytesOf}
-use Rattle.peer_verdict.specs.Entry.{level}
+use Rattle.peer_settings.specs.declared.config.PeerMessagePolicyConfig.{PeerMessagePolicyConfig}
+use Rattle.peer_state.specs.declared.entry.Level.{Level}
+use Rattle.peer_settings.specs.Config.{messageLimitDisabled, bytesOf}
+use Rattle.peer_state.specs.Entry.{level}
 use Rattle.peer_verdict.specs.Verdict.{takeMessage, takeBytes}
 use Rattle.promises.specs.Runs.{ConfigFits}
 use Rattle.promises.specs.Lives.{Allow, AtMost, Allowance, Within}

@@ -13,22 +13,22 @@ use Rattle.refusal.specs.Refusal.{Said, gives}
 use Rattle.table.specs.Table.{look}
 use Rattle.table.specs.TableLaws.{true-is-not-false}
 use Rattle.table.specs.Memory.{rows}
-use Rattle.peer_verdict.specs.declared.config.PeerMessagePolicyConfig.{PeerMessagePolicyConfig}
-use Rattle.peer_verdict.specs.declared.entry.PeerMessagePolicyEntry.{PeerMessagePolicyEntry}
-use Rattle.peer_verdict.specs.declared.ingress.FiberIngressBudget.{FiberIngressBudget}
-use Rattle.peer_verdict.specs.declared.ingress.Room.{Room}
-use Rattle.peer_verdict.specs.declared.ingress.Room.the-variants as Room
+use Rattle.peer_settings.specs.declared.config.PeerMessagePolicyConfig.{PeerMessagePolicyConfig}
+use Rattle.peer_state.specs.declared.entry.PeerMessagePolicyEntry.{PeerMessagePolicyEntry}
+use Rattle.peer_state.specs.declared.ingress.FiberIngressBudget.{FiberIngressBudget}
+use Rattle.peer_state.specs.declared.ingress.Room.{Room}
+use Rattle.peer_state.specs.declared.ingress.Room.the-variants as Room
 use Rattle.peer_verdict.specs.declared.verdict.Cause.{Cause}
 use Rattle.peer_verdict.specs.declared.verdict.Cause.the-variants as Cause
-use Rattle.peer_verdict.specs.Entry.{level, entryNew, entryIsBanned, entryExpireWindows, entryUsed}
-use Rattle.peer_verdict.specs.Ingress.{tryReserve}
-use Rattle.peer_verdict.specs.Verdict.{judged, judgedInvalid}
+use Rattle.peer_state.specs.Entry.{level, entryNew, entryIsBanned, entryExpireWindows, entryUsed}
+use Rattle.peer_state.specs.Ingress.{tryReserve}
+use Rattle.peer_verdict.specs.Verdict.{judged, judgedInvalid, overflows}
 use Rattle.peer_verdict.specs.VerdictLaws.{NotAllowed, judged-orderly}
 use Rattle.peer_message_policy.specs.declared.policy.PeerMessagePolicy.{PeerMessagePolicy}
 use Rattle.peer_message_policy.specs.declared.answer.Made.the-variants as Made
 use Rattle.peer_message_policy.specs.Calls.{NewMeets}
 use Rattle.peer_message_policy.specs.Policy
-use Rattle.peer_message_policy.specs.Policy.{rowsOf, overflows}
+use Rattle.peer_message_policy.specs.Policy.{rowsOf}
 use Rattle.peer_laws.specs.CallLaws.{new-fresh}
 use Rattle.peer_laws.specs.DecisionLaws.{judged-used, judged-invalid-noted, roomCause, judged-passes}
 use Rattle.peer_laws.specs.PeerLaws.{Fate, stayed, gone, expired, Lands, kept, absent, remade, Own, live, undone, carried, live-not-spent}

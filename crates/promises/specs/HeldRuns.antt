@@ -7,9 +7,9 @@ use Prim.Native.Nat.{ℕ, _≤_}
 use native.Mathlib.Omega.{arith}
 use Rattle.pubkey.specs.declared.Pubkey.{Pubkey}
 use Rattle.refusal.specs.Refusal.{Said}
-use Rattle.peer_verdict.specs.declared.config.PeerMessagePolicyConfig.{PeerMessagePolicyConfig}
-use Rattle.peer_verdict.specs.declared.entry.PeerMessagePolicyEntry.{PeerMessagePolicyEntry}
-use Rattle.peer_verdict.specs.Ingress.{tryReserve}
+use Rattle.peer_settings.specs.declared.config.PeerMessagePolicyConfig.{PeerMessagePolicyConfig}
+use Rattle.peer_state.specs.declared.entry.PeerMessagePolicyEntry.{PeerMessagePolicyEntry}
+use Rattle.peer_state.specs.Ingress.{tryReserve}
 use Rattle.peer_message_policy.specs.declared.answer.HeldTime.{HeldTime}
 use Rattle.peer_message_policy.specs.declared.answer.HeldTime.the-variants as HeldTime
 use Rattle.peer_message_policy.specs.Policy

@@ -12,13 +12,13 @@ use Rattle.pubkey.specs.Order.{compareBytes}
 use Rattle.refusal.specs.Refusal.{Said, gives, refused, overflow}
 use Rattle.token_bucket.specs.TokenBucket.{byteDisabled}
 use Rattle.table.specs.Table.{look, byOrder}
-use Rattle.peer_verdict.specs.declared.config.PeerMessagePolicyConfig.{PeerMessagePolicyConfig}
-use Rattle.peer_verdict.specs.declared.entry.PeerMessagePolicyEntry.{PeerMessagePolicyEntry}
-use Rattle.peer_verdict.specs.declared.ingress.Room.{Room}
-use Rattle.peer_verdict.specs.declared.ingress.Room.the-variants as Room
-use Rattle.peer_verdict.specs.Config.{messageLimitDisabled, bytesOf}
-use Rattle.peer_verdict.specs.Entry.{entryIsSpent}
-use Rattle.peer_verdict.specs.Ingress.{tryReserve}
+use Rattle.peer_settings.specs.declared.config.PeerMessagePolicyConfig.{PeerMessagePolicyConfig}
+use Rattle.peer_state.specs.declared.entry.PeerMessagePolicyEntry.{PeerMessagePolicyEntry}
+use Rattle.peer_state.specs.declared.ingress.Room.{Room}
+use Rattle.peer_state.specs.declared.ingress.Room.the-variants as Room
+use Rattle.peer_settings.specs.Config.{messageLimitDisabled, bytesOf}
+use Rattle.peer_state.specs.Entry.{entryIsSpent}
+use Rattle.peer_state.specs.Ingress.{tryReserve}
 use Rattle.peer_message_policy.specs.Policy as Policy
 use Rattle.peer_message_policy.specs.Policy.{rowsOf}
 use Rattle.promises.specs.Runs.{Call, admit, recordInvalid, isBanned, onDisconnected, releaseIngress, inFlight, heldTime, State, Step, Fits, Run, made, then}

@@ -13,11 +13,11 @@ use Rattle.table.specs.TableLaws.{by-test, true-is-not-false}
 use Rattle.token_bucket.specs.declared.answer.Consumed.{Consumed}
 use Rattle.token_bucket.specs.declared.answer.Consumed.the-variants as Consumed
 use Rattle.token_bucket.specs.TokenBucket.{discreteTopped, discreteRefill, discreteTaken, discreteTake, discreteTryConsume}
-use Rattle.peer_verdict.specs.declared.config.PeerMessagePolicyConfig.{PeerMessagePolicyConfig}
-use Rattle.peer_verdict.specs.declared.entry.Level.{Level}
+use Rattle.peer_settings.specs.declared.config.PeerMessagePolicyConfig.{PeerMessagePolicyConfig}
+use Rattle.peer_state.specs.declared.entry.Level.{Level}
 use Rattle.peer_verdict.specs.declared.verdict.Take.{Take}
-use Rattle.peer_verdict.specs.Config.{messageLimitDisabled}
-use Rattle.peer_verdict.specs.Entry.{level}
+use Rattle.peer_settings.specs.Config.{messageLimitDisabled}
+use Rattle.peer_state.specs.Entry.{level}
 use Rattle.peer_verdict.specs.Verdict.{messageBucket, messagesTaken, takeMessage}
 use Rattle.promises.specs.Lives.{Allow, Near, allows}
 use Rattle.promises.specs.BucketLaw.{newest, InOrder, charged, Terms, Bounded, bounded-new, bounded-next, NotMore, NotLess, WithinParts, Backed, backed-next, backed-enough}

@@ -7,8 +7,8 @@ use mathlib.Core.List.{List, _∷_}
 use Prim.Native.Nat.{ℕ}
 use Rattle.pubkey.specs.declared.Pubkey.{Pubkey}
 use Rattle.refusal.specs.Refusal.{Said}
-use Rattle.peer_verdict.specs.declared.config.PeerMessagePolicyConfig.{PeerMessagePolicyConfig}
-use Rattle.peer_verdict.specs.Ingress.{tryReserve}
+use Rattle.peer_settings.specs.declared.config.PeerMessagePolicyConfig.{PeerMessagePolicyConfig}
+use Rattle.peer_state.specs.Ingress.{tryReserve}
 use Rattle.peer_message_policy.specs.Policy as Policy
 use Rattle.promises.specs.Runs.{Call, admit, State, Step, Fits, ConfigFits, Run}
 use Rattle.promises.specs.Lives.{Ordered, Shielded, entryIn, logOf, logFor, AtMost, Within, Shield, ceilingSays}

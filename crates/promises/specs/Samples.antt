@@ -11,11 +11,11 @@ use Rattle.token_bucket.specs.declared.bytes.ByteTokenBucket.{ByteTokenBucket}
 use Rattle.token_bucket.specs.TokenBucket.{consumedSays, delaySays, toldSays, told}
 use Rattle.token_bucket.specs.TokenBucket.{discreteNew, discreteTryConsume, byteLimit, byteNew, byteTryConsume, byteReserve, byteHasDebt}
 use Rattle.table.specs.Table.{Row}
-use Rattle.peer_verdict.specs.declared.config.PeerMessagePolicyConfig.{PeerMessagePolicyConfig}
-use Rattle.peer_verdict.specs.declared.entry.ViolationWindow.{ViolationWindow}
-use Rattle.peer_verdict.specs.declared.ingress.FiberIngressBudget.{FiberIngressBudget}
-use Rattle.peer_verdict.specs.Entry.{window, windowRecord}
-use Rattle.peer_verdict.specs.Ingress.{inFlight}
+use Rattle.peer_settings.specs.declared.config.PeerMessagePolicyConfig.{PeerMessagePolicyConfig}
+use Rattle.peer_state.specs.declared.entry.ViolationWindow.{ViolationWindow}
+use Rattle.peer_state.specs.declared.ingress.FiberIngressBudget.{FiberIngressBudget}
+use Rattle.peer_state.specs.Entry.{window, windowRecord}
+use Rattle.peer_state.specs.Ingress.{inFlight}
 use Rattle.peer_table.specs.Rows.{Peers}
 use Rattle.peer_message_policy.specs.Policy.{Change, same, become, admit}
 use Rattle.peer_message_policy.specs.Calls.{admissionSays, admissionOf, fresh}

@@ -3,8 +3,8 @@ use mathlib.Core.Path.{_≡_, refl}
 use Rattle.amount.specs.Amount.{amountOf, value, saturated}
 use Rattle.token_bucket.specs.TokenBucket.{discreteRefill, discreteTake, discreteTryConsume, byteRefill, byteTake, byteTryConsume, byteReserve, byteHasDebt}
 use Rattle.table.specs.Table.{look, store, retain, removeAt, leastFrom}
-use Rattle.peer_verdict.specs.Entry.{windowExpire, windowCounted, entryNew, entryBan, entryUsed}
-use Rattle.peer_verdict.specs.Ingress.{tryReserve}
+use Rattle.peer_state.specs.Entry.{windowExpire, windowCounted, entryNew, entryBan, entryUsed}
+use Rattle.peer_state.specs.Ingress.{tryReserve}
 use Rattle.peer_verdict.specs.Verdict.{takeMessage, takeBytes, violated, weighed, judged}
 use Rattle.peer_table.specs.Room.{evict, makeRoom}
 use Rattle.peer_message_policy.specs.Policy.{admit, carriedOut, entryForUpdate}

@@ -6,9 +6,9 @@ use Rattle.amount.specs.Amount.{amountOf, value, saturated}
 use Rattle.refusal.specs.Refusal.{Said, gives}
 use Rattle.token_bucket.specs.TokenBucket.{discreteRefill, discreteTake, discreteTryConsume, byteRefill, byteTake, byteTryConsume}
 use Rattle.table.specs.Table.{look, store, retain, removeAt, leastFrom}
-use Rattle.peer_verdict.specs.declared.config.PeerMessagePolicyConfig.{PeerMessagePolicyConfig}
-use Rattle.peer_verdict.specs.Entry.{windowExpire, windowCounted, entryNew, entryBan, entryUsed}
-use Rattle.peer_verdict.specs.Ingress.{tryReserve, inFlight}
+use Rattle.peer_settings.specs.declared.config.PeerMessagePolicyConfig.{PeerMessagePolicyConfig}
+use Rattle.peer_state.specs.Entry.{windowExpire, windowCounted, entryNew, entryBan, entryUsed}
+use Rattle.peer_state.specs.Ingress.{tryReserve, inFlight}
 use Rattle.peer_verdict.specs.Verdict.{takeMessage, takeBytes, violated, weighed, judged}
 use Rattle.peer_table.specs.Room.{evict, makeRoom}
 use Rattle.peer_message_policy.specs.Policy.{admit, carriedOut, entryForUpdate}

@@ -8,7 +8,7 @@ use lib.ListN.{length, getD, replicate}
 use Rattle.decimal.specs.Decimal.{digitsOf, scanOf}
 use Rattle.decimal.specs.declared.Scanned.{Scanned}
 use Rattle.decimal.specs.declared.Scanned.the-variants.{Number, Bad}
-use Rattle.peer_verdict.specs.declared.config.PeerMessagePolicyConfig.{PeerMessagePolicyConfig}
+use Rattle.peer_settings.specs.declared.config.PeerMessagePolicyConfig.{PeerMessagePolicyConfig}
 use Rattle.pubkey.specs.declared.Pubkey.{Pubkey}
 use Rattle.trace.specs.declared.event.Event.{Event}
 use Rattle.trace.specs.declared.event.EventKind.{EventKind}

@@ -7,7 +7,7 @@ use Prim.Native.Nat.{ℕ, _+_, _/_, _%_}
 use lib.Dec.{ltb}
 use lib.ListN.{getD, replicate}
 use Rattle.decimal.specs.Decimal.{digitsOf}
-use Rattle.peer_verdict.specs.declared.config.PeerMessagePolicyConfig.{PeerMessagePolicyConfig}
+use Rattle.peer_settings.specs.declared.config.PeerMessagePolicyConfig.{PeerMessagePolicyConfig}
 use Rattle.pubkey.specs.declared.Pubkey.{Pubkey}
 use Rattle.trace.specs.Lines.{numberText}
 use Rattle.trace.specs.declared.event.Event.{Event}

@@ -16,7 +16,7 @@ use Rattle.decimal.specs.Decimal.{digitsOf, scanOf}
 use Rattle.decimal.specs.DecimalLaws.{only-spelling}
 use Rattle.decimal.specs.declared.Scanned.{Scanned}
 use Rattle.decimal.specs.declared.Scanned.the-variants.{Number, Bad}
-use Rattle.peer_verdict.specs.declared.config.PeerMessagePolicyConfig.{PeerMessagePolicyConfig}
+use Rattle.peer_settings.specs.declared.config.PeerMessagePolicyConfig.{PeerMessagePolicyConfig}
 use Rattle.pubkey.specs.declared.Pubkey.{Pubkey}
 use Rattle.trace.specs.Lines.{largest32, largest64, blankThenNumber, fieldOf, valueOf, endsLine, numberText, event, badEvent, noKey, admitOf, keyedOf, releaseOf, eventOf}
 use Rattle.trace.specs.Lines.{interval, burst, rate, burstBytes, threshold, banDuration, maxTracked, maxMessages, maxBytes, configOf, settingsOf}

@@ -6,7 +6,7 @@ use super::field::LARGEST_64;
 use super::field::ends;
 use super::field::field;
 use super::field::value;
-use peer_verdict::config::PeerMessagePolicyConfig;
+use peer_settings::config::PeerMessagePolicyConfig;
 
 pub enum Settings {
     Good(PeerMessagePolicyConfig),

@@ -1,6 +1,6 @@
 -- `carry::expire_known` meets its contract: counts that stay leave the entry (`left-unexpired`), else it is written over (`left-over`). Assumes nothing.
 use mathlib.Core.Path.{sym, _∙_}
-use Rattle.peer_verdict.specs.Entry.{entryExpireWindows}
+use Rattle.peer_state.specs.Entry.{entryExpireWindows}
 use Rattle.peer_message_policy.proofs.Judged.{known-inside, rows-fit}
 use Rattle.peer_message_policy.proofs.Changes.{left-over, left-unexpired}
 use borrow.Author.Needs.{needs}

@@ -1,7 +1,7 @@
 -- `judge::is_sound` meets its contract: by its five tests. Assumes nothing.
 use native.Mathlib.Omega.{arith}
 use borrow.Author.Tests.{le-leb, lt-leb}
-use Rattle.peer_verdict.specs.Config.{limit}
+use Rattle.peer_settings.specs.Config.{limit}
 use Rattle.peer_message_policy.specs.Policy.{policySound}
 use mathlib.Core.Path.{sym, _∙_}
 use borrow.Author.Needs.{needs}

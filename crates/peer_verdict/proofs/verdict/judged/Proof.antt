@@ -1,6 +1,6 @@
 -- `verdict::judged` meets its contract. Assumes nothing.
 use Rattle.peer_verdict.specs.Verdict.{judged}
-use Rattle.peer_verdict.specs.EntryLaws.{sound-holds, holds-sound, used-holds}
+use Rattle.peer_state.specs.EntryLaws.{sound-holds, holds-sound, used-holds}
 use borrow.Author.Needs.{needs}
 use Rattle.peer_verdict.proofs.verdict.judged.Statement.{statement}
 use Rattle.peer_verdict.proofs.verdict.judged.Tie as tie

@@ -1,7 +1,7 @@
 -- `verdict::reaches_ban` meets its contract. Assumes nothing.
 use mathlib.Core.Path.{_≡_, sym, _∙_}
 use mathlib.Core.Bool.{true, false}
-use Rattle.peer_verdict.specs.Config.{banDisabled}
+use Rattle.peer_settings.specs.Config.{banDisabled}
 use borrow.Author.Tests.{not-true, not-false}
 use borrow.Author.Needs.{needs}
 use Rattle.peer_verdict.proofs.verdict.reaches_ban.Statement.{statement}

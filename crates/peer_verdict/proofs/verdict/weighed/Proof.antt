@@ -1,7 +1,7 @@
 -- `verdict::weighed` meets its contract. Assumes nothing.
 use borrow.Author.Tests.{le-leb, lt-leb}
 use Rattle.peer_verdict.specs.Verdict.{weighed}
-use Rattle.peer_verdict.specs.EntryLaws.{sound-holds}
+use Rattle.peer_state.specs.EntryLaws.{sound-holds}
 use borrow.Author.Needs.{needs}
 use Rattle.peer_verdict.proofs.verdict.weighed.Statement.{statement}
 use Rattle.peer_verdict.proofs.verdict.weighed.Tie as tie

@@ -1,0 +1,4 @@
+pub mod Entry
+pub mod EntryLaws
+pub mod Ingress
+pub mod IngressLaws
