@@ -2,8 +2,8 @@
 use mathlib.Core.Bool.{Bool, _||_}
 use Prim.Native.Nat.{ℕ, max}
 use lib.Dec.{eqb}
-use Rattle.token_bucket.specs.declared.bytes.ByteRateLimitConfig.{ByteRateLimitConfig}
-use Rattle.token_bucket.specs.TokenBucket.{byteLimit}
+use Rattle.bucket_terms.specs.declared.limit.ByteRateLimitConfig.{ByteRateLimitConfig}
+use Rattle.bucket_terms.specs.Limit.{byteLimit}
 use Rattle.peer_settings.specs.declared.config.PeerMessagePolicyConfig.{PeerMessagePolicyConfig}
 
 -- default: the Rust's numbers, but for 1,024 tracked peers (50,000 there)

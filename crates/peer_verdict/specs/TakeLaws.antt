@@ -11,13 +11,15 @@ use lib.IntN.{ℤ, pos, negsuc, negℤ, _+ℤ_, _-ℤ_}
 use lib.Signed.{ltZ}
 use Rattle.amount.specs.Amount.{digits, limbs, value, amountOf, Is, isI128, saturated, natural, lesser}
 use Rattle.amount.specs.AmountOfLaws.{amountOf-is}
-use Rattle.token_bucket.specs.declared.answer.Consumed.{Consumed}
-use Rattle.token_bucket.specs.declared.answer.Consumed.the-variants as Consumed
-use Rattle.token_bucket.specs.declared.discrete.DiscreteTokenBucket.{DiscreteTokenBucket}
-use Rattle.token_bucket.specs.declared.discrete.DiscreteConsumed.{DiscreteConsumed}
-use Rattle.token_bucket.specs.declared.bytes.ByteTokenBucket.{ByteTokenBucket}
-use Rattle.token_bucket.specs.declared.bytes.ByteConsumed.{ByteConsumed}
-use Rattle.token_bucket.specs.TokenBucket.{discreteRefill, discreteTake, discreteTryConsume, byteDisabled, byteSound, byteLevel, byteRefill, byteDeficit, byteTake, byteTryConsume}
+use Rattle.bucket_terms.specs.declared.answer.Consumed.{Consumed}
+use Rattle.bucket_terms.specs.declared.answer.Consumed.the-variants as Consumed
+use Rattle.discrete_bucket.specs.declared.discrete.DiscreteTokenBucket.{DiscreteTokenBucket}
+use Rattle.discrete_bucket.specs.declared.discrete.DiscreteConsumed.{DiscreteConsumed}
+use Rattle.byte_bucket.specs.declared.bytes.ByteTokenBucket.{ByteTokenBucket}
+use Rattle.byte_bucket.specs.declared.bytes.ByteConsumed.{ByteConsumed}
+use Rattle.bucket_terms.specs.Limit.{byteDisabled}
+use Rattle.discrete_bucket.specs.DiscreteBucket.{discreteRefill, discreteTake, discreteTryConsume}
+use Rattle.byte_bucket.specs.ByteBucket.{byteSound, byteLevel, byteRefill, byteDeficit, byteTake, byteTryConsume}
 use Rattle.peer_settings.specs.declared.config.PeerMessagePolicyConfig.{PeerMessagePolicyConfig}
 use Rattle.peer_state.specs.declared.entry.Level.{Level}
 use Rattle.peer_verdict.specs.declared.verdict.Take.{Take}

@@ -10,10 +10,11 @@ use borrow.Author.Tests.{leb-true, ltb-true, ltb-false, le-ltb}
 use lib.Dec.{leb, ltb}
 use lib.IntN.{pos}
 use Rattle.table.specs.TableLaws.{by-test}
-use Rattle.token_bucket.specs.declared.answer.Consumed.the-variants as Consumed
-use Rattle.token_bucket.specs.TokenBucket.{byteDisabled, byteLevel, byteTryConsume}
-use Rattle.token_bucket.specs.Natural.{refilledTo, refilledAt, naturalTake}
-use Rattle.token_bucket.specs.NaturalLaws.{value-of, try-consume-natural}
+use Rattle.bucket_terms.specs.declared.answer.Consumed.the-variants as Consumed
+use Rattle.bucket_terms.specs.Limit.{byteDisabled}
+use Rattle.byte_bucket.specs.ByteBucket.{byteLevel, byteTryConsume}
+use Rattle.byte_bucket.specs.Natural.{refilledTo, refilledAt, naturalTake}
+use Rattle.byte_bucket.specs.NaturalLaws.{value-of, try-consume-natural}
 use Rattle.peer_settings.specs.declared.config.PeerMessagePolicyConfig.{PeerMessagePolicyConfig}
 use Rattle.peer_state.specs.declared.entry.Level.{Level}
 use Rattle.peer_settings.specs.Config.{bytesOf}

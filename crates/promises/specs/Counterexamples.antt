@@ -6,7 +6,7 @@ use Prim.Native.Nat.{ℕ, _-_, _/_, _≤_}
 use native.Mathlib.Omega.{arith}
 use Rattle.table.specs.TableLaws.{true-is-not-false}
 use Rattle.peer_settings.specs.declared.config.PeerMessagePolicyConfig.{PeerMessagePolicyConfig}
-use Rattle.token_bucket.specs.TokenBucket.{discreteTryConsume, discreteRefill, discreteTake}
+use Rattle.discrete_bucket.specs.DiscreteBucket.{discreteTryConsume, discreteRefill, discreteTake}
 use Rattle.peer_settings.specs.Config.{messageLimitDisabled}
 use Rattle.peer_state.specs.Entry.{level}
 use Rattle.peer_verdict.specs.Verdict.{takeMessage}

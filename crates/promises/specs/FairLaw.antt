@@ -8,7 +8,7 @@ use Prim.Native.Nat.{ℕ, _+_, _-_, _*_, _/_, _^_, _<_, _≤_}
 use native.Mathlib.Nat.{le-refl, mul-add, mul-sub, mul-le-mul-left, mul-div-le}
 use native.Mathlib.Omega.{arith}
 use Rattle.table.specs.TableLaws.{by-test}
-use Rattle.token_bucket.specs.TokenBucket.{byteDisabled}
+use Rattle.bucket_terms.specs.Limit.{byteDisabled}
 use Rattle.peer_settings.specs.declared.config.PeerMessagePolicyConfig.{PeerMessagePolicyConfig}
 use Rattle.peer_state.specs.declared.entry.Level.{Level}
 use Rattle.peer_settings.specs.Config.{messageLimitDisabled, bytesOf}

@@ -10,7 +10,7 @@ use Rattle.pubkey.specs.declared.Ordering.{Ordering}
 use Rattle.pubkey.specs.declared.Ordering.the-variants.{Less, Equal, Greater}
 use Rattle.pubkey.specs.Order.{compareBytes}
 use Rattle.refusal.specs.Refusal.{Said, gives, refused, overflow}
-use Rattle.token_bucket.specs.TokenBucket.{byteDisabled}
+use Rattle.bucket_terms.specs.Limit.{byteDisabled}
 use Rattle.table.specs.Table.{look, byOrder}
 use Rattle.peer_settings.specs.declared.config.PeerMessagePolicyConfig.{PeerMessagePolicyConfig}
 use Rattle.peer_state.specs.declared.entry.PeerMessagePolicyEntry.{PeerMessagePolicyEntry}

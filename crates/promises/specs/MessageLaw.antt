@@ -10,9 +10,9 @@ use native.Mathlib.Omega.{arith}
 use borrow.Author.Tests.{leb-true, leb-false, eqb-true, eqb-false, ne-eqb}
 use lib.Dec.{leb, eqb}
 use Rattle.table.specs.TableLaws.{by-test, true-is-not-false}
-use Rattle.token_bucket.specs.declared.answer.Consumed.{Consumed}
-use Rattle.token_bucket.specs.declared.answer.Consumed.the-variants as Consumed
-use Rattle.token_bucket.specs.TokenBucket.{discreteTopped, discreteRefill, discreteTaken, discreteTake, discreteTryConsume}
+use Rattle.bucket_terms.specs.declared.answer.Consumed.{Consumed}
+use Rattle.bucket_terms.specs.declared.answer.Consumed.the-variants as Consumed
+use Rattle.discrete_bucket.specs.DiscreteBucket.{discreteTopped, discreteRefill, discreteTaken, discreteTake, discreteTryConsume}
 use Rattle.peer_settings.specs.declared.config.PeerMessagePolicyConfig.{PeerMessagePolicyConfig}
 use Rattle.peer_state.specs.declared.entry.Level.{Level}
 use Rattle.peer_verdict.specs.declared.verdict.Take.{Take}

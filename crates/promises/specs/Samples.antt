@@ -6,10 +6,12 @@ use mathlib.Core.List.{List, [], _∷_, _++_}
 use Prim.Native.Nat.{ℕ}
 use lib.ListN.{getD, replicate}
 use Rattle.refusal.specs.Refusal.{Said, gives, refused}
-use Rattle.token_bucket.specs.declared.discrete.DiscreteTokenBucket.{DiscreteTokenBucket}
-use Rattle.token_bucket.specs.declared.bytes.ByteTokenBucket.{ByteTokenBucket}
-use Rattle.token_bucket.specs.TokenBucket.{consumedSays, delaySays, toldSays, told}
-use Rattle.token_bucket.specs.TokenBucket.{discreteNew, discreteTryConsume, byteLimit, byteNew, byteTryConsume, byteReserve, byteHasDebt}
+use Rattle.discrete_bucket.specs.declared.discrete.DiscreteTokenBucket.{DiscreteTokenBucket}
+use Rattle.byte_bucket.specs.declared.bytes.ByteTokenBucket.{ByteTokenBucket}
+use Rattle.bucket_terms.specs.Answers.{consumedSays, delaySays, toldSays, told}
+use Rattle.bucket_terms.specs.Limit.{byteLimit}
+use Rattle.discrete_bucket.specs.DiscreteBucket.{discreteNew, discreteTryConsume}
+use Rattle.byte_bucket.specs.ByteBucket.{byteNew, byteTryConsume, byteReserve, byteHasDebt}
 use Rattle.table.specs.Table.{Row}
 use Rattle.peer_settings.specs.declared.config.PeerMessagePolicyConfig.{PeerMessagePolicyConfig}
 use Rattle.peer_state.specs.declared.entry.ViolationWindow.{ViolationWindow}

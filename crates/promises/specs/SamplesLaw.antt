@@ -1,7 +1,8 @@
 -- The samples agree with the document, by computation. Assumes nothing.
 use mathlib.Core.Path.{_≡_, refl}
 use Rattle.amount.specs.Amount.{amountOf, value, saturated}
-use Rattle.token_bucket.specs.TokenBucket.{discreteRefill, discreteTake, discreteTryConsume, byteRefill, byteTake, byteTryConsume, byteReserve, byteHasDebt}
+use Rattle.discrete_bucket.specs.DiscreteBucket.{discreteRefill, discreteTake, discreteTryConsume}
+use Rattle.byte_bucket.specs.ByteBucket.{byteRefill, byteTake, byteTryConsume, byteReserve, byteHasDebt}
 use Rattle.table.specs.Table.{look, store, retain, removeAt, leastFrom}
 use Rattle.peer_state.specs.Entry.{windowExpire, windowCounted, entryNew, entryBan, entryUsed}
 use Rattle.peer_state.specs.Ingress.{tryReserve}

@@ -4,7 +4,8 @@ use mathlib.Core.List.{List, [], _∷_}
 use Prim.Native.Nat.{ℕ}
 use Rattle.amount.specs.Amount.{amountOf, value, saturated}
 use Rattle.refusal.specs.Refusal.{Said, gives}
-use Rattle.token_bucket.specs.TokenBucket.{discreteRefill, discreteTake, discreteTryConsume, byteRefill, byteTake, byteTryConsume}
+use Rattle.discrete_bucket.specs.DiscreteBucket.{discreteRefill, discreteTake, discreteTryConsume}
+use Rattle.byte_bucket.specs.ByteBucket.{byteRefill, byteTake, byteTryConsume}
 use Rattle.table.specs.Table.{look, store, retain, removeAt, leastFrom}
 use Rattle.peer_settings.specs.declared.config.PeerMessagePolicyConfig.{PeerMessagePolicyConfig}
 use Rattle.peer_state.specs.Entry.{windowExpire, windowCounted, entryNew, entryBan, entryUsed}

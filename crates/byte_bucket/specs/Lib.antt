@@ -1,0 +1,4 @@
+pub mod ByteBucket
+pub mod Natural
+pub mod NaturalLaws
+pub mod ByteBucketLaws

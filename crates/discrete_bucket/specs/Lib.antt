@@ -1,0 +1,2 @@
+pub mod DiscreteBucket
+pub mod DiscreteBucketLaws

@@ -1,2 +1,0 @@
-pub mod Elapsed
-pub mod Levels

@@ -1,4 +1,0 @@
-pub mod TokenBucket
-pub mod Natural
-pub mod NaturalLaws
-pub mod TokenBucketLaws
