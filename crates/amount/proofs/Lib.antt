@@ -3,6 +3,4 @@ pub mod MagnitudeLaws
 pub mod SignedLaws
 pub mod Tests
 -- What the proofs of more than one function use.
-pub mod Columns
-pub mod LongDivision
 pub mod Unsigned

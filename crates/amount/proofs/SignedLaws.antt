@@ -10,7 +10,8 @@ use lib.Dec.{leb, ltb, eqb, leb·suc-suc, eqb·suc-zero, eqb·suc-suc}
 use lib.IntN.{ℤ, pos, negℤ, _+ℤ_, negℤ-negℤ, negℤ-+ℤ, +ℤ-comm}
 use lib.Signed.{ltZ}
 use Rattle.amount.specs.declared.Amount.{Amount}
-use Rattle.amount.specs.Amount.{digits, signed, value, minusZero, saturated, inRange, natural, Is}
+use Rattle.limb_arithmetic.specs.Limbs.{digits}
+use Rattle.amount.specs.Amount.{signed, value, minusZero, saturated, inRange, natural, Is}
 use Rattle.amount.specs.AmountLaws.{minus-pos, saturated-beyond, saturated-signed, saturated-in-range, natural-negative, natural-other}
 
 pub signed-not : (s : Bool) (n : ℕ) → signed (not s) n ≡ negℤ (signed s n)

@@ -3,16 +3,12 @@
 use mathlib.Core.Path.{_≡_}
 use mathlib.Core.Bool.{Bool, true, false, _&&_, not, cond}
 use mathlib.Core.List.{List, [], _∷_}
-use Prim.Native.Nat.{ℕ, zero, suc, _+_, _-_, _*_, _/_, _%_, _^_, min}
+use Prim.Native.Nat.{ℕ, zero, suc, _-_, _/_, _%_, _^_, min}
 use lib.Dec.{leb, eqb}
 use lib.IntN.{ℤ, pos, negsuc, negℤ}
 use lib.Signed.{ltZ}
+use Rattle.limb_arithmetic.specs.Limbs.{digits}
 use Rattle.amount.specs.declared.Amount.{Amount}
-
--- the number that limbs spell, the least first, each worth 2^32 of the one before it
-abbrev pub digits : List ℕ → ℕ
-digits [] = 0
-digits (x ∷ xs) = x + 4294967296 * digits xs
 
 -- n with a sign
 abbrev pub signed : Bool → ℕ → ℤ
@@ -52,17 +48,9 @@ abbrev pub natural : ℤ → ℕ
 natural (pos n) = n
 natural (negsuc n) = 0
 
--- the nearest u128: where Rust's `saturating_mul` stops
-abbrev pub saturatedUnsigned : ℕ → ℕ
-saturatedUnsigned n = min n (2 ^ 128 - 1)
-
 -- the smaller of two integers
 abbrev pub lesser : ℤ → ℤ → ℤ
 lesser a b = cond (ltZ a b) a b
-
--- n / d rounded up: Rust's `div_ceil`
-abbrev pub ceilDiv : ℕ → ℕ → ℕ
-ceilDiv n d = (n + (d - 1)) / d
 
 -- whether an integer is within -2^127 to 2^127 - 1
 abbrev pub inRange : ℤ → Bool

@@ -13,7 +13,8 @@ ghost use Prim.Native.Nat.{ℕ, _-_, _*_, _/_, _%_, _^_, _<_, min};
 ghost use lib.IntN.{pos, _+ℤ_, _-ℤ_};
 ghost use lib.Signed.{ltZ};
 ghost use Rattle.amount.specs.Magnitude.{size};
-ghost use Rattle.amount.specs.Amount.{Is, digits, value, saturated, saturatedUnsigned, natural, lesser, ceilDiv, isI128};
+ghost use Rattle.limb_arithmetic.specs.Limbs.{digits};
+ghost use Rattle.amount.specs.Amount.{Is, value, saturated, natural, lesser, isI128};
 
 mod divide;
 mod product;

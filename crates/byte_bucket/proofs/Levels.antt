@@ -9,7 +9,8 @@ use lib.Dec.{eqb, leb, ltb, lit≤}
 use lib.IntN.{ℤ, pos, negsuc, _+ℤ_, _-ℤ_}
 use lib.Signed.{ltZ}
 use Rattle.amount.specs.declared.Amount.{Amount}
-use Rattle.amount.specs.Amount.{Is, value, amountOf, saturated, saturatedUnsigned, natural, lesser, ceilDiv}
+use Rattle.limb_arithmetic.specs.Limbs.{saturatedUnsigned, ceilDiv}
+use Rattle.amount.specs.Amount.{Is, value, amountOf, saturated, natural, lesser}
 use Rattle.amount.specs.AmountLaws.{Whole, saturated-pos}
 use Rattle.amount.specs.AmountOfLaws.{is-amountOf}
 use Rattle.bucket_terms.specs.declared.limit.ByteRateLimitConfig.{ByteRateLimitConfig}

@@ -8,7 +8,8 @@ use Prim.Native.Nat.{ℕ, _-_, _*_, _/_, _%_, min}
 use lib.Dec.{leb, eqb}
 use lib.IntN.{ℤ, pos, _+ℤ_, _-ℤ_}
 use lib.Signed.{ltZ}
-use Rattle.amount.specs.Amount.{amountOf, value, isI128, saturated, saturatedUnsigned, natural, lesser, ceilDiv}
+use Rattle.limb_arithmetic.specs.Limbs.{saturatedUnsigned, ceilDiv}
+use Rattle.amount.specs.Amount.{amountOf, value, isI128, saturated, natural, lesser}
 use Rattle.refusal.specs.Refusal.{unsound}
 use Rattle.bucket_terms.specs.declared.answer.Refilled.the-variants as Refilled
 use Rattle.bucket_terms.specs.declared.answer.Consumed.the-variants as Consumed

@@ -9,9 +9,9 @@ use Rattle.peer_message_policy.specs.declared.answer.InFlight.the-variants as I
 use Rattle.peer_message_policy.specs.declared.answer.HeldTime.{HeldTime}
 use Rattle.peer_message_policy.specs.declared.answer.HeldTime.the-variants as HeldTime
 use Rattle.peer_message_policy.specs.Calls.{NewMeets, AdmitMeets, RecordInvalidMeets, IsBannedMeets, OnDisconnectedMeets, ReleaseIngressMeets, InFlightMeets, HeldTimeMeets}
-use Rattle.exports.specs.declared.answers.Told.{Told}
-use Rattle.exports.specs.Words.{configOf, policyOf, Leaves}
-use Rattle.exports.specs.Answers.{madeTold, admissionTold, invalidTold, standingTold, changedTold}
+use Rattle.policy_words.specs.declared.answers.Told.{Told}
+use Rattle.policy_words.specs.Words.{configOf, policyOf, Leaves}
+use Rattle.policy_words.specs.Answers.{madeTold, admissionTold, invalidTold, standingTold, changedTold}
 
 -- an answer that meets a contract, and that is left behind
 pub record Some {A : Type 0} (meets left : A → Type 0) : Type 0 where

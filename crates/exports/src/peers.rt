@@ -1,11 +1,11 @@
 // The exported functions: a policy is made of the words, the proved call is called, and its answer is left.
 ghost use mathlib.Core.Path.{_≡_};
 ghost use Rattle.exports.specs.Exported.{keyOf, NewExported, AdmitExported, RecordInvalidExported, IsBannedExported, OnDisconnectedExported, ReleaseIngressExported, InFlightExported, HeldTimeExported};
-use super::answers;
-use super::words;
 use peer_message_policy::answer::HeldTime;
 use peer_message_policy::answer::InFlight;
 use peer_message_policy::policy::PeerMessagePolicy;
+use policy_words::answers;
+use policy_words::words;
 use pubkey::Pubkey;
 
 fn key_of(peer: &[u8; 33]) -> Pubkey

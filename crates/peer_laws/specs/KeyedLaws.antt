@@ -14,7 +14,7 @@ use Rattle.table.specs.TableLaws.{by-answer, Sub, done, keep, leave}
 use Rattle.table.specs.Memory.{rowOf, rows, rowBytes, tableBytes, laid, wordBytes}
 use Rattle.table.specs.MemoryLaws.{length-wordBytes, Bytes-wordBytes}
 use Rattle.peer_state.specs.declared.entry.PeerMessagePolicyEntry.{PeerMessagePolicyEntry}
-use Rattle.peer_table.specs.Rows.{Peers, peerLayout, entryWords}
+use Rattle.peer_rows.specs.Rows.{Peers, peerLayout, entryWords}
 
 -- a key of 33 bytes
 abbrev pub Key : List ℕ → Type 0

@@ -21,7 +21,7 @@ use Rattle.peer_verdict.specs.declared.verdict.Cause.the-variants as Cause
 use Rattle.peer_verdict.specs.declared.verdict.Decision.{Decision}
 use Rattle.peer_state.specs.Entry.{entryNew, entryIsBanned, entryIsSpent, entryExpireWindows}
 use Rattle.peer_state.specs.EntryLaws.{chosen}
-use Rattle.peer_table.specs.Rows.{Peers}
+use Rattle.peer_rows.specs.Rows.{Peers}
 use Rattle.peer_table.specs.Room.{makeRoom}
 use Rattle.peer_table.specs.RoomLaws.{sub-look, sub-makeRoom}
 use Rattle.peer_verdict.specs.Verdict.{overflows}

@@ -20,10 +20,10 @@ use Rattle.peer_state.specs.declared.entry.ViolationWindow.{ViolationWindow}
 use Rattle.peer_verdict.specs.declared.verdict.Decision.{Decision}
 use Rattle.peer_settings.specs.Config.{limit}
 use Rattle.peer_state.specs.Entry.{window, windowExpire, entryExpireWindows, sameCounts}
-use Rattle.peer_table.specs.Rows.{Peers, peerLayout}
-use Rattle.peer_table.specs.Peer.{peerRow}
+use Rattle.peer_rows.specs.Rows.{Peers, peerLayout}
+use Rattle.peer_rows.specs.Peer.{peerRow}
 use Rattle.peer_table.specs.Room.{makeRoom}
-use Rattle.peer_table.specs.RowsLaws.{EntryFits, peer-faithful}
+use Rattle.peer_rows.specs.RowsLaws.{EntryFits, peer-faithful}
 use Rattle.peer_table.specs.RoomLaws.{room-for-one, length-makeRoom, sub-makeRoom}
 use Rattle.peer_message_policy.specs.declared.policy.PeerMessagePolicy.{PeerMessagePolicy}
 use Rattle.peer_message_policy.specs.declared.answer.Made.the-variants as Made

@@ -22,7 +22,7 @@ use Rattle.peer_state.specs.declared.entry.PeerMessagePolicyEntry.{PeerMessageP
 use Rattle.peer_settings.specs.Config.{limit}
 use Rattle.peer_state.specs.Entry.{entrySound, entryNew, entryIsSpent, entryToJudge}
 use Rattle.peer_state.specs.EntryLaws.{chosen, new-sound}
-use Rattle.peer_table.specs.Rows.{peerLayout}
+use Rattle.peer_rows.specs.Rows.{peerLayout}
 use Rattle.peer_message_policy.specs.declared.policy.PeerMessagePolicy.{PeerMessagePolicy}
 use Rattle.peer_message_policy.specs.Policy.{rowsOf, policySound, longEnough, rowsSound, sound}
 use Rattle.peer_message_policy.specs.Sought.{soughtIn}

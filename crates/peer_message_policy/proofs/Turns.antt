@@ -20,7 +20,7 @@ use Rattle.peer_verdict.specs.declared.verdict.Decision.{Decision}
 use Rattle.peer_state.specs.Entry.{entryNew, entryUsed, entryIsBanned, entryIsSpent, entryExpireWindows, entryToJudge}
 use Rattle.peer_verdict.specs.Verdict.{judged, judgedInvalid, overflows}
 use Rattle.peer_verdict.specs.VerdictLaws.{noted-ways}
-use Rattle.peer_table.specs.Rows.{Peers}
+use Rattle.peer_rows.specs.Rows.{Peers}
 use Rattle.peer_table.specs.Room.{makeRoom}
 use Rattle.peer_message_policy.specs.declared.policy.PeerMessagePolicy.{PeerMessagePolicy}
 use Rattle.peer_message_policy.specs.declared.answer.PeerMessageAdmission.{PeerMessageAdmission}

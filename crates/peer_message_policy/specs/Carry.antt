@@ -7,7 +7,7 @@ use Rattle.table.specs.declared.seek.Seek.the-variants.{At, Gap}
 use Rattle.table.specs.Table.{placeFrom, store}
 use Rattle.table.specs.Memory.{Holds}
 use Rattle.peer_verdict.specs.declared.verdict.Decision.{Decision}
-use Rattle.peer_table.specs.Rows.{Peers, peerLayout}
+use Rattle.peer_rows.specs.Rows.{Peers, peerLayout}
 use Rattle.peer_message_policy.specs.declared.policy.PeerMessagePolicy.{PeerMessagePolicy}
 use Rattle.peer_message_policy.specs.Policy.{rowsOf, sound, become}
 use Rattle.peer_message_policy.specs.Calls.{policyAfter}

@@ -16,7 +16,7 @@ use Rattle.peer_verdict.specs.declared.verdict.Decision.{Decision}
 use Rattle.peer_settings.specs.Config.{unlimited, limit}
 use Rattle.peer_state.specs.Entry.{entrySound, entryNew, entryIsBanned, entryIsSpent, entryExpireWindows}
 use Rattle.peer_verdict.specs.Verdict.{judged, judgedInvalid, overflows}
-use Rattle.peer_table.specs.Rows.{Peers, peerLayout}
+use Rattle.peer_rows.specs.Rows.{Peers, peerLayout}
 use Rattle.peer_table.specs.Room.{makeRoom}
 use Rattle.peer_message_policy.specs.declared.policy.PeerMessagePolicy.{PeerMessagePolicy}
 

@@ -1,4 +1,4 @@
-// The calls on a policy and its table: judge and find, decide, then write.
+// What the calls do once the policy is judged and the peer is found, or its place: decide, then write.
 ghost use mathlib.Core.Path.{_≡_};
 ghost use Rattle.peer_message_policy.specs.Calls.{AdmitMeets, RecordInvalidMeets, IsBannedMeets, OnDisconnectedMeets, HeldTimeMeets};
 ghost use Rattle.peer_message_policy.specs.Carry.{Known, Unknown};
@@ -8,30 +8,11 @@ use super::answer::Invalid;
 use super::answer::PeerMessageAdmission;
 use super::answer::Standing;
 use super::carry;
-use super::judge;
 use super::policy::PeerMessagePolicy;
 use peer_state::entry::PeerMessagePolicyEntry;
 use pubkey::Pubkey;
-use table::seek::Seek;
 
-pub(crate) fn admit(
-    p: PeerMessagePolicy,
-    table: &mut [u8],
-    peer: Pubkey,
-    bytes: u64,
-    now_ms: u64,
-) -> PeerMessageAdmission
-    ensures { λ r. ⌜ AdmitMeets p (now (table .entry)) peer bytes «now_ms» r (now (table .exit)) ⌝ }
-{
-    let found = judge::sought(p, table, peer);
-    match found {
-        Seek::Unsound => PeerMessageAdmission::Refused(refusal::UNSOUND),
-        Seek::At(index) => admit_known(p, table, peer, index, bytes, now_ms),
-        Seek::Gap(gap) => admit_new(p, table, peer, gap, bytes, now_ms),
-    }
-}
-
-fn admit_known(
+pub(crate) fn admit_known(
     p: PeerMessagePolicy,
     table: &mut [u8],
     peer: Pubkey,
@@ -44,7 +25,7 @@ fn admit_known(
 {
     let config = p.config;
     let ingress = p.ingress;
-    let entry = peer_table::row::entry_at(table, index);
+    let entry = peer_rows::row::entry_at(table, index);
     if entry.is_banned(now_ms) {
         return PeerMessageAdmission::Ban(p);
     }
@@ -57,7 +38,7 @@ fn admit_known(
     carry::admission_of(carry::store_known(p, table, peer, index, d), cause)
 }
 
-fn admit_new(
+pub(crate) fn admit_new(
     p: PeerMessagePolicy,
     table: &mut [u8],
     peer: Pubkey,
@@ -79,23 +60,7 @@ fn admit_new(
     carry::admission_of(carry::store_new(p, table, peer, gap, d, now_ms), cause)
 }
 
-pub(crate) fn record_invalid(
-    p: PeerMessagePolicy,
-    table: &mut [u8],
-    peer: Pubkey,
-    now_ms: u64,
-) -> Invalid
-    ensures { λ r. ⌜ RecordInvalidMeets p (now (table .entry)) peer «now_ms» r (now (table .exit)) ⌝ }
-{
-    let found = judge::sought(p, table, peer);
-    match found {
-        Seek::Unsound => Invalid::Refused(refusal::UNSOUND),
-        Seek::At(index) => invalid_known(p, table, peer, index, now_ms),
-        Seek::Gap(gap) => invalid_new(p, table, peer, gap, now_ms),
-    }
-}
-
-fn invalid_known(
+pub(crate) fn invalid_known(
     p: PeerMessagePolicy,
     table: &mut [u8],
     peer: Pubkey,
@@ -107,7 +72,7 @@ fn invalid_known(
 {
     let config = p.config;
     let ingress = p.ingress;
-    let entry = peer_table::row::entry_at(table, index);
+    let entry = peer_rows::row::entry_at(table, index);
     if entry.is_banned(now_ms) {
         return Invalid::Banned(p);
     }
@@ -117,7 +82,7 @@ fn invalid_known(
     carry::invalid_of(carry::store_known(p, table, peer, index, d), cause)
 }
 
-fn invalid_new(
+pub(crate) fn invalid_new(
     p: PeerMessagePolicy,
     table: &mut [u8],
     peer: Pubkey,
@@ -135,23 +100,7 @@ fn invalid_new(
     carry::invalid_of(carry::store_new(p, table, peer, gap, d, now_ms), cause)
 }
 
-pub(crate) fn is_banned(
-    p: PeerMessagePolicy,
-    table: &mut [u8],
-    peer: Pubkey,
-    now_ms: u64,
-) -> Standing
-    ensures { λ r. ⌜ IsBannedMeets p (now (table .entry)) peer «now_ms» r (now (table .exit)) ⌝ }
-{
-    let found = judge::sought(p, table, peer);
-    match found {
-        Seek::Unsound => Standing::Refused(refusal::UNSOUND),
-        Seek::At(index) => standing_known(p, table, peer, index, now_ms),
-        Seek::Gap(_) => Standing::Free(p),
-    }
-}
-
-fn standing_known(
+pub(crate) fn standing_known(
     p: PeerMessagePolicy,
     table: &mut [u8],
     peer: Pubkey,
@@ -161,7 +110,7 @@ fn standing_known(
     requires { ⌜ Known p (now table) (peer .bytes) index ⌝ }
     ensures { λ r. ⌜ IsBannedMeets p (now (table .entry)) peer «now_ms» r (now (table .exit)) ⌝ }
 {
-    let entry = peer_table::row::entry_at(table, index);
+    let entry = peer_rows::row::entry_at(table, index);
     if entry.is_banned(now_ms) {
         return Standing::Banned(p);
     }
@@ -171,23 +120,7 @@ fn standing_known(
     Standing::Free(p)
 }
 
-pub(crate) fn on_disconnected(
-    p: PeerMessagePolicy,
-    table: &mut [u8],
-    peer: Pubkey,
-    now_ms: u64,
-) -> Changed
-    ensures { λ r. ⌜ OnDisconnectedMeets p (now (table .entry)) peer «now_ms» r (now (table .exit)) ⌝ }
-{
-    let found = judge::sought(p, table, peer);
-    match found {
-        Seek::Unsound => Changed::Refused(refusal::UNSOUND),
-        Seek::At(index) => disconnected_known(p, table, peer, index, now_ms),
-        Seek::Gap(_) => Changed::Policy(p),
-    }
-}
-
-fn disconnected_known(
+pub(crate) fn disconnected_known(
     p: PeerMessagePolicy,
     table: &mut [u8],
     peer: Pubkey,
@@ -197,7 +130,7 @@ fn disconnected_known(
     requires { ⌜ Known p (now table) (peer .bytes) index ⌝ }
     ensures { λ r. ⌜ OnDisconnectedMeets p (now (table .entry)) peer «now_ms» r (now (table .exit)) ⌝ }
 {
-    let entry = peer_table::row::entry_at(table, index);
+    let entry = peer_rows::row::entry_at(table, index);
     if entry.is_banned(now_ms) {
         return Changed::Policy(p);
     }
@@ -207,18 +140,7 @@ fn disconnected_known(
     Changed::Policy(carry::expire_known(p, table, peer, index, entry, now_ms))
 }
 
-pub(crate) fn held_time(p: PeerMessagePolicy, table: &[u8], peer: Pubkey, given_ms: u64) -> HeldTime
-    ensures { λ r. ⌜ HeldTimeMeets p (now (table .entry)) peer «given_ms» r ⌝ }
-{
-    let found = judge::sought(p, table, peer);
-    match found {
-        Seek::Unsound => HeldTime::Refused(refusal::UNSOUND),
-        Seek::At(index) => held_known(p, table, peer, index, given_ms),
-        Seek::Gap(_) => HeldTime::At(given_ms),
-    }
-}
-
-fn held_known(
+pub(crate) fn held_known(
     p: PeerMessagePolicy,
     table: &[u8],
     peer: Pubkey,
@@ -228,7 +150,7 @@ fn held_known(
     requires { ⌜ Known p (now table) (peer .bytes) index ⌝ }
     ensures { λ r. ⌜ HeldTimeMeets p (now (table .entry)) peer «given_ms» r ⌝ }
 {
-    let entry = peer_table::row::entry_at(table, index);
+    let entry = peer_rows::row::entry_at(table, index);
     if given_ms < entry.last_used_ms {
         return HeldTime::At(entry.last_used_ms);
     }

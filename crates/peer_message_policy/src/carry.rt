@@ -7,7 +7,7 @@ ghost use Prim.Native.Nat.{_*_};
 ghost use Rattle.lent_bytes.specs.LentBytes.{part};
 ghost use Rattle.table.specs.Memory.{rowOf};
 ghost use Rattle.peer_state.specs.Entry.{entryExpireWindows};
-ghost use Rattle.peer_table.specs.Rows.{peerLayout};
+ghost use Rattle.peer_rows.specs.Rows.{peerLayout};
 ghost use Rattle.peer_table.specs.Room.{makeRoom};
 ghost use Rattle.peer_message_policy.specs.Policy.{rowsOf};
 use super::answer::Invalid;

@@ -42,5 +42,5 @@ pub(crate) fn sought(p: PeerMessagePolicy, table: &[u8], peer: Pubkey) -> Seek
     if ((table.len() / ROW_WIDTH) as u64) < config.limit() {
         return Seek::Unsound;
     }
-    peer_table::walk::sought(config, table, p.rows as usize, peer)
+    peer_rows::walk::sought(config, table, p.rows as usize, peer)
 }

@@ -1,4 +1,4 @@
-// The policy by value, and how one is made.
+// The policy by value: how one is made, and its calls. Each call judges and finds; what follows is in `calls`.
 ghost use mathlib.Core.Path.{_≡_};
 ghost use Rattle.peer_settings.specs.Config.{configDefault, configWithLimits};
 ghost use Rattle.peer_message_policy.specs.Calls.{NewMeets, AdmitMeets, RecordInvalidMeets, IsBannedMeets, OnDisconnectedMeets, ReleaseIngressMeets, InFlightMeets, HeldTimeMeets};
@@ -14,6 +14,7 @@ use super::judge;
 use peer_settings::config::PeerMessagePolicyConfig;
 use peer_state::ingress::FiberIngressBudget;
 use pubkey::Pubkey;
+use table::seek::Seek;
 
 // Settings, the load in flight over all peers, and how many rows of the lent memory are in use.
 pub struct PeerMessagePolicy {
@@ -80,28 +81,48 @@ impl PeerMessagePolicy {
     ) -> PeerMessageAdmission
         ensures { λ r. ⌜ AdmitMeets self (now (table .entry)) peer bytes «now_ms» r (now (table .exit)) ⌝ }
     {
-        calls::admit(self, table, peer, bytes, now_ms)
+        let found = judge::sought(self, table, peer);
+        match found {
+            Seek::Unsound => PeerMessageAdmission::Refused(refusal::UNSOUND),
+            Seek::At(index) => calls::admit_known(self, table, peer, index, bytes, now_ms),
+            Seek::Gap(gap) => calls::admit_new(self, table, peer, gap, bytes, now_ms),
+        }
     }
 
     // Counts a message that turned out to be invalid.
     pub fn record_invalid(self, table: &mut [u8], peer: Pubkey, now_ms: u64) -> Invalid
         ensures { λ r. ⌜ RecordInvalidMeets self (now (table .entry)) peer «now_ms» r (now (table .exit)) ⌝ }
     {
-        calls::record_invalid(self, table, peer, now_ms)
+        let found = judge::sought(self, table, peer);
+        match found {
+            Seek::Unsound => Invalid::Refused(refusal::UNSOUND),
+            Seek::At(index) => calls::invalid_known(self, table, peer, index, now_ms),
+            Seek::Gap(gap) => calls::invalid_new(self, table, peer, gap, now_ms),
+        }
     }
 
     // Whether a peer is banned. A ban that is over is forgotten, with its peer's row.
     pub fn is_banned(self, table: &mut [u8], peer: Pubkey, now_ms: u64) -> Standing
         ensures { λ r. ⌜ IsBannedMeets self (now (table .entry)) peer «now_ms» r (now (table .exit)) ⌝ }
     {
-        calls::is_banned(self, table, peer, now_ms)
+        let found = judge::sought(self, table, peer);
+        match found {
+            Seek::Unsound => Standing::Refused(refusal::UNSOUND),
+            Seek::At(index) => calls::standing_known(self, table, peer, index, now_ms),
+            Seek::Gap(_) => Standing::Free(self),
+        }
     }
 
     // A peer's connection closed: its buckets are kept, its old violations are not.
     pub fn on_disconnected(self, table: &mut [u8], peer: Pubkey, now_ms: u64) -> Changed
         ensures { λ r. ⌜ OnDisconnectedMeets self (now (table .entry)) peer «now_ms» r (now (table .exit)) ⌝ }
     {
-        calls::on_disconnected(self, table, peer, now_ms)
+        let found = judge::sought(self, table, peer);
+        match found {
+            Seek::Unsound => Changed::Refused(refusal::UNSOUND),
+            Seek::At(index) => calls::disconnected_known(self, table, peer, index, now_ms),
+            Seek::Gap(_) => Changed::Policy(self),
+        }
     }
 
     // A message that was in flight is done with.
@@ -138,6 +159,11 @@ impl PeerMessagePolicy {
     pub fn held_time(self, table: &[u8], peer: Pubkey, given_ms: u64) -> HeldTime
         ensures { λ r. ⌜ HeldTimeMeets self (now (table .entry)) peer «given_ms» r ⌝ }
     {
-        calls::held_time(self, table, peer, given_ms)
+        let found = judge::sought(self, table, peer);
+        match found {
+            Seek::Unsound => HeldTime::Refused(refusal::UNSOUND),
+            Seek::At(index) => calls::held_known(self, table, peer, index, given_ms),
+            Seek::Gap(_) => HeldTime::At(given_ms),
+        }
     }
 }

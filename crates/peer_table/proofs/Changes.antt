@@ -13,9 +13,9 @@ use Rattle.table.specs.PlaceLaws.{at-inside, at-key, at-store, at-length-store,
 use Rattle.table.specs.MemoryLaws.{AllFit, Fit, length-rows, fit-rows, fit-append, fit-take, fit-drop, fit-insertAt, fit-removeAt}
 use Rattle.table.specs.MemoryLaws.{put-remove, put-insert, put-entry, holds, key-rows, laid-rows}
 use Rattle.peer_state.specs.declared.entry.PeerMessagePolicyEntry.{PeerMessagePolicyEntry}
-use Rattle.peer_table.specs.Rows.{entryWords, Peers, peerLayout}
-use Rattle.peer_table.specs.Peer.{peerRow}
-use Rattle.peer_table.specs.RowsLaws.{EntryFits, peer-faithful, fit-peerRow}
+use Rattle.peer_rows.specs.Rows.{entryWords, Peers, peerLayout}
+use Rattle.peer_rows.specs.Peer.{peerRow}
+use Rattle.peer_rows.specs.RowsLaws.{EntryFits, peer-faithful, fit-peerRow}
 
 module _ (s t : List ℕ) (n : ℕ) (b : Bytes s) (h : 121 * n ≤ length s) where
   all-fit : AllFit peerLayout EntryFits (rows peerLayout s n)

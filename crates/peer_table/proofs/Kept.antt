@@ -15,8 +15,8 @@ use Rattle.table.specs.RetainLaws.{retain-keeps, retain-drops, retain-ends, len
 use Rattle.table.specs.MemoryLaws.{AllFit, length-rows, getD-rows, fit-rows, fit-take, fit-retain, part-kept, put-kept, put-retained, holds}
 use Rattle.peer_state.specs.declared.entry.PeerMessagePolicyEntry.{PeerMessagePolicyEntry}
 use Rattle.peer_state.specs.Entry.{entryIsSpent}
-use Rattle.peer_table.specs.Rows.{Peers, peerLayout}
-use Rattle.peer_table.specs.RowsLaws.{EntryFits, peer-faithful}
+use Rattle.peer_rows.specs.Rows.{Peers, peerLayout}
+use Rattle.peer_rows.specs.RowsLaws.{EntryFits, peer-faithful}
 use Rattle.peer_table.specs.Room.{pruneExpiredBans}
 
 -- the rows kept of the first i

@@ -13,11 +13,11 @@ use Rattle.table.specs.PlaceLaws.{length-removeAt}
 use Rattle.table.specs.MemoryLaws.{length-rows}
 use Rattle.peer_settings.specs.declared.config.PeerMessagePolicyConfig.{PeerMessagePolicyConfig}
 use Rattle.peer_settings.specs.Config.{limit}
-use Rattle.peer_table.specs.Rows.{Peers, peerLayout}
+use Rattle.peer_rows.specs.Rows.{Peers, peerLayout}
 use Rattle.peer_table.specs.First.{measureBy}
 use Rattle.peer_table.specs.Room.{pruneExpiredBans, ordinaryLru, bannedExpirations, evict, makeRoom}
 use Rattle.peer_table.specs.RoomLaws.{length-prune, evict-nobody, room-free, room-pruned, room-evicted}
-use Rattle.peer_table.specs.RowsLaws.{holds-holds}
+use Rattle.peer_rows.specs.RowsLaws.{holds-holds}
 use Rattle.peer_table.proofs.Kept.{prune-fit}
 use Rattle.peer_table.proofs.Changes.{unchanged}
 

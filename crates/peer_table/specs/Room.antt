@@ -9,7 +9,7 @@ use Rattle.peer_settings.specs.declared.config.PeerMessagePolicyConfig.{PeerMes
 use Rattle.peer_state.specs.declared.entry.PeerMessagePolicyEntry.{PeerMessagePolicyEntry}
 use Rattle.peer_settings.specs.Config.{limit}
 use Rattle.peer_state.specs.Entry.{entryIsSpent}
-use Rattle.peer_table.specs.Rows.{Peers}
+use Rattle.peer_rows.specs.Rows.{Peers}
 
 -- prune_expired_bans: all spent bans go
 abbrev pub pruneExpiredBans : ℕ → Peers → Peers

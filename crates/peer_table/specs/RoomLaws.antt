@@ -23,8 +23,8 @@ use Rattle.peer_settings.specs.declared.config.PeerMessagePolicyConfig.{PeerMes
 use Rattle.peer_state.specs.declared.entry.PeerMessagePolicyEntry.{PeerMessagePolicyEntry}
 use Rattle.peer_settings.specs.Config.{limit}
 use Rattle.peer_state.specs.Entry.{entryIsSpent}
-use Rattle.peer_table.specs.Rows.{Peers, peerLayout}
-use Rattle.peer_table.specs.RowsLaws.{EntryFits}
+use Rattle.peer_rows.specs.Rows.{Peers, peerLayout}
+use Rattle.peer_rows.specs.RowsLaws.{EntryFits}
 use Rattle.peer_table.specs.Room.{pruneExpiredBans, ordinaryLru, bannedExpirations, evict, makeRoom}
 
 -- ---- rows taken out ----

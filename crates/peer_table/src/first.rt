@@ -7,7 +7,7 @@ ghost use Rattle.lent_bytes.specs.LentBytes.{part};
 ghost use Rattle.table.specs.Table.{better, leastFrom};
 ghost use Rattle.table.specs.Table.{nothing};
 ghost use Rattle.table.specs.Memory.{rowOf, rows};
-ghost use Rattle.peer_table.specs.Rows.{peerLayout};
+ghost use Rattle.peer_rows.specs.Rows.{peerLayout};
 ghost use Rattle.peer_table.specs.First.{bestOf, measureOf, measureBy};
 use lent_bytes::number::get_u64;
 

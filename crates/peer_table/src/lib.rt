@@ -1,7 +1,5 @@
-// The peers' rows in lent bytes: found by key, pruned, evicted and stored (a support crate of `peer_message_policy`: its functions
-// require their place).
+// The peers' rows in lent bytes, changed: stored, pruned and evicted (a support crate of `peer_message_policy`: its functions require
+// their place).
 pub mod first;
 pub mod places;
 pub mod room;
-pub mod row;
-pub mod walk;

@@ -7,13 +7,13 @@ ghost use Rattle.lent_bytes.specs.LentBytes.{part, put};
 ghost use Rattle.table.specs.Memory.{rowOf, rows, tableBytes, Holds};
 ghost use Rattle.peer_settings.specs.Config.{limit};
 ghost use Rattle.peer_state.specs.Entry.{entryIsSpent};
-ghost use Rattle.peer_table.specs.Rows.{peerLayout};
+ghost use Rattle.peer_rows.specs.Rows.{peerLayout};
 ghost use Rattle.peer_table.specs.Room.{pruneExpiredBans, makeRoom};
 ghost use Rattle.peer_table.specs.Room.{evict as evicted};
 use super::first::First;
 use super::first::find_first;
 use super::places::remove_at;
-use super::row::row_spent;
+use peer_rows::row::row_spent;
 use peer_settings::config::PeerMessagePolicyConfig;
 
 // One step of the walk that keeps rows: the row at the index `from` moves down to `to`, unless its ban is over. Answers where the

@@ -9,7 +9,8 @@ use borrow.Author.Tests.{ltb-true, le-leb, le-ltb}
 use lib.Dec.{ltb, leb, eqb, lit≤}
 use lib.IntN.{ℤ, pos, negsuc, negℤ, _+ℤ_, _-ℤ_}
 use lib.Signed.{ltZ}
-use Rattle.amount.specs.Amount.{digits, limbs, value, amountOf, Is, isI128, saturated, natural, lesser}
+use Rattle.limb_arithmetic.specs.Limbs.{digits}
+use Rattle.amount.specs.Amount.{limbs, value, amountOf, Is, isI128, saturated, natural, lesser}
 use Rattle.amount.specs.AmountOfLaws.{amountOf-is}
 use Rattle.bucket_terms.specs.declared.answer.Consumed.{Consumed}
 use Rattle.bucket_terms.specs.declared.answer.Consumed.the-variants as Consumed

@@ -18,7 +18,7 @@ use Rattle.peer_state.specs.declared.entry.ViolationWindow.{ViolationWindow}
 use Rattle.peer_state.specs.declared.ingress.FiberIngressBudget.{FiberIngressBudget}
 use Rattle.peer_state.specs.Entry.{window, windowRecord}
 use Rattle.peer_state.specs.Ingress.{inFlight}
-use Rattle.peer_table.specs.Rows.{Peers}
+use Rattle.peer_rows.specs.Rows.{Peers}
 use Rattle.peer_message_policy.specs.Policy.{Change, same, become, admit}
 use Rattle.peer_message_policy.specs.Calls.{admissionSays, admissionOf, fresh}
 

@@ -8,7 +8,7 @@ use Rattle.pubkey.specs.declared.Pubkey.{Pubkey}
 use Rattle.refusal.specs.Refusal.{Said}
 use Rattle.table.specs.Table.{look}
 use Rattle.peer_settings.specs.declared.config.PeerMessagePolicyConfig.{PeerMessagePolicyConfig}
-use Rattle.peer_table.specs.Rows.{Peers}
+use Rattle.peer_rows.specs.Rows.{Peers}
 use Rattle.peer_message_policy.specs.declared.policy.PeerMessagePolicy.{PeerMessagePolicy}
 use Rattle.peer_message_policy.specs.declared.answer.PeerMessageAdmission.{PeerMessageAdmission}
 use Rattle.peer_message_policy.specs.declared.answer.PeerMessageAdmission.the-variants as Admission

@@ -4,7 +4,7 @@ use mathlib.Core.Bool.{Bool, true, false}
 use mathlib.Core.List.{List, [], _∷_, _++_}
 use Prim.Native.Nat.{ℕ, _/_, _%_, _^_}
 use lib.ListN.{take}
-use Rattle.amount.specs.Amount as amount
+use Rattle.limb_arithmetic.specs.Limbs as limbs
 use Rattle.amount.specs.declared.Amount.{Amount}
 use Rattle.decimal.specs.Decimal.{digitsOf}
 use Rattle.replay.specs.declared.line.Line.{Line}
@@ -29,7 +29,7 @@ truthText false = 48 ∷ []
 -- an amount as its sign, low half and high half
 unfoldable pub amountText : Amount → List ℕ
 amountText a =
-    truthText (a .negative) ++ (thenText (amount.digits (a .limbs) % 2 ^ 64) ++ thenText (amount.digits (a .limbs) / 2 ^ 64))
+    truthText (a .negative) ++ (thenText (limbs.digits (a .limbs) % 2 ^ 64) ++ thenText (limbs.digits (a .limbs) / 2 ^ 64))
 
 -- `refusal` and the refusal's number
 unfoldable pub refusalText : ℕ → List ℕ

@@ -10,7 +10,7 @@ use borrow.Author.Tests.{lt-ltb, le-ltb, ltb-true, ltb-false}
 use lib.Dec.{ltb}
 use lib.ListN.{length, getD, take, set, length-take, length-append}
 use lib.Seq.{take-all, take-append-le, take-suc, take-suc-set, length-take-le}
-use Rattle.amount.specs.Amount as amount
+use Rattle.limb_arithmetic.specs.Limbs as limbs
 use Rattle.amount.specs.AmountLaws.{digits-four}
 use Rattle.decimal.specs.Decimal.{digitsWithin, digitsOf}
 use Rattle.lent_bytes.specs.LentBytes.{put}
@@ -88,5 +88,5 @@ digits-written s ds last end e l = rw (e, l) (take-put-end s 0 ds (omega arith))
 
 -- the halves of four limbs
 pub halves : (xs : List ℕ) → length xs ≡ 4 → getD xs 0 0 < 2 ^ 32 → getD xs 1 0 < 2 ^ 32
-    → (getD xs 0 0 + 4294967296 * getD xs 1 0 ≡ amount.digits xs % 2 ^ 64) × (getD xs 2 0 + 4294967296 * getD xs 3 0 ≡ amount.digits xs / 2 ^ 64)
+    → (getD xs 0 0 + 4294967296 * getD xs 1 0 ≡ limbs.digits xs % 2 ^ 64) × (getD xs 2 0 + 4294967296 * getD xs 3 0 ≡ limbs.digits xs / 2 ^ 64)
 halves xs h l k = (omega (arith, digits-four xs h), omega (arith, digits-four xs h))

@@ -3,7 +3,8 @@ use mathlib.Core.Path.{sym, ap}
 use Prim.Native.Nat.{ℕ, _-_, _^_, min}
 use native.Mathlib.Omega.{arith}
 use borrow.Author.Needs.{needs}
-use Rattle.amount.specs.Amount.{value, digits}
+use Rattle.limb_arithmetic.specs.Limbs.{digits}
+use Rattle.amount.specs.Amount.{value}
 use Rattle.amount.proofs.MagnitudeLaws.{small-min, large-min}
 use Rattle.amount.proofs.SignedLaws.{natural-minus}
 use Rattle.amount.proofs.Amount.to_u64.Statement.{statement}

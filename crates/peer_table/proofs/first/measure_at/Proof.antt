@@ -2,7 +2,7 @@
 use mathlib.Core.Path.{sym, ap, _∙_}
 use borrow.Author.Tests.{eq-eqb, ne-eqb}
 use Rattle.peer_table.specs.First.{measureBy}
-use Rattle.peer_table.specs.RowsLaws.{entry-places}
+use Rattle.peer_rows.specs.RowsLaws.{entry-places}
 use borrow.Author.Needs.{needs}
 use Rattle.peer_table.proofs.first.measure_at.Statement.{statement}
 use Rattle.peer_table.proofs.first.measure_at.Tie as tie

@@ -6,7 +6,7 @@ use Prim.Native.Nat.{_-_}
 use native.Mathlib.Omega.{arith}
 use lib.ListN.{length, getD}
 use Rattle.lent_bytes.specs.LentBytes.{Bytes}
-use Rattle.peer_table.specs.RowsLaws.{length-entryWords}
+use Rattle.peer_rows.specs.RowsLaws.{length-entryWords}
 use Rattle.peer_table.proofs.Changes.{inserted}
 use borrow.Author.Needs.{needs}
 use Rattle.peer_table.proofs.places.insert_at.Statement.{statement}

@@ -4,7 +4,7 @@ use mathlib.Core.Path.{sym, _∙_}
 use native.Mathlib.Omega.{arith}
 use Rattle.table.specs.Memory.{rows}
 use Rattle.table.specs.PlaceLaws.{place-is-sound}
-use Rattle.peer_table.specs.Rows.{peerLayout}
+use Rattle.peer_rows.specs.Rows.{peerLayout}
 use Rattle.peer_table.proofs.Changes.{place-inside, gap-within, stored-at, stored-gap}
 use borrow.Author.Needs.{needs}
 use Rattle.peer_table.proofs.places.store.Statement.{statement}

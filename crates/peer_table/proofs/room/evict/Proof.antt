@@ -3,7 +3,7 @@ use mathlib.Core.Bool.{true, false}
 use mathlib.Core.Path.{sym, ap, _∙_}
 use native.Mathlib.Omega.{arith}
 use Rattle.table.specs.Memory.{rows}
-use Rattle.peer_table.specs.Rows.{peerLayout}
+use Rattle.peer_rows.specs.Rows.{peerLayout}
 use Rattle.peer_table.specs.First.{bestOf}
 use Rattle.peer_table.specs.RoomLaws.{evict-ordinary, evict-banned}
 use Rattle.peer_table.proofs.Making.{found-inside, evicted-row, evicted-nobody}

@@ -6,7 +6,7 @@ use native.Mathlib.Omega.{arith}
 use lib.ListN.{length}
 use Rattle.lent_bytes.specs.LentBytes.{put}
 use Rattle.table.specs.Memory.{tableBytes}
-use Rattle.peer_table.specs.Rows.{Peers, peerLayout}
+use Rattle.peer_rows.specs.Rows.{Peers, peerLayout}
 use Rattle.peer_table.proofs.Kept.{keptOf, kept-begins, kept-most, kept-ends, keep-step}
 use Rattle.peer_table.proofs.room.gather_unspent.Statement.{statement}
 use Rattle.peer_table.proofs.room.gather_unspent.Tie as tie

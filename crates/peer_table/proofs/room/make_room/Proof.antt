@@ -2,7 +2,7 @@
 use native.Mathlib.Omega.{arith}
 use Rattle.table.specs.Memory.{rows}
 use Rattle.table.specs.MemoryLaws.{length-rows}
-use Rattle.peer_table.specs.Rows.{peerLayout}
+use Rattle.peer_rows.specs.Rows.{peerLayout}
 use Rattle.peer_table.specs.RoomLaws.{length-prune}
 use Rattle.peer_table.proofs.Making.{made-free, made-pruned, made-evicted}
 use borrow.Author.Needs.{needs}

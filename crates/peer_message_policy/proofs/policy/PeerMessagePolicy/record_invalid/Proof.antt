@@ -1,0 +1,63 @@
+-- `PeerMessagePolicy::record_invalid` meets its contract. Assumes nothing.
+use mathlib.Core.Path.{sym, _∙_}
+use Rattle.peer_message_policy.proofs.Judged.{sought-unsound, sought-known, sought-unknown}
+use Rattle.peer_message_policy.proofs.Turns.{invalid-unsound}
+use borrow.Author.Needs.{needs}
+use Rattle.peer_message_policy.proofs.policy.PeerMessagePolicy.record_invalid.Statement.{statement}
+use Rattle.peer_message_policy.proofs.policy.PeerMessagePolicy.record_invalid.Tie as tie
+
+sought-requires : tie.Need-sought-requires
+sought-requires c κs = search needs
+
+enum-told : tie.Need-enum-told
+enum-told c = search needs
+
+enum-known-found : tie.Need-enum-known-found
+enum-known-found c = search needs
+
+invalid-known-requires : tie.Need-invalid-known-requires
+invalid-known-requires c κs = let a = c .before .before .before .before .before .before .before .args in
+    sought-known (a .self) (a .table .now) (a .peer .bytes) (sym (c .before .before .before .before .sought .ensures) ∙ c .before .before .found .given .1)
+
+enum-known-found-2 : tie.Need-enum-known-found-2
+enum-known-found-2 c = search needs
+
+invalid-new-requires : tie.Need-invalid-new-requires
+invalid-new-requires c κs = let a = c .before .before .before .before .before .before .before .args in
+    sought-unknown (a .self) (a .table .now) (a .peer .bytes) (sym (c .before .before .before .before .sought .ensures) ∙ c .before .before .found2 .given .1)
+
+same-length : tie.Need-same-length
+same-length c = search needs
+
+returns : tie.Need-returns
+returns c = let a = c .before .before .before .before .before .args in
+    invalid-unsound (a .self) (a .table .now) (a .peer) (a .now-ms) (sought-unsound (a .self) (a .table .now) (a .peer .bytes) (sym (c .before .before .sought .ensures) ∙ c .enum-told .given .1))
+
+same-length-2 : tie.Need-same-length-2
+same-length-2 c = search needs
+
+returns-2 : tie.Need-returns-2
+returns-2 c = search needs
+
+same-length-3 : tie.Need-same-length-3
+same-length-3 c = search needs
+
+returns-3 : tie.Need-returns-3
+returns-3 c = search needs
+
+pub record-invalid-spec : {M : Type 1} → statement M
+record-invalid-spec =
+    tie.close
+    (tie.spec
+    sought-requires
+    enum-told
+    enum-known-found
+    invalid-known-requires
+    enum-known-found-2
+    invalid-new-requires
+    same-length
+    returns
+    same-length-2
+    returns-2
+    same-length-3
+    returns-3)
