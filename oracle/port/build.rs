@@ -1,20 +1,25 @@
-//! Finds the archive of the proved library, which `oracle/archive` writes.
+//! Finds the archives of the proved library, which `oracle/archive` writes.
 
 use std::path::PathBuf;
 use std::{env, process};
 
+/// The crates whose C functions are linked; `oracle/archive` names them too.
+const EXPORTING: [&str; 2] = ["exports", "bucket_exports"];
+
 fn main() {
     let here = PathBuf::from(env::var("CARGO_MANIFEST_DIR").unwrap());
     let folder = here.join("../../target/native");
-    let archive = folder.join("libexports.a");
-    println!("cargo:rerun-if-changed={}", archive.display());
-    if !archive.exists() {
-        eprintln!(
-            "The proved library is missing: {}. oracle/archive writes it.",
-            archive.display()
-        );
-        process::exit(1);
-    }
     println!("cargo:rustc-link-search=native={}", folder.display());
-    println!("cargo:rustc-link-lib=static=exports");
+    for name in EXPORTING {
+        let archive = folder.join(format!("lib{name}.a"));
+        println!("cargo:rerun-if-changed={}", archive.display());
+        if !archive.exists() {
+            eprintln!(
+                "A part of the proved library is missing: {}. oracle/archive writes it.",
+                archive.display()
+            );
+            process::exit(1);
+        }
+        println!("cargo:rustc-link-lib=static={name}");
+    }
 }

@@ -2,8 +2,8 @@
 //! A crate of its own, so that an edited copy is built in a second or two.
 
 use checks::compare::{self, Options};
-use checks::model::Model;
 use original::UnchangedRust;
+use port::Proved;
 use std::process::ExitCode;
 
 fn main() -> ExitCode {
@@ -18,7 +18,7 @@ fn main() -> ExitCode {
         watch: false,
         first_only: true,
     };
-    let outcome = compare::run(&mut UnchangedRust::default(), &Model, &options);
+    let outcome = compare::run(&mut UnchangedRust::default(), &Proved, &options);
     for mismatch in &outcome.shown {
         println!("after {} calls: {mismatch}", outcome.tally.calls());
     }

@@ -2,37 +2,8 @@
 //!
 //! Operands: an amount is three words (sign, low and high 64 bits of the magnitude), a number one word.
 
+pub use vocabulary::amounts::*;
 use vocabulary::{Amount, Answer, Words};
-
-pub const NAMES: [&str; 13] = [
-    "from_u64",
-    "is_negative",
-    "is_below",
-    "is_above",
-    "lesser",
-    "saturating_add",
-    "saturating_sub",
-    "deficit",
-    "to_u64",
-    "is_i128",
-    "product_per_thousand",
-    "times_thousand",
-    "div_ceil_low",
-];
-
-pub const FROM_U64: u64 = 0;
-pub const IS_NEGATIVE: u64 = 1;
-pub const IS_BELOW: u64 = 2;
-pub const IS_ABOVE: u64 = 3;
-pub const LESSER: u64 = 4;
-pub const SATURATING_ADD: u64 = 5;
-pub const SATURATING_SUB: u64 = 6;
-pub const DEFICIT: u64 = 7;
-pub const TO_U64: u64 = 8;
-pub const IS_I128: u64 = 9;
-pub const PRODUCT_PER_THOUSAND: u64 = 10;
-pub const TIMES_THOUSAND: u64 = 11;
-pub const DIV_CEIL_LOW: u64 = 12;
 
 /// What an operation takes after its number.
 #[derive(Clone, Copy, Debug, PartialEq, Eq)]

@@ -120,10 +120,7 @@ impl<'a> BothSides<'a> {
                 self.expect(call[0], amounts::by_rust(call), tally);
                 same_answer(self.answer, self.port.amount(call))
             }
-            Kind::Settings => {
-                self.expect(call[0], settings::by_rust(self.original, call), tally);
-                same_answer(self.answer, self.port.settings(call))
-            }
+            Kind::Settings => self.step_settings(call, tally),
         }
     }
 
@@ -210,6 +207,17 @@ impl<'a> BothSides<'a> {
         Ok(())
     }
 
+    fn step_settings(&mut self, call: &Words, tally: &mut Tally) -> Result<(), String> {
+        let (answer, expected) = settings::by_rust(self.original, call);
+        self.expect(call[0], answer, tally);
+        let (answered, after) = self.port.settings(call);
+        same_answer(answer, answered)?;
+        if expected != after {
+            return Err(format!("the Rust's settings are {expected:?}, the port's {after:?}"));
+        }
+        Ok(())
+    }
+
     // Refusals: a sound state is damaged in one known way, so the number is known by construction.
 
     /// Words: the damage, the key's place, bytes, now, the operation, the row that is damaged.
@@ -279,7 +287,7 @@ fn filled(length: usize, filler: u64) -> Vec<u8> {
 }
 
 /// The ceiling is unlimited, and the message count or the bytes' sum would pass its width.
-fn meets_refusal_4(state: &PeerState, bytes: u64) -> bool {
+pub(crate) fn meets_refusal_4(state: &PeerState, bytes: u64) -> bool {
     state.settings.unlimited()
         && (state.in_flight_messages == u32::MAX || state.in_flight_bytes.checked_add(bytes).is_none())
 }

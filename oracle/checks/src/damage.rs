@@ -23,6 +23,9 @@ pub const PEER_DAMAGE: [&str; 15] = [
     "making: table one byte short",
 ];
 
+/// From this place on the damage is to what a policy is made of.
+pub const MAKING_DAMAGE: usize = 13;
+
 /// Where the damage is, and so which calls must refuse.
 pub enum Damage {
     Record,

@@ -1,8 +1,8 @@
 //! The comparison of the unchanged Rust with a port of it, and what is built on it.
 //!
 //! `calls` makes traces up, `both_sides` runs one and compares after each call, `compare` runs many of them,
-//! `shrink` makes a mismatch small, `show` writes it down. `model` is a port in Rust, written from document 10. `lists`
-//! are the recorded answers, `mutants` the edits of the self-test.
+//! `shrink` makes a mismatch small, `show` writes it down. `lists` are the recorded answers,
+//! `mutants` the edits of the self-test.
 
 pub mod amounts;
 pub mod both_sides;
@@ -11,7 +11,6 @@ pub mod compare;
 pub mod damage;
 pub mod dice;
 pub mod lists;
-pub mod model;
 pub mod mutants;
 pub mod settings;
 pub mod show;

@@ -303,6 +303,12 @@ pub const MUTANTS: &[Mutant] = &[
         "capacity is needed.\n",
         "capacity is needed.\n        entry.messages = DiscreteTokenBucket::new(self.config.peer_message_interval_ms, self.config.peer_message_burst);\n",
     ),
+    // Settings of the byte buckets.
+    gossip("default_global_rate", "GLOBAL_MSG_RATE_BYTES: u64 = 1_024_000;", "GLOBAL_MSG_RATE_BYTES: u64 = 1_024_001;"),
+    gossip("default_global_burst", "GLOBAL_MSG_BURST_BYTES: u64 = 2_048_000;", "GLOBAL_MSG_BURST_BYTES: u64 = 2_047_999;"),
+    gossip("default_peer_rate", "PEER_MSG_RATE_BYTES: u64 = 51_200;", "PEER_MSG_RATE_BYTES: u64 = 51_201;"),
+    gossip("default_peer_burst", "PEER_MSG_BURST_BYTES: u64 = 102_400;", "PEER_MSG_BURST_BYTES: u64 = 102_399;"),
+    gossip("default_global_is_the_peers", "rate_bytes_per_sec: DEFAULT_GOSSIP_GLOBAL_MSG_RATE_BYTES", "rate_bytes_per_sec: DEFAULT_GOSSIP_PEER_MSG_RATE_BYTES"),
     // Byte bucket.
     gossip("byte_off_needs_both", "self.rate_bytes_per_sec == 0 || self.burst_bytes == 0", "self.rate_bytes_per_sec == 0 && self.burst_bytes == 0"),
     gossip("byte_off_by_rate_alone", "self.rate_bytes_per_sec == 0 || self.burst_bytes == 0", "self.rate_bytes_per_sec == 0"),

@@ -57,7 +57,7 @@ impl Kind {
             Self::Peers => &PEER_OPERATIONS,
             Self::Buckets => &BucketOperation::NAMES,
             Self::Amounts => &amounts::NAMES,
-            Self::Settings => &settings::NAMES,
+            Self::Settings => &vocabulary::settings::NAMES,
             Self::PeerRefusals => &PEER_DAMAGE,
             Self::BucketRefusals => &BucketOperation::NAMES,
         }
@@ -134,7 +134,7 @@ impl Trace {
             Kind::Buckets => self.calls.iter().all(bucket_call_is_valid),
             Kind::BucketRefusals => true,
             Kind::Amounts => self.calls.iter().all(amounts::in_domain),
-            Kind::Settings => self.calls.iter().all(settings_call_is_valid),
+            Kind::Settings => self.calls.iter().all(settings::in_domain),
         }
     }
 }
@@ -170,13 +170,5 @@ fn bucket_call_is_valid(words: &Words) -> bool {
             call.operands[2] < 2 && available.is_some_and(|n| n <= i128::from(bucket.burst))
         }
         _ => true,
-    }
-}
-
-fn settings_call_is_valid(call: &Words) -> bool {
-    match call[0] {
-        settings::DEFAULT => call[1] < 9,
-        settings::MESSAGE_LIMIT_DISABLED => call[2] <= u32::MAX.into(),
-        _ => call[1] <= u32::MAX.into(),
     }
 }

@@ -57,3 +57,18 @@ impl ByteTokenBucket {
         self.peek_delay_after_refill(bytes, now_ms)
     }
 }
+
+impl ByteRateLimitConfig {
+    pub(crate) fn oracle_default_global() -> Self {
+        default_global_outbound_config()
+    }
+
+    pub(crate) fn oracle_default_peer() -> Self {
+        default_peer_outbound_config()
+    }
+
+    /// Rate, burst.
+    pub(crate) fn oracle_read(&self) -> [u64; 2] {
+        [self.rate_bytes_per_sec, self.burst_bytes]
+    }
+}

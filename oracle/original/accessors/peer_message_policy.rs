@@ -28,6 +28,10 @@ impl PeerMessagePolicyConfig {
             max_bytes: self.max_in_flight_bytes,
         }
     }
+
+    pub(crate) fn oracle_is_unlimited(self) -> bool {
+        PeerMessagePolicy::new(self).ingress.is_unlimited()
+    }
 }
 
 impl PeerMessagePolicyEntry {

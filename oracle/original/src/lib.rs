@@ -9,9 +9,10 @@ mod fiber {
 use fiber::gossip_policy::{ByteRateLimitConfig, ByteTokenBucket, DiscreteTokenBucket};
 use fiber::peer_message_policy::{PeerMessageAdmission, PeerMessagePolicy, PeerMessagePolicyConfig};
 use fiber_types::Pubkey;
+use vocabulary::settings::{self, LimitOperation, PeerSettingsOperation, SettingsCall};
 use vocabulary::{
     answer, Answer, BucketCall, BucketOperation as B, Buckets, Original, PeerCall, PeerOperation as P, PeerState,
-    Settings,
+    Settings, Words,
 };
 
 /// Whether the Rust that was built is the one as published, and not an edited copy that RUST_SRC names.
@@ -100,7 +101,10 @@ impl Original for UnchangedRust {
                 self.discrete.oracle_refill(a);
                 Answer::done()
             }
-            B::DiscreteTryConsume => Answer::yes_or_no(self.discrete.try_consume(a)),
+            B::DiscreteTryConsume => {
+                let yes = self.discrete.try_consume(a);
+                self.consumed(yes, 1)
+            }
             B::DiscreteIsFull => Answer::yes_or_no(self.discrete.oracle_is_full()),
             B::DiscreteSet => {
                 let bucket = call.discrete_to_set().expect("numbers within u32");
@@ -118,7 +122,10 @@ impl Original for UnchangedRust {
                 self.byte.oracle_refill(a);
                 Answer::done()
             }
-            B::ByteTryConsume => Answer::yes_or_no(self.byte.try_consume(a, b)),
+            B::ByteTryConsume => {
+                let yes = self.byte.try_consume(a, b);
+                self.consumed(yes, self.bytes_short(a))
+            }
             B::ByteReserve => Answer::value(self.byte.reserve(a, b)),
             B::BytePeekDelayAfterRefill => Answer::value(self.byte.oracle_peek_delay_after_refill(a, b)),
             B::ByteRefund => {
@@ -146,11 +153,71 @@ impl Original for UnchangedRust {
         PeerMessagePolicyConfig::default().oracle_read()
     }
 
-    fn message_limit_disabled(&self, settings: &Settings) -> bool {
-        PeerMessagePolicyConfig::oracle_make(settings).message_limit_disabled()
+    fn settings(&self, call: &Words) -> (Answer, [u64; 9]) {
+        match settings::read(call) {
+            SettingsCall::Peers(operation, given) => {
+                let (answer, after) = self.peer_settings(operation, &given);
+                (answer, after.words())
+            }
+            SettingsCall::Bytes(operation, given) => {
+                let (answer, after) = byte_limit(operation, &given);
+                (answer, settings::as_nine(&after))
+            }
+        }
+    }
+}
+
+impl UnchangedRust {
+    fn peer_settings(&self, operation: PeerSettingsOperation, given: &Settings) -> (Answer, Settings) {
+        let config = PeerMessagePolicyConfig::oracle_make(given);
+        let default = self.default_settings();
+        match operation {
+            PeerSettingsOperation::Default => (Answer::done(), default),
+            // The Rust builds it for its tests alone, so it is worked out here.
+            PeerSettingsOperation::WithLimits => {
+                let (max_tracked, max_messages, max_bytes) = (given.row_limit(), given.max_messages, given.max_bytes);
+                let limited = Settings {
+                    max_tracked,
+                    max_messages,
+                    max_bytes,
+                    ..default
+                };
+                (Answer::done(), limited)
+            }
+            PeerSettingsOperation::MessageLimitDisabled => (Answer::yes_or_no(config.message_limit_disabled()), *given),
+            PeerSettingsOperation::BanDisabled => (Answer::yes_or_no(config.ban_disabled()), *given),
+            PeerSettingsOperation::IsUnlimited => (Answer::yes_or_no(config.oracle_is_unlimited()), *given),
+        }
     }
 
-    fn ban_disabled(&self, settings: &Settings) -> bool {
-        PeerMessagePolicyConfig::oracle_make(settings).ban_disabled()
+    /// By how much a no fell short: the Rust does not say, so it is worked out from the bucket that it leaves.
+    fn consumed(&self, yes: bool, short: u64) -> Answer {
+        let mut answer = Answer::yes_or_no(yes);
+        if !yes {
+            answer.values[0] = short;
+        }
+        answer
+    }
+
+    fn bytes_short(&self, bytes: u64) -> u64 {
+        let available = self.byte.oracle_read().available.as_i128().expect("an i128");
+        let short = i128::from(bytes).saturating_sub(available);
+        short.clamp(0, u64::MAX.into()) as u64
+    }
+}
+
+fn byte_limit(operation: LimitOperation, given: &[u64; 2]) -> (Answer, [u64; 2]) {
+    let [rate_bytes_per_sec, burst_bytes] = *given;
+    let config = ByteRateLimitConfig {
+        rate_bytes_per_sec,
+        burst_bytes,
+    };
+    match operation {
+        LimitOperation::DefaultGlobal => (
+            Answer::done(),
+            ByteRateLimitConfig::oracle_default_global().oracle_read(),
+        ),
+        LimitOperation::DefaultPeer => (Answer::done(), ByteRateLimitConfig::oracle_default_peer().oracle_read()),
+        LimitOperation::IsDisabled => (Answer::yes_or_no(config.is_disabled()), *given),
     }
 }

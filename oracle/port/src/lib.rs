@@ -1,53 +1,94 @@
-//! The proved library as the port under test: the peers' calls go to it, all others to the model.
+//! The proved library as the port under test: each call goes to a C function of crate `exports` (peers) or `bucket_exports` (the rest).
 
-mod exports;
+mod peers;
+mod plain;
 
-use checks::model::Model;
-use exports::*;
-use vocabulary::{Answer, BucketCall, Buckets, PeerCall, PeerOperation, Port, Record, Words};
+use vocabulary::amounts::{DIV_CEIL_LOW, FROM_U64, PRODUCT_PER_THOUSAND, TO_U64};
+use vocabulary::settings::{self, SettingsCall};
+use vocabulary::{Amount, Answer, BucketCall, BucketOperation, Buckets, PeerCall, PeerOperation, Port, Record, Words};
 
 pub struct Proved;
 
 impl Port for Proved {
     fn name(&self) -> &'static str {
-        "the proved library (peers' calls; the rest is the model's)"
+        "the proved library"
     }
 
     fn make_peers(&self, record: &mut Record, table: &mut [u8]) -> Answer {
-        Answer::plain(new(record, table))
+        Answer::plain(peers::new(record, table))
     }
 
     fn peers(&self, call: &PeerCall, record: &mut Record, table: &mut [u8]) -> Answer {
+        let (key, bytes, now) = (&call.key, call.bytes, call.now);
         match call.operation {
-            PeerOperation::Admit => Answer::plain(admit(record, table, &call.key, call.bytes, call.now)),
-            PeerOperation::RecordInvalid => Answer::plain(record_invalid(record, table, &call.key, call.now)),
-            PeerOperation::IsBanned => Answer::plain(is_banned(record, table, &call.key, call.now)),
-            PeerOperation::OnDisconnected => Answer::plain(on_disconnected(record, table, &call.key, call.now)),
-            PeerOperation::ReleaseIngress => Answer::plain(release_ingress(record, call.bytes)),
+            PeerOperation::Admit => Answer::plain(peers::admit(record, table, key, bytes, now)),
+            PeerOperation::RecordInvalid => Answer::plain(peers::record_invalid(record, table, key, now)),
+            PeerOperation::IsBanned => Answer::plain(peers::is_banned(record, table, key, now)),
+            PeerOperation::OnDisconnected => Answer::plain(peers::on_disconnected(record, table, key, now)),
+            PeerOperation::ReleaseIngress => Answer::plain(peers::release_ingress(record, bytes)),
             PeerOperation::InFlight => {
                 let mut numbers = [0; 2];
-                let number = in_flight(record, &mut numbers);
+                let number = peers::in_flight(record, &mut numbers);
                 let values = [numbers[0], numbers[1], 0];
                 Answer { number, values }
             }
             PeerOperation::HeldTime => {
                 let mut held = 0;
-                let number = held_time(record, table, &call.key, call.now, &mut held);
+                let number = peers::held_time(record, table, key, now, &mut held);
                 let values = [held, 0, 0];
                 Answer { number, values }
             }
         }
     }
 
+    /// The C functions go by the numbers of the recorded lists. A `set` is no call of the library: it writes the bucket.
     fn bucket(&self, call: &BucketCall, buckets: &mut Buckets) -> Answer {
-        Model.bucket(call, buckets)
+        let number = call.operation as u32;
+        let [a, b, ..] = call.operands;
+        match call.operation {
+            BucketOperation::DiscreteSet => buckets.discrete = call.discrete_to_set().expect("numbers within u32"),
+            BucketOperation::ByteSet => buckets.byte = call.byte_to_set(),
+            BucketOperation::DiscreteNew => {
+                (buckets.discrete.interval, buckets.discrete.capacity) = (a, b as u32);
+                return plain::discrete(number, &mut buckets.discrete, 0);
+            }
+            BucketOperation::ByteNew => {
+                (buckets.byte.rate, buckets.byte.burst) = (a, b);
+                return plain::byte(number, &mut buckets.byte, 0, 0);
+            }
+            BucketOperation::DiscreteRefill | BucketOperation::DiscreteTryConsume | BucketOperation::DiscreteIsFull => {
+                return plain::discrete(number, &mut buckets.discrete, a);
+            }
+            BucketOperation::ByteRefill | BucketOperation::ByteHasDebt => {
+                return plain::byte(number, &mut buckets.byte, 0, a);
+            }
+            _ => return plain::byte(number, &mut buckets.byte, a, b),
+        }
+        Answer::done()
     }
 
-    fn settings(&self, call: &Words) -> Answer {
-        Model.settings(call)
+    fn settings(&self, call: &Words) -> (Answer, [u64; 9]) {
+        match settings::read(call) {
+            SettingsCall::Peers(operation, mut s) => (plain::settings(operation as u32, &mut s), s.words()),
+            SettingsCall::Bytes(operation, mut limit) => {
+                let answer = plain::limit(operation as u32, &mut limit);
+                (answer, settings::as_nine(&limit))
+            }
+        }
     }
 
+    /// Numbers come where the recorded lists have them: alone in front, or behind an amount.
     fn amount(&self, call: &Words) -> Answer {
-        Model.amount(call)
+        let (a, b) = (Amount::from_words(&call[1..4]), Amount::from_words(&call[4..7]));
+        let (n, m) = match call[0] {
+            FROM_U64 | PRODUCT_PER_THOUSAND => (call[1], call[2]),
+            _ => (call[4], 0),
+        };
+        let (answer, amount) = plain::amount(call[0] as u32, &a, &b, n, m);
+        match call[0] {
+            TO_U64 | DIV_CEIL_LOW => answer,
+            _ if answer == Answer::done() => Answer::values(amount.words()),
+            _ => answer,
+        }
     }
 }

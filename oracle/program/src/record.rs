@@ -22,7 +22,7 @@ pub fn run(root: &Path) -> ExitCode {
             eprintln!("{}: {error}", folder.display());
             return ExitCode::FAILURE;
         }
-        println!("{}: {} records", folder.display(), list.records());
+        println!("{}: {} records", folder.display(), list.records);
     }
     ExitCode::SUCCESS
 }

@@ -1,9 +1,11 @@
 //! What both sides of a comparison are read into: plain numbers, the calls, the answers, and the two sides as traits.
 
+pub mod amounts;
 pub mod answer;
 pub mod bucket;
 pub mod layout;
 pub mod peer;
+pub mod settings;
 pub mod sides;
 
 pub use answer::Answer;

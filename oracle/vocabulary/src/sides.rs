@@ -12,8 +12,8 @@ pub trait Original {
     fn buckets(&self) -> Buckets;
 
     fn default_settings(&self) -> Settings;
-    fn message_limit_disabled(&self, settings: &Settings) -> bool;
-    fn ban_disabled(&self, settings: &Settings) -> bool;
+    /// A call on settings alone (`settings`): the answer, and the settings after it.
+    fn settings(&self, call: &Words) -> (Answer, [u64; 9]);
 }
 
 /// The system under test. It keeps nothing: each call gets the record and the lent table that the one before it left,
@@ -27,8 +27,8 @@ pub trait Port {
 
     fn bucket(&self, call: &BucketCall, buckets: &mut Buckets) -> Answer;
 
-    /// A call on settings alone: operation, then operands (`checks::settings`).
-    fn settings(&self, call: &Words) -> Answer;
+    /// A call on settings alone (`settings`): the answer, and the settings after it.
+    fn settings(&self, call: &Words) -> (Answer, [u64; 9]);
 
     /// A call on 128-bit amounts: operation, then operands (`checks::amounts`).
     fn amount(&self, call: &Words) -> Answer;

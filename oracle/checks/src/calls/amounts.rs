@@ -12,11 +12,20 @@ pub fn next(dice: &mut Dice) -> Words {
         Takes::NumberNumber => crate::amounts::call(operation, &[number(dice), number(dice)]),
         Takes::Signed => on(operation, signed(dice), &[]),
         Takes::SignedNumber => {
-            let (amount, n) = (signed(dice), number(dice));
+            let amount = signed(dice);
+            let n = match u64::try_from(amount.magnitude) {
+                Ok(same) if dice.chance(30) => dice.near(same),
+                _ => number(dice),
+            };
             on(operation, amount, &[n])
         }
         Takes::SignedSigned => {
-            let (a, b) = (signed(dice), signed(dice));
+            let a = signed(dice);
+            let b = match dice.below(4) {
+                0 => Amount::of(opposite(&a)),
+                1 => Amount::of(opposite(&a).saturating_add(1)),
+                _ => signed(dice),
+            };
             on(operation, a, &b.words())
         }
         Takes::Any => {
@@ -77,4 +86,9 @@ fn signed(dice: &mut Dice) -> Amount {
             .as_i128()
             .unwrap_or(if amount.magnitude == 0 { 0 } else { beyond }),
     )
+}
+
+/// What brings an i128 to zero, or next to it.
+fn opposite(amount: &Amount) -> i128 {
+    amount.as_i128().expect("an i128").saturating_neg()
 }

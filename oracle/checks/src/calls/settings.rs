@@ -2,14 +2,12 @@
 
 use super::{CORNERS, SHORT_CORNERS};
 use crate::dice::Dice;
-use crate::settings::{BAN_DISABLED, DEFAULT, MESSAGE_LIMIT_DISABLED};
-use vocabulary::Words;
+use vocabulary::{settings, Words};
 
 pub fn next(dice: &mut Dice) -> Words {
-    let (operation, operands) = match dice.below(3) {
-        0 => (DEFAULT, [dice.below(9), 0]),
-        1 => (MESSAGE_LIMIT_DISABLED, [dice.pick(&CORNERS), dice.pick(&SHORT_CORNERS)]),
-        _ => (BAN_DISABLED, [dice.pick(&SHORT_CORNERS), 0]),
-    };
-    crate::amounts::call(operation, &operands)
+    let operation = dice.below(settings::NAMES.len() as u64);
+    let mut long = || dice.pick(&CORNERS);
+    let [interval, tracked, bytes, other] = [long(), long(), long(), long()];
+    let mut short = || dice.pick(&SHORT_CORNERS);
+    [operation, interval, short(), short(), tracked, short(), bytes, other]
 }

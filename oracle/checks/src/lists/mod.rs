@@ -4,12 +4,14 @@
 
 pub mod amounts;
 pub mod buckets;
+pub mod peers;
 
 use vocabulary::{Original, Words};
 
 pub struct List {
     pub input: Vec<u8>,
     pub output: String,
+    pub records: usize,
 }
 
 impl List {
@@ -17,6 +19,7 @@ impl List {
         Self {
             input: Vec::new(),
             output: String::new(),
+            records: 0,
         }
     }
 
@@ -24,12 +27,9 @@ impl List {
         for word in words {
             self.input.extend_from_slice(&word.to_le_bytes());
         }
+        self.records += 1;
         self.output += line;
         self.output += "\n";
-    }
-
-    pub fn records(&self) -> usize {
-        self.input.len() / 64
     }
 }
 
@@ -42,7 +42,8 @@ impl Default for List {
 pub type Recorder = fn(&mut dyn Original) -> List;
 
 /// Each list and the crate whose files stdin and stdout it becomes.
-pub const LISTS: [(&str, Recorder); 2] = [
+pub const LISTS: [(&str, Recorder); 3] = [
     ("crates/replay_amounts", amounts::record),
     ("crates/replay_buckets", buckets::record),
+    ("crates/replay_peers", peers::record),
 ];

@@ -1,0 +1,6 @@
+pub mod Answers
+pub mod Discrete
+pub mod Amounts
+pub mod Bytes
+pub mod Settings
+pub mod Limits

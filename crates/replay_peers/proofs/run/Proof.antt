@@ -1,0 +1,60 @@
+-- `run` is safe and ends. Assumes nothing.
+use mathlib.Core.Path.{_≡_, refl}
+use native.Mathlib.Omega.{arith}
+use lib.ListN.{length}
+use borrow.Author.Needs.{needs}
+use Rattle.replay_peers.proofs.run.Statement.{statement}
+use Rattle.replay_peers.proofs.run.Tie as tie
+
+abbrev Inv-loop : tie.InvT-loop
+Inv-loop table₀ held₀ turns₀ table held turns = length table ≡ length table₀
+
+abbrev μ-loop : tie.MeasureT-loop
+μ-loop table₀ held₀ turns₀ table held turns = turns
+
+nothing-requires : tie.Need-nothing-requires Inv-loop μ-loop
+nothing-requires c κs = tt
+
+loop-holds : tie.Need-loop-holds Inv-loop μ-loop
+loop-holds c = refl
+
+answer-next-requires : tie.Need-answer-next-requires Inv-loop μ-loop
+answer-next-requires c κs = tt
+
+same-length : tie.Need-same-length Inv-loop μ-loop
+same-length c = search needs
+
+returns : tie.Need-returns Inv-loop μ-loop
+returns c = tt
+
+sub-turns : tie.Need-sub-turns Inv-loop μ-loop
+sub-turns c = omega arith
+
+loop-less : tie.Need-loop-less Inv-loop μ-loop
+loop-less c = omega arith
+
+loop-again : tie.Need-loop-again Inv-loop μ-loop
+loop-again c = search needs
+
+same-length-2 : tie.Need-same-length-2 Inv-loop μ-loop
+same-length-2 c = search needs
+
+returns-2 : tie.Need-returns-2 Inv-loop μ-loop
+returns-2 c = tt
+
+pub run-spec : {M : Type 1} → statement M
+run-spec =
+    tie.close
+    (tie.spec
+    Inv-loop
+    μ-loop
+    nothing-requires
+    loop-holds
+    answer-next-requires
+    same-length
+    returns
+    sub-turns
+    loop-less
+    loop-again
+    same-length-2
+    returns-2)

@@ -1,0 +1,118 @@
+// The recorded calls of a policy: 2 admit (bytes, now, key), 3 record_invalid, 4 is_banned, 5 on_disconnected, 6 release_ingress
+// (bytes), 7 in_flight, 8 held_time.
+use crate::held::Held;
+use crate::held::Step;
+use lent_bytes::number::put_u64;
+use peer_message_policy::answer::Changed;
+use peer_message_policy::answer::HeldTime;
+use peer_message_policy::answer::InFlight;
+use peer_message_policy::answer::Invalid;
+use peer_message_policy::answer::PeerMessageAdmission;
+use peer_message_policy::answer::Standing;
+use pubkey::Pubkey;
+use replay::line::Line;
+use replay::record::Record;
+
+pub(crate) fn answered(held: Held, table: &mut [u8], r: Record) -> Step {
+    let operation = r.operation;
+    let key = key_of(r);
+    match operation {
+        2 => admit(held, table, key, r.first, r.second),
+        3 => record_invalid(held, table, key, r.second),
+        4 => is_banned(held, table, key, r.second),
+        5 => on_disconnected(held, table, key, r.second),
+        6 => release_ingress(held, r.first),
+        7 => in_flight(held),
+        8 => held_time(held, table, key, r.second),
+        _ => held.says(b"unknown operation"),
+    }
+}
+
+// A key is the last 40 bytes of a record, but for seven.
+fn key_of(r: Record) -> Pubkey {
+    let mut bytes = [0u8; 33];
+    put_u64(&mut bytes, 0, r.third);
+    put_u64(&mut bytes, 8, r.fourth);
+    put_u64(&mut bytes, 16, r.fifth);
+    put_u64(&mut bytes, 24, r.sixth);
+    bytes[32] = (r.seventh % 256) as u8;
+    Pubkey { bytes }
+}
+
+fn admit(held: Held, table: &mut [u8], key: Pubkey, bytes: u64, now_ms: u64) -> Step {
+    let policy = held.policy;
+    admitted(held, policy.admit(table, key, bytes, now_ms))
+}
+
+fn admitted(held: Held, answer: PeerMessageAdmission) -> Step {
+    match answer {
+        PeerMessageAdmission::Allow(p) => held.left(p, b"Allow"),
+        PeerMessageAdmission::Disconnect(p) => held.left(p, b"Disconnect"),
+        PeerMessageAdmission::Ban(p) => held.left(p, b"Ban"),
+        PeerMessageAdmission::Refused(n) => held.refused(n),
+    }
+}
+
+fn record_invalid(held: Held, table: &mut [u8], key: Pubkey, now_ms: u64) -> Step {
+    let policy = held.policy;
+    noted(held, policy.record_invalid(table, key, now_ms))
+}
+
+fn noted(held: Held, answer: Invalid) -> Step {
+    match answer {
+        Invalid::Banned(p) => held.left(p, b"1"),
+        Invalid::Noted(p) => held.left(p, b"0"),
+        Invalid::Refused(n) => held.refused(n),
+    }
+}
+
+fn is_banned(held: Held, table: &mut [u8], key: Pubkey, now_ms: u64) -> Step {
+    let policy = held.policy;
+    standing(held, policy.is_banned(table, key, now_ms))
+}
+
+fn standing(held: Held, answer: Standing) -> Step {
+    match answer {
+        Standing::Banned(p) => held.left(p, b"1"),
+        Standing::Free(p) => held.left(p, b"0"),
+        Standing::Refused(n) => held.refused(n),
+    }
+}
+
+fn on_disconnected(held: Held, table: &mut [u8], key: Pubkey, now_ms: u64) -> Step {
+    let policy = held.policy;
+    changed(held, policy.on_disconnected(table, key, now_ms))
+}
+
+fn release_ingress(held: Held, bytes: u64) -> Step {
+    let policy = held.policy;
+    changed(held, policy.release_ingress(bytes))
+}
+
+fn changed(held: Held, answer: Changed) -> Step {
+    match answer {
+        Changed::Policy(p) => held.left(p, b"-"),
+        Changed::Refused(n) => held.refused(n),
+    }
+}
+
+fn in_flight(held: Held) -> Step {
+    let policy = held.policy;
+    let answer = policy.in_flight();
+    match answer {
+        InFlight::Numbers(messages, bytes) => Step {
+            held,
+            line: Line::empty().decimal(messages as u64).then(bytes),
+        },
+        InFlight::Refused(n) => held.refused(n),
+    }
+}
+
+fn held_time(held: Held, table: &[u8], key: Pubkey, given_ms: u64) -> Step {
+    let policy = held.policy;
+    let answer = policy.held_time(table, key, given_ms);
+    match answer {
+        HeldTime::At(time) => held.says_number(time),
+        HeldTime::Refused(n) => held.refused(n),
+    }
+}

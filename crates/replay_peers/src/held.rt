@@ -1,0 +1,69 @@
+// What the records drive: a policy, how many bytes of the table are lent to it, and the settings that the next one is made with.
+use peer_message_policy::policy::PeerMessagePolicy;
+use peer_settings::config::PeerMessagePolicyConfig;
+use peer_state::ingress::FiberIngressBudget;
+use replay::line::Line;
+
+pub struct Held {
+    pub policy: PeerMessagePolicy,
+    pub next: PeerMessagePolicyConfig,
+    pub lent: usize,
+}
+
+// What is held after a record, and the beginning of the line that answers it.
+pub struct Step {
+    pub held: Held,
+    pub line: Line,
+}
+
+impl Held {
+    pub fn nothing() -> Held {
+        let config = PeerMessagePolicyConfig::with_limits(0, 0, 0);
+        Held {
+            policy: PeerMessagePolicy {
+                config,
+                ingress: FiberIngressBudget {
+                    in_flight_messages: 0,
+                    in_flight_bytes: 0,
+                },
+                rows: 0,
+            },
+            next: config,
+            lent: 0,
+        }
+    }
+
+    pub fn says(self, text: &[u8]) -> Step {
+        Step {
+            held: self,
+            line: Line::empty().text(text),
+        }
+    }
+
+    pub fn says_number(self, n: u64) -> Step {
+        Step {
+            held: self,
+            line: Line::empty().decimal(n),
+        }
+    }
+
+    pub fn refused(self, number: u32) -> Step {
+        Step {
+            held: self,
+            line: Line::empty().refusal(number),
+        }
+    }
+
+    // The same with the policy that a call left, and what the call answered.
+    pub fn left(self, policy: PeerMessagePolicy, text: &[u8]) -> Step {
+        let next = self.next;
+        Step {
+            held: Held {
+                policy,
+                next,
+                lent: self.lent,
+            },
+            line: Line::empty().text(text),
+        }
+    }
+}
