@@ -1,3 +1,4 @@
+pub mod TestLaws
 pub mod OneOutcome
 pub mod KeyedLaws
 pub mod SoundLaws

@@ -52,7 +52,7 @@ use Rattle.peer_message_policy.specs.Policy.{
   isBannedChange,
   disconnectedChange,
 }
-use Rattle.peer_message_policy.specs.Calls.{Memory, policyAfter}
+use Rattle.peer_message_policy.specs.Calls.{Memory, changedRows, policyAfter}
 use Rattle.peer_laws.specs.KeyedLaws.{Key, Keyed, keyed-rows, keyed-sub, keyed-store, length-laid-keyed, bytes-laid-keyed}
 
 -- ════ Soundness, part by part ═════════════════════════════════════════════════════════════════════
@@ -118,11 +118,6 @@ pub record Kept (p : PeerMessagePolicy) (s : List ℕ) (q : PeerMessagePolicy) (
   pub same-length : length t ≡ length s
   pub holds-bytes : Bytes t
   pub same-settings : q .config ≡ p .config
-
--- the rows after a change
-abbrev pub changedRows : Peers → Change → Peers
-changedRows rs same = rs
-changedRows rs (become xs) = xs
 
 -- the same, with the rows that a change says
 pub record Leaves (p : PeerMessagePolicy) (s : List ℕ) (change : Change) (q : PeerMessagePolicy) (t : List ℕ) : Type 0 where

@@ -31,7 +31,7 @@ use Rattle.peer_message_policy.specs.declared.answer.HeldTime.{HeldTime}
 use Rattle.peer_message_policy.specs.declared.answer.HeldTime.the-variants as HeldTime
 use Rattle.peer_settings.specs.Config.{limit}
 use Rattle.peer_state.specs.Ingress.{inFlight, ingressReleased}
-use Rattle.peer_rows.specs.Rows.{peerLayout}
+use Rattle.peer_rows.specs.Rows.{Peers, peerLayout}
 use Rattle.peer_message_policy.specs.Policy.{rowsOf, policySound, longEnough, sound, Change, same, become, Turn, admit, recordInvalid, isBanned, isBannedChange, disconnectedChange, heldTime}
 
 -- ════ What the answers say ════════════════════════════════════════════════════════════════════════
@@ -72,6 +72,11 @@ heldTimeSays (HeldTime.At t) = gives (t ∷ [])
 heldTimeSays (HeldTime.Refused n) = refused n
 
 -- ════ Answers and memory ══════════════════════════════════════════════════════════════════════════
+
+-- the rows after a change
+abbrev pub changedRows : Peers → Change → Peers
+changedRows rs same = rs
+changedRows rs (become xs) = xs
 
 -- how many rows there are after a change
 abbrev pub rowsAfter : ℕ → Change → ℕ

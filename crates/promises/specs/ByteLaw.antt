@@ -18,9 +18,9 @@ use Rattle.byte_bucket.specs.NaturalLaws.{value-of, try-consume-natural}
 use Rattle.peer_settings.specs.declared.config.PeerMessagePolicyConfig.{PeerMessagePolicyConfig}
 use Rattle.peer_state.specs.declared.entry.Level.{Level}
 use Rattle.peer_settings.specs.Config.{bytesOf}
+use Rattle.peer_settings.specs.Fits.{ConfigFits}
 use Rattle.peer_state.specs.Entry.{level}
 use Rattle.peer_verdict.specs.Verdict.{takeBytes}
-use Rattle.promises.specs.Runs.{ConfigFits}
 use Rattle.promises.specs.Lives.{Allow, bytesAllowed}
 use Rattle.promises.specs.BucketLaw.{newest, InOrder, charged, Terms, Bounded, bounded-new, bounded-next, NotMore, NotLess, WithinParts, Backed, backed-next, backed-enough}
 

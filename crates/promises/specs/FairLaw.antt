@@ -12,9 +12,9 @@ use Rattle.bucket_terms.specs.Limit.{byteDisabled}
 use Rattle.peer_settings.specs.declared.config.PeerMessagePolicyConfig.{PeerMessagePolicyConfig}
 use Rattle.peer_state.specs.declared.entry.Level.{Level}
 use Rattle.peer_settings.specs.Config.{messageLimitDisabled, bytesOf}
+use Rattle.peer_settings.specs.Fits.{ConfigFits}
 use Rattle.peer_state.specs.Entry.{level}
 use Rattle.peer_verdict.specs.Verdict.{takeMessage, takeBytes}
-use Rattle.promises.specs.Runs.{ConfigFits}
 use Rattle.promises.specs.Lives.{Allow, AtMost, Allowance, Within}
 use Rattle.promises.specs.BucketLaw.{newest, InOrder, within-parts}
 use Rattle.promises.specs.MessageLaw.{FairMessages, messageTerms, messages-new, messages-next, messages-enough, messages-most, message-off}

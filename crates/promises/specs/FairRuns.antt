@@ -20,6 +20,7 @@ use Rattle.peer_state.specs.declared.ingress.Room.{Room}
 use Rattle.peer_state.specs.declared.ingress.Room.the-variants as Room
 use Rattle.peer_verdict.specs.declared.verdict.Cause.{Cause}
 use Rattle.peer_verdict.specs.declared.verdict.Cause.the-variants as Cause
+use Rattle.peer_settings.specs.Fits.{ConfigFits}
 use Rattle.peer_state.specs.Entry.{level, entryNew, entryIsBanned, entryExpireWindows, entryUsed}
 use Rattle.peer_state.specs.Ingress.{tryReserve}
 use Rattle.peer_verdict.specs.Verdict.{judged, judgedInvalid, overflows}
@@ -32,7 +33,7 @@ use Rattle.peer_message_policy.specs.Policy.{rowsOf}
 use Rattle.peer_laws.specs.CallLaws.{new-fresh}
 use Rattle.peer_laws.specs.DecisionLaws.{judged-used, judged-invalid-noted, roomCause, judged-passes}
 use Rattle.peer_laws.specs.PeerLaws.{Fate, stayed, gone, expired, Lands, kept, absent, remade, Own, live, undone, carried, live-not-spent}
-use Rattle.promises.specs.Runs.{Call, admit, recordInvalid, isBanned, onDisconnected, releaseIngress, inFlight, heldTime, State, Step, Fits, ConfigFits, Run, made, then}
+use Rattle.promises.specs.Runs.{Call, admit, recordInvalid, isBanned, onDisconnected, releaseIngress, inFlight, heldTime, State, Step, Fits, Run, made, then}
 use Rattle.promises.specs.Lives.{Allow, entryIn, logFor, logged, unlessRefused, keptLog, logAfter, logOf, lastUsed, notBeforeOwn, Shielded, AtMost, Within, ceilingSays}
 use Rattle.promises.specs.FairLaw.{NotAfter, Fair, fair-new, fair-allow, fair-most, fair-least}
 use Rattle.promises.specs.SoundRuns.{StateHolds, run-holds}

@@ -9,6 +9,7 @@ use Rattle.pubkey.specs.declared.Pubkey.{Pubkey}
 use Rattle.refusal.specs.Refusal.{Said}
 use Rattle.peer_settings.specs.declared.config.PeerMessagePolicyConfig.{PeerMessagePolicyConfig}
 use Rattle.peer_state.specs.declared.entry.PeerMessagePolicyEntry.{PeerMessagePolicyEntry}
+use Rattle.peer_settings.specs.Fits.{ConfigFits}
 use Rattle.peer_state.specs.Ingress.{tryReserve}
 use Rattle.peer_message_policy.specs.declared.answer.HeldTime.{HeldTime}
 use Rattle.peer_message_policy.specs.declared.answer.HeldTime.the-variants as HeldTime
@@ -16,7 +17,7 @@ use Rattle.peer_message_policy.specs.Policy
 use Rattle.peer_message_policy.specs.Policy.{sound}
 use Rattle.peer_message_policy.specs.Calls.{HeldTimeMeets}
 use Rattle.peer_laws.specs.CallLaws.{held-time-answer}
-use Rattle.promises.specs.Runs.{Call, admit, recordInvalid, isBanned, onDisconnected, releaseIngress, inFlight, heldTime, State, Step, Fits, ConfigFits, Run, made, then}
+use Rattle.promises.specs.Runs.{Call, admit, recordInvalid, isBanned, onDisconnected, releaseIngress, inFlight, heldTime, State, Step, Fits, Run, made, then}
 use Rattle.promises.specs.Lives.{entryIn, logFor, logOf, lastUsed, notBeforeOwn, Shielded, AtMost, Within, ceilingSays}
 use Rattle.promises.specs.Held.{Answered, heldOwn, Held}
 use Rattle.promises.specs.SoundRuns.{run-sound}

@@ -2,14 +2,14 @@
 -- are whole laps of 2^32 intervals, by which the last refill lags behind. In order: what a take gives; the phase; the bucket and its
 -- log. Assumes nothing.
 use mathlib.Core.Path.{_≡_, refl, ap, _∙_}
-use mathlib.Core.Bool.{Bool, true, false, _||_, cond}
+use mathlib.Core.Bool.{Bool, true, false, cond}
 use mathlib.Core.List.{List, [], _∷_}
 use Prim.Native.Nat.{ℕ, _+_, _-_, _*_, _/_, _%_, _<_, _≤_, min}
 use native.Mathlib.Nat.{add-mul, mul-assoc, mul-comm, mul-le-mul-right, div-add-mod', mod-lt, zero-div, zero-mul, mul-sub, le-div-iff-mul-le}
 use native.Mathlib.Omega.{arith}
 use borrow.Author.Tests.{leb-true, leb-false, eqb-true, eqb-false, ne-eqb}
 use lib.Dec.{leb, eqb}
-use Rattle.table.specs.TableLaws.{by-test, true-is-not-false}
+use Rattle.table.specs.TableLaws.{by-test}
 use Rattle.bucket_terms.specs.declared.answer.Consumed.{Consumed}
 use Rattle.bucket_terms.specs.declared.answer.Consumed.the-variants as Consumed
 use Rattle.discrete_bucket.specs.DiscreteBucket.{discreteTopped, discreteRefill, discreteTaken, discreteTake, discreteTryConsume}
@@ -19,6 +19,7 @@ use Rattle.peer_verdict.specs.declared.verdict.Take.{Take}
 use Rattle.peer_settings.specs.Config.{messageLimitDisabled}
 use Rattle.peer_state.specs.Entry.{level}
 use Rattle.peer_verdict.specs.Verdict.{messageBucket, messagesTaken, takeMessage}
+use Rattle.peer_laws.specs.TestLaws.{neither}
 use Rattle.promises.specs.Lives.{Allow, Near, allows}
 use Rattle.promises.specs.BucketLaw.{newest, InOrder, charged, Terms, Bounded, bounded-new, bounded-next, NotMore, NotLess, WithinParts, Backed, backed-next, backed-enough}
 
@@ -41,10 +42,6 @@ abbrev pub taken : ℕ → ℕ → Take
 taken left last =
     cond (eqb left 0) (record { short = 1; level = level left last }) (record { short = 0; level = level (left - 1) last })
 
-or-false : (a b : Bool) → (a || b) ≡ false → (a ≡ false) × (b ≡ false)
-or-false false b h = (refl, h)
-or-false true b h = absurd (true-is-not-false refl h)
-
 -- a test that leaves a value as it is, or changes nothing
 same-by : {A : Type 0} {x y : A} (s t : Bool) → (s ≡ true → x ≡ y) → (t ≡ true → x ≡ y) → cond s x (cond t x y) ≡ y
 same-by true t h k = h refl
@@ -57,7 +54,7 @@ through f false x y = refl
 
 module _ (c : PeerMessagePolicyConfig) (on : messageLimitDisabled c ≡ false) where
   both-on : (eqb (c .«peer_message_interval_ms») 0 ≡ false) × (eqb (c .«peer_message_burst») 0 ≡ false)
-  both-on = or-false (eqb (c .«peer_message_interval_ms») 0) (eqb (c .«peer_message_burst») 0) on
+  both-on = neither (eqb (c .«peer_message_interval_ms») 0) (eqb (c .«peer_message_burst») 0) on
 
   some-interval : 0 < c .«peer_message_interval_ms»
   some-interval = let ne = eqb-false (c .«peer_message_interval_ms») 0 (both-on .0) in omega arith

@@ -13,12 +13,13 @@ use Rattle.peer_settings.specs.declared.config.PeerMessagePolicyConfig.{PeerMes
 use Rattle.peer_state.specs.declared.entry.PeerMessagePolicyEntry.{PeerMessagePolicyEntry}
 use Rattle.peer_verdict.specs.declared.verdict.Cause.{Cause}
 use Rattle.peer_verdict.specs.declared.verdict.Decision.{Decision}
+use Rattle.peer_settings.specs.Fits.{ConfigFits}
 use Rattle.peer_state.specs.Entry.{entryExpireWindows}
 use Rattle.peer_state.specs.Ingress.{tryReserve}
 use Rattle.peer_message_policy.specs.Policy
 use Rattle.peer_laws.specs.DecisionLaws.{judged-used, judged-invalid-noted}
 use Rattle.peer_laws.specs.PeerLaws.{Fate, stayed, gone, expired, Own, live, undone, carried}
-use Rattle.promises.specs.Runs.{Call, admit, recordInvalid, isBanned, onDisconnected, releaseIngress, inFlight, heldTime, State, Step, Fits, ConfigFits, Run, made, then}
+use Rattle.promises.specs.Runs.{Call, admit, recordInvalid, isBanned, onDisconnected, releaseIngress, inFlight, heldTime, State, Step, Fits, Run, made, then}
 use Rattle.promises.specs.Lives.{entryIn, logFor, logOf, timeOf, latestOf, latest, notBefore, Ordered, lastUsed, notBeforeOwn, Shielded, AtMost, Within, ceilingSays}
 use Rattle.promises.specs.SoundRuns.{StateHolds, run-holds}
 use Rattle.promises.specs.PeerRuns.{admit-any, record-invalid-any, is-banned-any, on-disconnected-any, release-ingress-any}

@@ -21,8 +21,8 @@ use Rattle.peer_verdict.specs.Verdict.{judged, judgedInvalid}
 use Rattle.peer_message_policy.specs.declared.policy.PeerMessagePolicy.{PeerMessagePolicy}
 use Rattle.peer_message_policy.specs.Policy
 use Rattle.peer_message_policy.specs.Policy.{Change, Turn}
-use Rattle.peer_message_policy.specs.Calls.{policyAfter, admissionSays, admissionOf, invalidSays, invalidOf}
-use Rattle.peer_laws.specs.SoundLaws.{changedRows, turnOf, admit-turn, record-invalid-turn, policy-holds}
+use Rattle.peer_message_policy.specs.Calls.{changedRows, policyAfter, admissionSays, admissionOf, invalidSays, invalidOf}
+use Rattle.peer_laws.specs.SoundLaws.{turnOf, admit-turn, record-invalid-turn, policy-holds}
 use Rattle.peer_laws.specs.CallLaws.{admit-answer, record-invalid-answer}
 use Rattle.peer_laws.specs.PeerLaws.{Fate, is-banned-fate, disconnected-fate, turn-fate, Own, own-turn}
 use Rattle.promises.specs.Runs.{admit, recordInvalid, isBanned, onDisconnected, releaseIngress, State, Step, KeyFits}

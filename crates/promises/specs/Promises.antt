@@ -8,9 +8,10 @@ use Prim.Native.Nat.{ℕ}
 use Rattle.pubkey.specs.declared.Pubkey.{Pubkey}
 use Rattle.refusal.specs.Refusal.{Said}
 use Rattle.peer_settings.specs.declared.config.PeerMessagePolicyConfig.{PeerMessagePolicyConfig}
+use Rattle.peer_settings.specs.Fits.{ConfigFits}
 use Rattle.peer_state.specs.Ingress.{tryReserve}
 use Rattle.peer_message_policy.specs.Policy as Policy
-use Rattle.promises.specs.Runs.{Call, admit, State, Step, Fits, ConfigFits, Run}
+use Rattle.promises.specs.Runs.{Call, admit, State, Step, Fits, Run}
 use Rattle.promises.specs.Lives.{Ordered, Shielded, entryIn, logOf, logFor, AtMost, Within, Shield, ceilingSays}
 use Rattle.promises.specs.Held.{Held}
 use Rattle.promises.specs.Samples.{Agree, samplesRun}

@@ -105,18 +105,6 @@ Fits (releaseIngress bytes) = bytes < 2 ^ 64
 Fits inFlight = Unit {0}
 Fits (heldTime k given) = KeyFits k × (given < 2 ^ 64)
 
--- what the machine gives of any settings
-pub record ConfigFits (c : PeerMessagePolicyConfig) : Type 0 where
-  pub interval : c .«peer_message_interval_ms» < 2 ^ 64
-  pub burst : c .«peer_message_burst» < 2 ^ 32
-  pub rate : c .«peer_message_rate_bytes_per_sec» < 2 ^ 64
-  pub burstBytes : c .«peer_message_burst_bytes» < 2 ^ 64
-  pub threshold : c .«violation_ban_threshold» < 2 ^ 32
-  pub duration : c .«ban_duration_ms» < 2 ^ 64
-  pub tracked : c .«max_tracked_peers» < 2 ^ 64
-  pub messages : c .«max_in_flight_messages» < 2 ^ 32
-  pub bytes : c .«max_in_flight_bytes» < 2 ^ 64
-
 -- a run from a fresh policy with these settings, over calls (the newest first), to a state
 pub data Run (c : PeerMessagePolicyConfig) : List Call → State → Type 0 where
   made : (before after : List ℕ) (p : PeerMessagePolicy) → Bytes before → NewMeets c before (Made.Policy p) after → Run c [] (record { policy = p; memory = after })

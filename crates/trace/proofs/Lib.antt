@@ -1,3 +1,3 @@
--- `Hex` has the laws of hex digits and of the loop that reads a key, `Written` those of a line that is written piece by piece.
-pub mod Hex
-pub mod Written
+-- `Answers` has the laws of a call's answer in the trace's words, `Handing` those of the calls that hand out a line.
+pub mod Answers
+pub mod Handing

@@ -1,4 +1,3 @@
-pub mod Lines
-pub mod LinesLaws
-pub mod Spelling
-pub mod SpellingLaws
+pub mod Step
+pub mod Scan
+pub mod ScanLaws

@@ -1,0 +1,76 @@
+-- `trace::scan::next` meets its contract: by the phase. Assumes nothing.
+use mathlib.Core.Path.{refl, ap, _∙_}
+use Rattle.trace.specs.Scan.{last}
+use Rattle.trace.proofs.Handing.{next-in}
+use borrow.Author.Needs.{needs}
+use Rattle.trace.proofs.scan.next.Statement.{statement}
+use Rattle.trace.proofs.scan.next.Tie as tie
+
+enum-told : tie.Need-enum-told
+enum-told c = search needs
+
+bad-line-requires : tie.Need-bad-line-requires
+bad-line-requires c κs = search needs
+
+last-requires : tie.Need-last-requires
+last-requires c κs = search needs
+
+enum-told-2 : tie.Need-enum-told-2
+enum-told-2 c = search needs
+
+next-settings-requires : tie.Need-next-settings-requires
+next-settings-requires c κs = search needs
+
+enum-told-3 : tie.Need-enum-told-3
+enum-told-3 c = search needs
+
+next-event-requires : tie.Need-next-event-requires
+next-event-requires c κs = search needs
+
+enum-told-4 : tie.Need-enum-told-4
+enum-told-4 c = search needs
+
+ended-requires : tie.Need-ended-requires
+ended-requires c κs = search needs
+
+returns : tie.Need-returns
+returns c = let a = c .before .before .before .before .before .before .args in
+    next-in (a .scan) (a .input .now) (a .table .now) (c .last .result) (a .table .now) (c .before .before .enum-told .given .1) (c .last .ensures ∙ ap (last (a .scan)) (c .before .bad-line .ensures), refl)
+
+same-length : tie.Need-same-length
+same-length c = search needs
+
+returns-2 : tie.Need-returns-2
+returns-2 c = let a = c .before .before .before .before .before .before .before .before .args in
+    next-in (a .scan) (a .input .now) (a .table .now) (c .before .before .next-settings .result) _ (c .before .before .before .before .enum-told2 .given .1) (c .before .before .next-settings .ensures)
+
+same-length-2 : tie.Need-same-length-2
+same-length-2 c = search needs
+
+returns-3 : tie.Need-returns-3
+returns-3 c = let a = c .before .before .before .before .before .before .before .before .args in
+    next-in (a .scan) (a .input .now) (a .table .now) (c .before .before .next-event .result) _ (c .before .before .before .before .enum-told3 .given .1) (c .before .before .next-event .ensures)
+
+returns-4 : tie.Need-returns-4
+returns-4 c = let a = c .before .before .before .before .before .args in
+    next-in (a .scan) (a .input .now) (a .table .now) (c .ended .result) (a .table .now) (c .before .enum-told4 .given .1) (c .ended .ensures, refl)
+
+pub next-spec : {M : Type 1} → statement M
+next-spec =
+    tie.close
+    (tie.spec
+    enum-told
+    bad-line-requires
+    last-requires
+    enum-told-2
+    next-settings-requires
+    enum-told-3
+    next-event-requires
+    enum-told-4
+    ended-requires
+    returns
+    same-length
+    returns-2
+    same-length-2
+    returns-3
+    returns-4)

@@ -1,0 +1,89 @@
+-- `trace::scan::next_event` meets its contract. Assumes nothing.
+use mathlib.Core.Path.{sym, ap, _∙_}
+use native.Mathlib.Omega.{arith}
+use Rattle.trace.specs.Scan.{last}
+use Rattle.trace.specs.ScanLaws.{found}
+use Rattle.trace.proofs.Handing.{events-ended, events-unended, events-moved}
+use borrow.Author.Needs.{needs}
+use Rattle.trace.proofs.scan.next_event.Statement.{statement}
+use Rattle.trace.proofs.scan.next_event.Tie as tie
+
+ended-requires : tie.Need-ended-requires
+ended-requires c κs = search needs
+
+returns : tie.Need-returns
+returns c = let a = c .before .before .before .before .args in
+    events-ended (a .scan) (a .input .now) (a .table .now) (omega arith) (c .ended .ensures)
+
+line-end-requires : tie.Need-line-end-requires
+line-end-requires c κs = search needs
+
+enum-told : tie.Need-enum-told
+enum-told c = search needs
+
+bad-line-requires : tie.Need-bad-line-requires
+bad-line-requires c κs = search needs
+
+last-requires : tie.Need-last-requires
+last-requires c κs = search needs
+
+enum-known-found : tie.Need-enum-known-found
+enum-known-found c = search needs
+
+sub-parse-event : tie.Need-sub-parse-event
+sub-parse-event c = let a = c .before .before .before .before .before .before .before .args in let f = found (a .input .now) (a .scan .at) (c .before .found .given .0 .0) (sym (c .before .before .before .line-end .ensures) ∙ c .before .found .given .1) in
+    omega arith
+
+part-parse-event-start : tie.Need-part-parse-event-start
+part-parse-event-start c = let a = c .before .before .before .before .before .before .before .args in let f = found (a .input .now) (a .scan .at) (c .before .found .given .0 .0) (sym (c .before .before .before .line-end .ensures) ∙ c .before .found .given .1) in
+    search needs
+
+part-parse-event-end : tie.Need-part-parse-event-end
+part-parse-event-end c = let a = c .before .before .before .before .before .before .before .args in let f = found (a .input .now) (a .scan .at) (c .before .found .given .0 .0) (sym (c .before .before .before .line-end .ensures) ∙ c .before .found .given .1) in
+    search needs
+
+parse-event-requires : tie.Need-parse-event-requires
+parse-event-requires c κs = search needs
+
+step-requires : tie.Need-step-requires
+step-requires c κs = search needs
+
+add-moved : tie.Need-add-moved
+add-moved c = let a = c .before .before .before .before .before .before .before .before .before .before .before .before .before .before .args in let f = found (a .input .now) (a .scan .at) (c .before .before .before .before .before .before .before .before .found .given .0 .0) (sym (c .before .before .before .before .before .before .before .before .before .before .line-end .ensures) ∙ c .before .before .before .before .before .before .before .before .found .given .1) in
+    omega (arith, c .before .before .before .before .before .before .before .before .before .before .before .before .before .before .good)
+
+moved-requires : tie.Need-moved-requires
+moved-requires c κs = search needs
+
+returns-2 : tie.Need-returns-2
+returns-2 c = let a = c .before .before .before .before .before .before .before .before .args in
+    events-unended (a .scan) (a .input .now) (a .table .now) (omega (arith, c .before .before .before .before .before .if1 .left)) (sym (c .before .before .before .before .line-end .ensures) ∙ c .before .before .enum-told .given .1) (c .last .ensures ∙ ap (last (a .scan)) (c .before .bad-line .ensures))
+
+same-length : tie.Need-same-length
+same-length c = search needs
+
+returns-3 : tie.Need-returns-3
+returns-3 c = let a = c .before .before .before .before .before .before .before .before .before .before .before .before .before .before .before .args in
+    events-moved (a .scan) (a .input .now) (a .table .now) (omega (arith, c .before .before .before .before .before .before .before .before .before .before .before .before .if1 .left)) (c .before .before .before .before .before .before .before .before .before .found .given .0 .0) (sym (c .before .before .before .before .before .before .before .before .before .before .before .line-end .ensures) ∙ c .before .before .before .before .before .before .before .before .before .found .given .1) (c .before .before .before .before .before .before .parse-event .result) (c .before .before .before .before .before .before .parse-event .ensures) (c .before .before .before .step .result) _ (c .before .before .before .step .ensures) (c .moved .ensures)
+
+pub next-event-spec : {M : Type 1} → statement M
+next-event-spec =
+    tie.close
+    (tie.spec
+    ended-requires
+    returns
+    line-end-requires
+    enum-told
+    bad-line-requires
+    last-requires
+    enum-known-found
+    sub-parse-event
+    part-parse-event-start
+    part-parse-event-end
+    parse-event-requires
+    step-requires
+    add-moved
+    moved-requires
+    returns-2
+    same-length
+    returns-3)

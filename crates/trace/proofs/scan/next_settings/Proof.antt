@@ -1,0 +1,126 @@
+-- `trace::scan::next_settings` meets its contract. Assumes nothing.
+use mathlib.Core.Path.{sym, ap, _∙_}
+use native.Mathlib.Omega.{arith}
+use Rattle.trace.specs.Scan.{last}
+use Rattle.trace.specs.ScanLaws.{found}
+use Rattle.trace.proofs.Handing.{settings-unended, settings-bad, settings-refused, settings-good}
+use borrow.Author.Needs.{needs}
+use Rattle.trace.proofs.scan.next_settings.Statement.{statement}
+use Rattle.trace.proofs.scan.next_settings.Tie as tie
+
+line-end-requires : tie.Need-line-end-requires
+line-end-requires c κs = search needs
+
+enum-told : tie.Need-enum-told
+enum-told c = search needs
+
+bad-line-requires : tie.Need-bad-line-requires
+bad-line-requires c κs = search needs
+
+last-requires : tie.Need-last-requires
+last-requires c κs = search needs
+
+enum-known-found : tie.Need-enum-known-found
+enum-known-found c = search needs
+
+sub-settle : tie.Need-sub-settle
+sub-settle c = let a = c .before .before .before .before .before .before .args in let f = found (a .input .now) (a .scan .at) (c .before .found .given .0 .0) (sym (c .before .before .before .line-end .ensures) ∙ c .before .found .given .1) in
+    omega arith
+
+part-settle-start : tie.Need-part-settle-start
+part-settle-start c = let a = c .before .before .before .before .before .before .args in let f = found (a .input .now) (a .scan .at) (c .before .found .given .0 .0) (sym (c .before .before .before .line-end .ensures) ∙ c .before .found .given .1) in
+    search needs
+
+part-settle-end : tie.Need-part-settle-end
+part-settle-end c = let a = c .before .before .before .before .before .before .args in let f = found (a .input .now) (a .scan .at) (c .before .found .given .0 .0) (sym (c .before .before .before .line-end .ensures) ∙ c .before .found .given .1) in
+    search needs
+
+settle-requires : tie.Need-settle-requires
+settle-requires c κs = search needs
+
+enum-told-2 : tie.Need-enum-told-2
+enum-told-2 c = search needs
+
+bad-line-requires-2 : tie.Need-bad-line-requires-2
+bad-line-requires-2 c κs = search needs
+
+last-requires-2 : tie.Need-last-requires-2
+last-requires-2 c κs = search needs
+
+enum-known-settled : tie.Need-enum-known-settled
+enum-known-settled c = search needs
+
+refusal-line-requires : tie.Need-refusal-line-requires
+refusal-line-requires c κs = search needs
+
+last-requires-3 : tie.Need-last-requires-3
+last-requires-3 c κs = search needs
+
+enum-known-settled-2 : tie.Need-enum-known-settled-2
+enum-known-settled-2 c = search needs
+
+add-t22 : tie.Need-add-t22
+add-t22 c = let a = c .before .before .before .before .before .before .before .before .before .before .before .before .before .before .args in let f = found (a .input .now) (a .scan .at) (c .before .before .before .before .before .before .before .before .before .found .given .0 .0) (sym (c .before .before .before .before .before .before .before .before .before .before .before .line-end .ensures) ∙ c .before .before .before .before .before .before .before .before .before .found .given .1) in
+    omega (arith, c .before .before .before .before .before .before .before .before .before .before .before .before .before .before .good)
+
+following-requires : tie.Need-following-requires
+following-requires c κs = search needs
+
+next-event-requires : tie.Need-next-event-requires
+next-event-requires c κs = search needs
+
+returns : tie.Need-returns
+returns c = let a = c .before .before .before .before .before .before .before .args in
+    settings-unended (a .scan) (a .input .now) (a .table .now) (sym (c .before .before .before .before .line-end .ensures) ∙ c .before .before .enum-told .given .1) (c .last .ensures ∙ ap (last (a .scan)) (c .before .bad-line .ensures))
+
+same-length : tie.Need-same-length
+same-length c = search needs
+
+returns-2 : tie.Need-returns-2
+returns-2 c = let a = c .before .before .before .before .before .before .before .before .before .before .before .before .before .before .before .args in
+    settings-bad (a .scan) (a .input .now) (a .table .now) (c .before .before .before .before .before .before .before .before .before .before .found .given .0 .0) (sym (c .before .before .before .before .before .before .before .before .before .before .before .before .line-end .ensures) ∙ c .before .before .before .before .before .before .before .before .before .before .found .given .1) (c .before .before .before .before .before .before .settle .result) _ (c .before .before .before .before .before .before .settle .ensures) (c .before .before .enum-told2 .given .1) (c .last2 .ensures ∙ ap (last (a .scan)) (c .before .bad-line2 .ensures))
+
+same-length-2 : tie.Need-same-length-2
+same-length-2 c = search needs
+
+returns-3 : tie.Need-returns-3
+returns-3 c = let a = c .before .before .before .before .before .before .before .before .before .before .before .before .before .before .before .before .args in
+    settings-refused (a .scan) (a .input .now) (a .table .now) (c .before .before .before .before .before .before .before .before .before .before .before .found .given .0 .0) (sym (c .before .before .before .before .before .before .before .before .before .before .before .before .before .line-end .ensures) ∙ c .before .before .before .before .before .before .before .before .before .before .before .found .given .1) (c .before .before .before .before .before .before .before .settle .result) _ (c .before .before .before .before .before .before .before .settle .ensures) (c .before .before .before .settled .given .0 .0) (c .before .before .before .settled .given .1) (c .last3 .ensures ∙ ap (last (a .scan)) (c .before .refusal-line .ensures))
+
+same-length-3 : tie.Need-same-length-3
+same-length-3 c = search needs
+
+returns-4 : tie.Need-returns-4
+returns-4 c = let a = c .before .before .before .before .before .before .before .before .before .before .before .before .before .before .before .before .before .before .before .args in
+    settings-good (a .scan) (a .input .now) (a .table .now) (c .before .before .before .before .before .before .before .before .before .before .before .before .before .before .found .given .0 .0) (sym (c .before .before .before .before .before .before .before .before .before .before .before .before .before .before .before .before .line-end .ensures) ∙ c .before .before .before .before .before .before .before .before .before .before .before .before .before .before .found .given .1) (c .before .before .before .before .before .before .before .before .before .before .settle .result) _ (c .before .before .before .before .before .before .before .before .before .before .settle .ensures) (c .before .before .before .before .before .before .settled2 .given .0 .0) (c .before .before .before .before .before .before .settled2 .given .1) (c .before .before .next-event .result) _ (rw (c .before .before .before .before .following .ensures) at (c .before .before .next-event .ensures))
+
+pub next-settings-spec : {M : Type 1} → statement M
+next-settings-spec =
+    tie.close
+    (tie.spec
+    line-end-requires
+    enum-told
+    bad-line-requires
+    last-requires
+    enum-known-found
+    sub-settle
+    part-settle-start
+    part-settle-end
+    settle-requires
+    enum-told-2
+    bad-line-requires-2
+    last-requires-2
+    enum-known-settled
+    refusal-line-requires
+    last-requires-3
+    enum-known-settled-2
+    add-t22
+    following-requires
+    next-event-requires
+    returns
+    same-length
+    returns-2
+    same-length-2
+    returns-3
+    same-length-3
+    returns-4)

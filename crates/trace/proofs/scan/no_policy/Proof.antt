@@ -1,0 +1,13 @@
+-- `trace::scan::no_policy` meets its contract. Assumes nothing.
+use borrow.Author.Needs.{needs}
+use Rattle.trace.proofs.scan.no_policy.Statement.{statement}
+use Rattle.trace.proofs.scan.no_policy.Tie as tie
+
+default-requires : tie.Need-default-requires
+default-requires c κs = search needs
+
+returns : tie.Need-returns
+returns c = rw (c .default .ensures)
+
+pub no-policy-spec : {M : Type 1} → statement M
+no-policy-spec = tie.close (tie.spec default-requires returns)

@@ -1,0 +1,120 @@
+-- `trace::step::ask` meets its contract: by the kind of the event. Assumes nothing.
+use Rattle.trace.proofs.Answers.{asked-admit, asked-invalid, asked-ban, asked-disconnected, asked-release, asked-nothing}
+use borrow.Author.Needs.{needs}
+use Rattle.trace.proofs.step.ask.Statement.{statement}
+use Rattle.trace.proofs.step.ask.Tie as tie
+
+enum-told : tie.Need-enum-told
+enum-told c = search needs
+
+admit-requires : tie.Need-admit-requires
+admit-requires c κs = search needs
+
+admission-spoken-requires : tie.Need-admission-spoken-requires
+admission-spoken-requires c κs = search needs
+
+enum-told-2 : tie.Need-enum-told-2
+enum-told-2 c = search needs
+
+record-invalid-requires : tie.Need-record-invalid-requires
+record-invalid-requires c κs = search needs
+
+invalid-spoken-requires : tie.Need-invalid-spoken-requires
+invalid-spoken-requires c κs = search needs
+
+enum-told-3 : tie.Need-enum-told-3
+enum-told-3 c = search needs
+
+is-banned-requires : tie.Need-is-banned-requires
+is-banned-requires c κs = search needs
+
+standing-spoken-requires : tie.Need-standing-spoken-requires
+standing-spoken-requires c κs = search needs
+
+enum-told-4 : tie.Need-enum-told-4
+enum-told-4 c = search needs
+
+on-disconnected-requires : tie.Need-on-disconnected-requires
+on-disconnected-requires c κs = search needs
+
+changed-spoken-requires : tie.Need-changed-spoken-requires
+changed-spoken-requires c κs = search needs
+
+enum-told-5 : tie.Need-enum-told-5
+enum-told-5 c = search needs
+
+release-ingress-requires : tie.Need-release-ingress-requires
+release-ingress-requires c κs = search needs
+
+changed-spoken-requires-2 : tie.Need-changed-spoken-requires-2
+changed-spoken-requires-2 c κs = search needs
+
+enum-told-6 : tie.Need-enum-told-6
+enum-told-6 c = search needs
+
+same-length : tie.Need-same-length
+same-length c = search needs
+
+returns : tie.Need-returns
+returns c = let a = c .before .before .before .before .before .before .before .before .before .args in
+    asked-admit (a .policy) (a .event) (a .table .now) _ (c .before .before .before .before .before .enum-told .given .1) (c .before .before .before .admit .result) (c .before .before .before .admit .ensures) (c .admission-spoken .ensures)
+
+same-length-2 : tie.Need-same-length-2
+same-length-2 c = search needs
+
+returns-2 : tie.Need-returns-2
+returns-2 c = let a = c .before .before .before .before .before .before .before .before .before .args in
+    asked-invalid (a .policy) (a .event) (a .table .now) _ (c .before .before .before .before .before .enum-told2 .given .1) (c .before .before .before .record-invalid .result) (c .before .before .before .record-invalid .ensures) (c .invalid-spoken .ensures)
+
+same-length-3 : tie.Need-same-length-3
+same-length-3 c = search needs
+
+returns-3 : tie.Need-returns-3
+returns-3 c = let a = c .before .before .before .before .before .before .before .before .before .args in
+    asked-ban (a .policy) (a .event) (a .table .now) _ (c .before .before .before .before .before .enum-told3 .given .1) (c .before .before .before .is-banned .result) (c .before .before .before .is-banned .ensures) (c .standing-spoken .ensures)
+
+same-length-4 : tie.Need-same-length-4
+same-length-4 c = search needs
+
+returns-4 : tie.Need-returns-4
+returns-4 c = let a = c .before .before .before .before .before .before .before .before .before .args in
+    asked-disconnected (a .policy) (a .event) (a .table .now) _ (c .before .before .before .before .before .enum-told4 .given .1) (c .before .before .before .on-disconnected .result) (c .before .before .before .on-disconnected .ensures) (c .changed-spoken .ensures)
+
+returns-5 : tie.Need-returns-5
+returns-5 c = let a = c .before .before .before .before .before .before .args in
+    asked-release (a .policy) (a .event) (a .table .now) (c .before .before .enum-told5 .given .1) (c .before .release-ingress .result) (c .before .release-ingress .ensures) (c .changed-spoken2 .ensures)
+
+returns-6 : tie.Need-returns-6
+returns-6 c = let a = c .before .before .before .before .args in
+    asked-nothing (a .policy) (a .event) (a .table .now) (c .enum-told6 .given .1)
+
+pub ask-spec : {M : Type 1} → statement M
+ask-spec =
+    tie.close
+    (tie.spec
+    enum-told
+    admit-requires
+    admission-spoken-requires
+    enum-told-2
+    record-invalid-requires
+    invalid-spoken-requires
+    enum-told-3
+    is-banned-requires
+    standing-spoken-requires
+    enum-told-4
+    on-disconnected-requires
+    changed-spoken-requires
+    enum-told-5
+    release-ingress-requires
+    changed-spoken-requires-2
+    enum-told-6
+    same-length
+    returns
+    same-length-2
+    returns-2
+    same-length-3
+    returns-3
+    same-length-4
+    returns-4
+    returns-5
+    returns-6)

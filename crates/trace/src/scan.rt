@@ -1,0 +1,210 @@
+// The scan of an input: the settings line, then one event a line, each answered by one line.
+ghost use mathlib.Core.Path.{_≡_};
+ghost use Rattle.trace.specs.Scan.{following, noPolicy, last, ended, phaseBehind, moved, EventsMeets, SettingsMeets, openOf, NextMeets};
+use super::newline::LineEnd;
+use super::newline::line_end;
+use super::settle::Settled;
+use super::settle::settle;
+use super::step::Stepped;
+use super::step::step;
+use peer_message_policy::policy::PeerMessagePolicy;
+use peer_settings::config::PeerMessagePolicyConfig;
+use peer_state::ingress::FiberIngressBudget;
+use trace_lines::event::parse_event;
+use trace_lines::line::Line;
+use trace_lines::line::bad_line;
+use trace_lines::line::refusal_line;
+
+// The longest input that is read.
+pub const LONGEST_INPUT: usize = 65_536;
+
+// The number of the settings line.
+pub const FIRST_LINE: u64 = 1;
+
+pub enum Phase {
+    TooLong,
+    Settings,
+    Events,
+    Done,
+}
+
+// Where a scan stands: the place of the next line and its number, the policy, and what the next line is.
+pub struct Scan {
+    pub at: usize,
+    pub number: u64,
+    pub policy: PeerMessagePolicy,
+    pub phase: Phase,
+}
+
+// One line to write and the scan behind it; or, where it is done, an empty line and the scan as it was. An enum can't hold a line.
+pub struct Handed {
+    pub done: bool,
+    pub line: Line,
+    pub scan: Scan,
+}
+
+// The number of the line behind one; a scan from `open` comes nowhere near the largest.
+fn following(number: u64) -> u64
+    ensures { λ r. ⌜ r ≡ following number ⌝ }
+{
+    if number == 18_446_744_073_709_551_615 {
+        return number;
+    }
+    number + 1
+}
+
+// A line behind which nothing more is read.
+fn last(scan: Scan, line: Line) -> Handed
+    ensures { λ r. ⌜ r ≡ last scan line ⌝ }
+{
+    let policy = scan.policy;
+    Handed {
+        done: false,
+        line,
+        scan: Scan {
+            at: scan.at,
+            number: scan.number,
+            policy,
+            phase: Phase::Done,
+        },
+    }
+}
+
+fn ended(scan: Scan) -> Handed
+    ensures { λ r. ⌜ r ≡ ended scan ⌝ }
+{
+    Handed {
+        done: true,
+        line: Line {
+            bytes: [0u8; 64],
+            length: 0,
+        },
+        scan,
+    }
+}
+
+// What comes behind an event's line: nothing more where the trace does not go on.
+fn phase_behind(goes_on: bool) -> Phase
+    ensures { λ r. ⌜ r ≡ phaseBehind «goes_on» ⌝ }
+{
+    if !goes_on {
+        return Phase::Done;
+    }
+    Phase::Events
+}
+
+// The scan behind an event's line, at this place.
+fn moved(scan: Scan, at: usize, step: Stepped) -> Handed
+    ensures { λ r. ⌜ r ≡ moved scan at step ⌝ }
+{
+    let line = step.line;
+    let policy = step.policy;
+    let number = following(scan.number);
+    let phase = phase_behind(step.goes_on);
+    Handed {
+        done: false,
+        line,
+        scan: Scan {
+            at,
+            number,
+            policy,
+            phase,
+        },
+    }
+}
+
+// The event's line at the scan's place.
+fn next_event(scan: Scan, input: &[u8], table: &mut [u8]) -> Handed
+    ensures { λ r. ⌜ EventsMeets scan (now (input .entry)) (now (table .entry)) r (now (table .exit)) ⌝ }
+{
+    let at = scan.at;
+    if input.len() <= at {
+        return ended(scan);
+    }
+    let found = line_end(input, at);
+    match found {
+        LineEnd::Missing => last(scan, bad_line(scan.number)),
+        LineEnd::At(end) => {
+            let event = parse_event(&input[at..end]);
+            let policy = scan.policy;
+            let stepped = step(policy, table, event, scan.number);
+            moved(scan, end + 1, stepped)
+        }
+    }
+}
+
+// The settings line at the scan's place, and the event's line behind it.
+fn next_settings(scan: Scan, input: &[u8], table: &mut [u8]) -> Handed
+    ensures { λ r. ⌜ SettingsMeets scan (now (input .entry)) (now (table .entry)) r (now (table .exit)) ⌝ }
+{
+    let at = scan.at;
+    let found = line_end(input, at);
+    match found {
+        LineEnd::Missing => last(scan, bad_line(scan.number)),
+        LineEnd::At(end) => {
+            let settled = settle(&input[at..end], table);
+            match settled {
+                Settled::Bad => last(scan, bad_line(scan.number)),
+                Settled::Refused(refusal) => last(scan, refusal_line(refusal)),
+                Settled::Policy(policy) => {
+                    let behind = Scan {
+                        at: end + 1,
+                        number: following(scan.number),
+                        policy,
+                        phase: Phase::Events,
+                    };
+                    next_event(behind, input, table)
+                }
+            }
+        }
+    }
+}
+
+// What stands for the policy before the settings line is read.
+fn no_policy() -> PeerMessagePolicy
+    ensures { λ r. ⌜ r ≡ noPolicy ⌝ }
+{
+    let config = PeerMessagePolicyConfig::default();
+    PeerMessagePolicy {
+        config,
+        ingress: FiberIngressBudget {
+            in_flight_messages: 0,
+            in_flight_bytes: 0,
+        },
+        rows: 0,
+    }
+}
+
+// A scan from the beginning of an input.
+pub fn open(input: &[u8]) -> Scan
+    ensures { λ r. ⌜ r ≡ openOf (now (input .entry)) ⌝ }
+{
+    let policy = no_policy();
+    if input.len() > LONGEST_INPUT {
+        return Scan {
+            at: 0,
+            number: FIRST_LINE,
+            policy,
+            phase: Phase::TooLong,
+        };
+    }
+    Scan {
+        at: 0,
+        number: FIRST_LINE,
+        policy,
+        phase: Phase::Settings,
+    }
+}
+
+// The next line to write. The scan, the input and the table are those that the call before left.
+pub fn next(scan: Scan, input: &[u8], table: &mut [u8]) -> Handed
+    ensures { λ r. ⌜ NextMeets scan (now (input .entry)) (now (table .entry)) r (now (table .exit)) ⌝ }
+{
+    let phase = scan.phase;
+    match phase {
+        Phase::TooLong => last(scan, bad_line(FIRST_LINE)),
+        Phase::Settings => next_settings(scan, input, table),
+        Phase::Events => next_event(scan, input, table),
+        Phase::Done => ended(scan),
+    }
+}

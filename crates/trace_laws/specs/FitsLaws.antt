@@ -1,0 +1,188 @@
+-- The numbers of a policy stay within their fields' widths: those of settings that a line spells, and the load in flight after an event.
+-- Assumes nothing.
+use mathlib.Core.Path.{_≡_}
+use mathlib.Core.Bool.{Bool, _||_}
+use mathlib.Core.List.{List}
+use Prim.Native.Nat.{ℕ, _+_, _-_}
+use native.Mathlib.Omega.{arith}
+use borrow.Author.Tests.{leb-false, ltb-false, eqb-false}
+use lib.Dec.{leb, ltb, eqb}
+use Rattle.table.specs.Table.{look}
+use Rattle.peer_settings.specs.declared.config.PeerMessagePolicyConfig.{PeerMessagePolicyConfig}
+use Rattle.peer_state.specs.declared.entry.PeerMessagePolicyEntry.{PeerMessagePolicyEntry}
+use Rattle.peer_state.specs.declared.entry.Level.{Level}
+use Rattle.peer_state.specs.declared.ingress.FiberIngressBudget.{FiberIngressBudget}
+use Rattle.peer_state.specs.declared.ingress.Room.{Room}
+use Rattle.peer_state.specs.declared.ingress.Room.the-variants as Room
+use Rattle.peer_verdict.specs.declared.verdict.Cause.{Cause}
+use Rattle.peer_verdict.specs.declared.verdict.Cause.the-variants as Cause
+use Rattle.peer_verdict.specs.declared.verdict.Decision.{Decision}
+use Rattle.peer_settings.specs.Config.{unlimited}
+use Rattle.peer_settings.specs.Fits.{ConfigFits}
+use Rattle.peer_state.specs.Entry.{entryUsed}
+use Rattle.peer_state.specs.EntryLaws.{chosen}
+use Rattle.peer_state.specs.Ingress.{tryReserve}
+use Rattle.peer_verdict.specs.Verdict.{roomed, takeMessage, takeBytes, judged, judgedInvalid}
+use Rattle.peer_verdict.specs.VerdictLaws.{violated-ways, noted-ways, weighed-ways}
+use Rattle.peer_rows.specs.Rows.{Peers}
+use Rattle.peer_message_policy.specs.declared.policy.PeerMessagePolicy.{PeerMessagePolicy}
+use Rattle.peer_verdict.specs.Verdict.{overflows}
+use Rattle.peer_message_policy.specs.Policy.{Change, Update, banned, update, carriedOut, entryForUpdate, Turn, admit, recordInvalid, isBanned, isBannedChange}
+use Rattle.peer_message_policy.specs.Calls.{policyAfter, admissionTurn, invalidTurn, standingChanged}
+use Rattle.peer_laws.specs.TestLaws.{neither}
+use Rattle.peer_laws.specs.SoundLaws.{turnOf, admit-turn, record-invalid-turn}
+use Rattle.peer_laws.specs.CallLaws.{of-admission, of-invalid, of-standing}
+use Rattle.trace_lines.specs.declared.settings.Settings.{Settings}
+use Rattle.trace_lines.specs.declared.settings.Settings.the-variants as Settings
+use Rattle.trace_lines.specs.declared.event.Event.{Event}
+use Rattle.trace_lines.specs.declared.event.EventKind.{EventKind}
+use Rattle.trace_lines.specs.declared.event.EventKind.the-variants as kind
+use Rattle.trace_lines.specs.Lines.{
+  largest32,
+  largest64,
+  endsLine,
+  interval,
+  burst,
+  rate,
+  burstBytes,
+  threshold,
+  banDuration,
+  maxTracked,
+  maxMessages,
+  maxBytes,
+  settingsOf,
+}
+use Rattle.trace_lines.specs.LinesLaws.{scan-bound, field-bound}
+use Rattle.trace.specs.Step.{kindOutcome, eventOutcome, policyNext}
+use Rattle.trace_laws.specs.Fits.{LoadFits}
+use Rattle.trace_laws.specs.StepLaws.{spoken-admission, spoken-invalid, spoken-standing}
+
+-- ════ Settings ════════════════════════════════════════════════════════════════════════════════════
+
+abbrev pub SettingsFit : Settings → Type 0
+SettingsFit Settings.Bad = Unit {0}
+SettingsFit (Settings.Good c) = ConfigFits c
+
+-- a line spells no number that is too wide for its field
+pub settings-fit : (line : List ℕ) → SettingsFit (settingsOf line)
+unfolding settingsOf
+settings-fit line =
+    chosen SettingsFit (endsLine line (maxBytes line))
+    (λ h.
+    record {
+      interval = omega (arith, scan-bound line 0 largest64 (omega arith));
+      burst = omega (arith, field-bound line (interval line) largest32 (omega arith));
+      rate = omega (arith, field-bound line (burst line) largest64 (omega arith));
+      burstBytes = omega (arith, field-bound line (rate line) largest64 (omega arith));
+      threshold = omega (arith, field-bound line (burstBytes line) largest32 (omega arith));
+      duration = omega (arith, field-bound line (threshold line) largest64 (omega arith));
+      tracked = omega (arith, field-bound line (banDuration line) largest64 (omega arith));
+      messages = omega (arith, field-bound line (maxTracked line) largest32 (omega arith));
+      bytes = omega (arith, field-bound line (maxMessages line) largest64 (omega arith));
+    })
+    (λ h. tt)
+
+-- ════ The load in flight ══════════════════════════════════════════════════════════════════════════
+
+module _ (c : PeerMessagePolicyConfig) (config : ConfigFits c) (i : FiberIngressBudget) (load : LoadFits i) where
+  abbrev RoomFits : Room → Type 0
+  RoomFits (Room.Left after) = LoadFits after
+  RoomFits Room.NoSlot = Unit {0}
+  RoomFits (Room.BytesShort k) = Unit {0}
+  RoomFits Room.Overflow = Unit {0}
+
+  -- where there is room for a message, there is room in the numbers
+  room-fits : (size : ℕ) → RoomFits (tryReserve c i size)
+  unfolding tryReserve
+  room-fits size =
+      chosen RoomFits (unlimited c)
+      (λ u.
+      chosen RoomFits (eqb (i .«in_flight_messages») 4294967295 || ltb 18446744073709551615 (i .«in_flight_bytes» + size)) (λ o. tt)
+      (λ o.
+      let parts = neither (eqb (i .«in_flight_messages») 4294967295) (ltb 18446744073709551615 (i .«in_flight_bytes» + size)) o in
+      let few : i .«in_flight_messages» ≡ 4294967295 → ⊥ = eqb-false (i .«in_flight_messages») 4294967295 (parts .0) in
+      record {
+        messages = omega (arith, few, load .messages);
+        bytes = omega (arith, ltb-false 18446744073709551615 (i .«in_flight_bytes» + size) (parts .1));
+      }))
+      (λ u.
+      chosen RoomFits (leb (c .«max_in_flight_messages») (i .«in_flight_messages»)) (λ m. tt)
+      (λ m.
+      chosen RoomFits (ltb (c .«max_in_flight_bytes» - i .«in_flight_bytes») size) (λ b. tt)
+      (λ b.
+      record {
+        messages = omega (arith, leb-false (c .«max_in_flight_messages») (i .«in_flight_messages») m, config .messages);
+        bytes = omega (arith, ltb-false (c .«max_in_flight_bytes» - i .«in_flight_bytes») size b, config .bytes, load .bytes);
+      })))
+
+  abbrev DecisionFits : Decision → Type 0
+  DecisionFits d = LoadFits (d .ingress)
+
+  roomed-fits : (e : PeerMessagePolicyEntry) (m b : Level) (room : Room) → RoomFits room → DecisionFits (roomed i e m b room)
+  roomed-fits e m b (Room.Left after) h = h
+  roomed-fits e m b Room.NoSlot h = load
+  roomed-fits e m b (Room.BytesShort k) h = load
+  roomed-fits e m b Room.Overflow h = load
+
+  judged-fits : (e : PeerMessagePolicyEntry) (size now : ℕ) → DecisionFits (judged c i e size now)
+  unfolding judged
+  judged-fits e size now =
+      let used : PeerMessagePolicyEntry = entryUsed e now (c .«ban_duration_ms») in
+      let m = takeMessage c (used .messages) now in
+      let b = takeBytes c (used .bytes) size now in
+      weighed-ways DecisionFits c i used size now
+      (λ short. violated-ways DecisionFits c i used now Cause.MessagesShort (λ h. load) (λ h. load))
+      (λ passed short. violated-ways DecisionFits c i used now (Cause.BytesShort (b .short)) (λ h. load) (λ h. load))
+      (λ passed passes. roomed-fits used (m .level) (b .level) (tryReserve c i size) (room-fits size))
+
+  invalid-fits : (e : PeerMessagePolicyEntry) (now : ℕ) → DecisionFits (judgedInvalid c i e now)
+  unfolding judgedInvalid
+  invalid-fits e now = noted-ways DecisionFits c i (entryUsed e now (c .«ban_duration_ms»)) now (λ h. load) (λ h. load)
+
+  turn-fits : (k : List ℕ) (decide : PeerMessagePolicyEntry → Decision) → ((e : PeerMessagePolicyEntry) → DecisionFits (decide e)) → (u : Update)
+      → LoadFits (turnOf i k decide u .ingress)
+  unfolding carriedOut
+  turn-fits k decide fits banned = load
+  turn-fits k decide fits (update e rs) =
+      chosen (λ (t : Turn). LoadFits (t .ingress)) (overflows (decide e .cause)) (λ h. load) (λ h. fits e)
+
+  pub admit-fits : (rs : Peers) (k : List ℕ) (size now : ℕ) → LoadFits (admit c i rs k size now .ingress)
+  admit-fits rs k size now =
+      rw (admit-turn c i k rs size now)
+      (turn-fits k (λ e. judged c i e size now) (λ e. judged-fits e size now) (entryForUpdate c now rs (look k rs)))
+
+  pub record-invalid-fits : (rs : Peers) (k : List ℕ) (now : ℕ) → LoadFits (recordInvalid c i rs k now .ingress)
+  record-invalid-fits rs k now =
+      rw (record-invalid-turn c i k rs now)
+      (turn-fits k (λ e. judgedInvalid c i e now) (λ e. invalid-fits e now) (entryForUpdate c now rs (look k rs)))
+
+-- ════ An event ════════════════════════════════════════════════════════════════════════════════════
+
+module _ (p : PeerMessagePolicy) (config : ConfigFits (p .config)) (load : LoadFits (p .ingress)) (rs : Peers) where
+  abbrev InFlightFits : PeerMessagePolicy → Type 0
+  InFlightFits q = LoadFits (q .ingress)
+
+  kind-fits : (k : List ℕ) (size now : ℕ) (which : EventKind) → InFlightFits (policyNext p (kindOutcome p rs k size now which .answer))
+  kind-fits k size now kind.Admit =
+      let turn : Turn = admit (p .config) (p .ingress) rs k size now in
+      spoken-admission p InFlightFits (admissionTurn p turn .answer)
+      (of-admission p InFlightFits (policyAfter p (turn .ingress) (turn .change)) (turn .cause)
+      (admit-fits (p .config) config (p .ingress) load rs k size now) (λ o. load))
+  kind-fits k size now kind.Invalid =
+      let turn : Turn = recordInvalid (p .config) (p .ingress) rs k now in
+      spoken-invalid p InFlightFits (invalidTurn p turn .answer)
+      (of-invalid p InFlightFits (policyAfter p (turn .ingress) (turn .change)) (turn .cause)
+      (record-invalid-fits (p .config) config (p .ingress) load rs k now))
+  kind-fits k size now kind.BanQuery =
+      let change : Change = isBannedChange rs k now (look k rs) in
+      let live : Bool = isBanned (look k rs) now in
+      spoken-standing p InFlightFits (standingChanged p live change .answer)
+      (of-standing p InFlightFits (policyAfter p (p .ingress) change) live load)
+  kind-fits k size now kind.Disconnected = load
+  kind-fits k size now kind.Release = record { messages = omega (arith, load .messages); bytes = omega (arith, load .bytes) }
+  kind-fits k size now kind.Bad = load
+
+  -- the load after an event fits its numbers
+  pub event-fits : (e : Event) → LoadFits (policyNext p (eventOutcome p rs e .answer) .ingress)
+  unfolding eventOutcome
+  event-fits e = kind-fits (e .key .bytes) (e .bytes) (e .«now_ms») (e .kind)

@@ -1,0 +1,11 @@
+pub mod Trace
+pub mod Fits
+pub mod LinesLaws
+pub mod KeyLaws
+pub mod StepLaws
+pub mod FitsLaws
+pub mod Running
+pub mod EventsLaws
+pub mod SettingsLaws
+pub mod TraceLaws
+pub mod OneOutcome

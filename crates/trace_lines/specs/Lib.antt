@@ -1,0 +1,4 @@
+pub mod Lines
+pub mod LinesLaws
+pub mod Spelling
+pub mod SpellingLaws
