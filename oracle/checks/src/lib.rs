@@ -10,6 +10,7 @@ pub mod calls;
 pub mod compare;
 pub mod damage;
 pub mod dice;
+pub mod inputs;
 pub mod lists;
 pub mod mutants;
 pub mod settings;

@@ -5,6 +5,7 @@
 pub mod amounts;
 pub mod buckets;
 pub mod peers;
+pub mod traces;
 
 use vocabulary::{Original, Words};
 
@@ -42,8 +43,9 @@ impl Default for List {
 pub type Recorder = fn(&mut dyn Original) -> List;
 
 /// Each list and the crate whose files stdin and stdout it becomes.
-pub const LISTS: [(&str, Recorder); 3] = [
+pub const LISTS: [(&str, Recorder); 4] = [
     ("crates/replay_amounts", amounts::record),
     ("crates/replay_buckets", buckets::record),
     ("crates/replay_peers", peers::record),
+    ("crates/replay_traces", traces::record),
 ];
