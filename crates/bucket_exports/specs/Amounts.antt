@@ -7,6 +7,7 @@ use lib.Dec.{eqb}
 use lib.IntN.{ℤ, pos, _+ℤ_, _-ℤ_}
 use lib.ListN.{getD}
 use lib.Signed.{ltZ}
+use Rattle.refusal.specs.Some.{Some}
 use Rattle.amount.specs.declared.Amount.{Amount}
 use Rattle.limb_arithmetic.specs.Limbs.{saturatedUnsigned, ceilDiv}
 use Rattle.amount.specs.Amount.{Is, value, saturated, natural, lesser, isI128}
@@ -14,7 +15,7 @@ use Rattle.bucket_exports.specs.declared.said.Said.{Said}
 use Rattle.bucket_exports.specs.declared.amounts.AmountOperation.{AmountOperation}
 use Rattle.bucket_exports.specs.declared.amounts.AmountOperation.the-variants.{FromU64, IsNegative, IsBelow, IsAbove, Lesser, SaturatingAdd, SaturatingSub, Deficit, ToU64, IsI128, ProductPerThousand, TimesThousand, DivCeilLow, Unknown}
 use Rattle.bucket_exports.specs.declared.amounts.AmountDone.{AmountDone}
-use Rattle.bucket_exports.specs.Answers.{Some, said, truthSaid, kept}
+use Rattle.bucket_exports.specs.Answers.{said, truthSaid, kept}
 
 -- the operation of a number
 abbrev pub amountOperation : ℕ → AmountOperation

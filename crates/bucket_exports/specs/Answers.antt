@@ -13,12 +13,6 @@ use Rattle.bucket_terms.specs.declared.answer.Told.{Told}
 use Rattle.bucket_terms.specs.declared.answer.Told.the-variants as Told
 use Rattle.bucket_exports.specs.declared.said.Said.{Said}
 
--- an answer that meets a contract, and what is said of it
-pub record Some {A : Type 0} (meets left : A → Type 0) : Type 0 where
-  pub answer : A
-  pub met : meets answer
-  pub leaves : left answer
-
 abbrev pub said : ℕ → ℕ → Said
 said number value = record { number = number; value = value }
 

@@ -5,6 +5,7 @@ use mathlib.Core.List.{List, [], _∷_}
 use Prim.Native.Nat.{ℕ}
 use lib.Dec.{eqb}
 use lib.ListN.{getD}
+use Rattle.refusal.specs.Some.{Some}
 use Rattle.byte_bucket.specs.declared.bytes.ByteTokenBucket.{ByteTokenBucket}
 use Rattle.bucket_terms.specs.Limit.{byteLimit, byteDisabled}
 use Rattle.byte_bucket.specs.ByteBucket.{byteNew}
@@ -13,7 +14,7 @@ use Rattle.bucket_exports.specs.declared.said.Said.{Said}
 use Rattle.bucket_exports.specs.declared.bytes.ByteOperation.{ByteOperation}
 use Rattle.bucket_exports.specs.declared.bytes.ByteOperation.the-variants.{New, Refill, TryConsume, Reserve, PeekDelay, Refund, HasDebt, BurstBytes, IsDisabled, Unknown}
 use Rattle.bucket_exports.specs.declared.bytes.ByteDone.{ByteDone}
-use Rattle.bucket_exports.specs.Answers.{Some, said, truthSaid, refilledSaid, consumedSaid, delaySaid, toldSaid, kept}
+use Rattle.bucket_exports.specs.Answers.{said, truthSaid, refilledSaid, consumedSaid, delaySaid, toldSaid, kept}
 use Rattle.bucket_exports.specs.Amounts.{amountOfWords, amountWords}
 
 -- the operation of a number

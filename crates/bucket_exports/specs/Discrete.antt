@@ -5,13 +5,14 @@ use mathlib.Core.List.{List, [], _∷_}
 use Prim.Native.Nat.{ℕ}
 use lib.Dec.{eqb}
 use lib.ListN.{getD}
+use Rattle.refusal.specs.Some.{Some}
 use Rattle.discrete_bucket.specs.declared.discrete.DiscreteTokenBucket.{DiscreteTokenBucket}
 use Rattle.discrete_bucket.specs.DiscreteBucket.{discreteNew, DiscreteRefillMeets, DiscreteTryConsumeMeets, DiscreteIsFullMeets}
 use Rattle.bucket_exports.specs.declared.said.Said.{Said}
 use Rattle.bucket_exports.specs.declared.discrete.DiscreteOperation.{DiscreteOperation}
 use Rattle.bucket_exports.specs.declared.discrete.DiscreteOperation.the-variants.{New, Refill, TryConsume, IsFull, Unknown}
 use Rattle.bucket_exports.specs.declared.discrete.DiscreteDone.{DiscreteDone}
-use Rattle.bucket_exports.specs.Answers.{Some, said, refilledSaid, consumedSaid, toldSaid, kept}
+use Rattle.bucket_exports.specs.Answers.{said, refilledSaid, consumedSaid, toldSaid, kept}
 
 -- the operation of a number
 abbrev pub discreteOperation : ℕ → DiscreteOperation

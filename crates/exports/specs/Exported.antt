@@ -3,6 +3,7 @@
 use mathlib.Core.Path.{_≡_}
 use mathlib.Core.List.{List, [], _∷_}
 use Prim.Native.Nat.{ℕ}
+use Rattle.refusal.specs.Some.{Some}
 use Rattle.pubkey.specs.declared.Pubkey.{Pubkey}
 use Rattle.peer_message_policy.specs.declared.answer.InFlight.{InFlight}
 use Rattle.peer_message_policy.specs.declared.answer.InFlight.the-variants as InFlight
@@ -12,12 +13,6 @@ use Rattle.peer_message_policy.specs.Calls.{NewMeets, AdmitMeets, RecordInvalid
 use Rattle.policy_words.specs.declared.answers.Told.{Told}
 use Rattle.policy_words.specs.Words.{configOf, policyOf, Leaves}
 use Rattle.policy_words.specs.Answers.{madeTold, admissionTold, invalidTold, standingTold, changedTold}
-
--- an answer that meets a contract, and that is left behind
-pub record Some {A : Type 0} (meets left : A → Type 0) : Type 0 where
-  pub answer : A
-  pub met : meets answer
-  pub leaves : left answer
 
 -- the key of these bytes
 abbrev pub keyOf : List ℕ → Pubkey

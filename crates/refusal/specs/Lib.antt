@@ -1,2 +1,3 @@
 pub mod Refusal
 pub mod OneOutcome
+pub mod Some

@@ -1,6 +1,8 @@
 //! Runs one trace on both sides, call by call, and compares after every call.
 
 use crate::damage::{damage_peers, damaged_buckets, Damage};
+use crate::inputs::traced::{ending, traced};
+use crate::inputs::ROWS;
 use crate::tally::Tally;
 use crate::trace::{Kind, PeerStart, Trace};
 use crate::watch::watch;
@@ -30,6 +32,9 @@ pub struct BothSides<'a> {
     /// The table as it should be: the Rust's rows laid out, other bytes as they were.
     expected: Vec<u8>,
     buckets: Buckets,
+    /// The input of the kind `Inputs`, and what the trace program should write for it.
+    input: Vec<u8>,
+    output: String,
     /// What the last call should answer.
     answer: Answer,
 }
@@ -58,6 +63,8 @@ impl<'a> BothSides<'a> {
             table: Vec::new(),
             expected: Vec::new(),
             buckets: Buckets::default(),
+            input: trace.input.bytes.clone(),
+            output: String::new(),
             answer: Answer::done(),
             state,
         };
@@ -76,6 +83,11 @@ impl<'a> BothSides<'a> {
     /// What the last call should have answered: the Rust's answer, or the refusal that is known.
     pub fn answer(&self) -> &Answer {
         &self.answer
+    }
+
+    /// What the trace program should have written for the input.
+    pub fn output(&self) -> &str {
+        &self.output
     }
 
     /// Counts the call and keeps what it should answer.
@@ -121,6 +133,7 @@ impl<'a> BothSides<'a> {
                 same_answer(self.answer, self.port.amount(call))
             }
             Kind::Settings => self.step_settings(call, tally),
+            Kind::Inputs => self.step_input(call, tally),
         }
     }
 
@@ -218,6 +231,15 @@ impl<'a> BothSides<'a> {
         Ok(())
     }
 
+    /// The whole input at once. What the table holds before is told by the input's length, and must not matter.
+    fn step_input(&mut self, call: &Words, tally: &mut Tally) -> Result<(), String> {
+        self.output = traced(self.original, &self.input);
+        self.expect(call[0], ending(&self.output), tally);
+        let mut table = filled(ROW * ROWS as usize, self.input.len() as u64 + 1);
+        let written = self.port.trace(&self.input, &mut table);
+        same_lines(self.output.as_bytes(), &written)
+    }
+
     // Refusals: a sound state is damaged in one known way, so the number is known by construction.
 
     /// Words: the damage, the key's place, bytes, now, the operation, the row that is damaged.
@@ -276,6 +298,26 @@ fn same_answer(original: Answer, port: Answer) -> Result<(), String> {
         return Ok(());
     }
     Err(format!("answer: {original} expected, the port says {port}"))
+}
+
+/// Byte for byte; the error names the first line that differs.
+fn same_lines(original: &[u8], port: &[u8]) -> Result<(), String> {
+    if original == port {
+        return Ok(());
+    }
+    let of = |output: &'_ [u8]| -> Vec<String> {
+        let lines = output.split_inclusive(|byte| *byte == b'\n');
+        lines.map(|line| format!("'{}'", show::escaped(line))).collect()
+    };
+    let (original, port) = (of(original), of(port));
+    let at = original.iter().zip(&port).take_while(|(a, b)| a == b).count();
+    let line = |lines: &[String]| lines.get(at).cloned().unwrap_or("nothing more".into());
+    Err(format!(
+        "line {} written: {} expected, the port writes {}",
+        at + 1,
+        line(&original),
+        line(&port)
+    ))
 }
 
 /// Bytes that look like anything; zeros for filler 0.

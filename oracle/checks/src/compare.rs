@@ -10,14 +10,15 @@ use crate::trace::{Kind, Trace, MAKING};
 use std::time::{Duration, Instant};
 use vocabulary::{Answer, Original, Port, Words};
 
-/// Of a hundred calls, so many are of each kind; a kind of no table is quick.
-const SHARES: [(Kind, u64); 6] = [
-    (Kind::Peers, 66),
-    (Kind::Buckets, 18),
-    (Kind::Amounts, 12),
-    (Kind::Settings, 1),
-    (Kind::PeerRefusals, 2),
-    (Kind::BucketRefusals, 1),
+/// Of a thousand calls, so many are of each kind; a kind of no table is quick, an input is as much work as its events.
+const SHARES: [(Kind, u64); 7] = [
+    (Kind::Peers, 660),
+    (Kind::Buckets, 180),
+    (Kind::Amounts, 120),
+    (Kind::Settings, 5),
+    (Kind::PeerRefusals, 20),
+    (Kind::BucketRefusals, 10),
+    (Kind::Inputs, 5),
 ];
 
 /// So many mismatches are made small, and shown unless they come out the same; all are counted.
@@ -46,7 +47,7 @@ pub fn run(original: &mut dyn Original, port: &dyn Port, options: &Options) -> O
     outcome.tally.watch = options.watch;
     let mut progress = Progress::new(options.calls);
     for (kind, share) in SHARES {
-        let goal = outcome.tally.calls() + (options.calls * share).div_ceil(100);
+        let goal = outcome.tally.calls() + (options.calls * share).div_ceil(1_000);
         let goal = goal.min(options.calls);
         let mut number = 0;
         while outcome.tally.calls() < goal {
@@ -81,7 +82,7 @@ fn run_new_trace(
     left: usize,
     tally: &mut Tally,
 ) -> (Trace, Option<Difference>) {
-    let (mut trace, length, mut plan) = begin(kind, dice);
+    let (mut trace, length, mut plan) = begin(kind, dice, original);
     let mut left = left;
     if kind == Kind::Peers && trace.start.is_fresh() {
         tally.count(kind, MAKING, &Answer::done());
@@ -104,13 +105,14 @@ fn run_new_trace(
     (trace, None)
 }
 
-fn begin(kind: Kind, dice: &mut Dice) -> (Trace, usize, Option<Plan>) {
+fn begin(kind: Kind, dice: &mut Dice, original: &mut dyn Original) -> (Trace, usize, Option<Plan>) {
     match kind {
         Kind::Peers | Kind::PeerRefusals => {
             let (mut trace, length, plan) = calls::peers::begin(dice);
             trace.kind = kind;
             (trace, length.max(1), Some(plan))
         }
+        Kind::Inputs => (calls::inputs::begin(dice, original), 1, None),
         Kind::Buckets => (Trace::of_calls(kind, Vec::new()), dice.between(5, 150) as usize, None),
         _ => (Trace::of_calls(kind, Vec::new()), 200, None),
     }
@@ -123,6 +125,7 @@ fn next(trace: &Trace, plan: Option<&mut Plan>, dice: &mut Dice, both: &BothSide
         (Kind::BucketRefusals, _) => calls::refusals::next_bucket(dice),
         (Kind::Buckets, _) => calls::buckets::next(dice, both.buckets()),
         (Kind::Amounts, _) => calls::amounts::next(dice),
+        (Kind::Inputs, _) => calls::inputs::call(&trace.input),
         _ => calls::settings::next(dice),
     }
 }
@@ -174,10 +177,10 @@ fn note(
     let small = Shrinker::new(&mut differs).shrink(trace);
     let last = differs(&small).unwrap_or(difference.clone());
     let name = trace.kind.operations()[operation as usize];
-    let form = if show::is_for_admit_trace(&small) {
-        ", as input of admit-trace"
-    } else {
-        ""
+    let form = match small.kind {
+        Kind::Inputs => ", as a command that gives it to admit-trace",
+        _ if show::is_for_admit_trace(&small) => ", as input of admit-trace",
+        _ => "",
     };
     let text = format!(
         "mismatch in {}: {name}; the shortest trace found{form}:\n{}{}\n",

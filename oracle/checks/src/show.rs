@@ -3,7 +3,7 @@
 //! A trace on peers begins with the nine settings. Lines `I MESSAGES BYTES`, `R KEY` and eleven numbers, and
 //! `L SPARE FILLER` (the lent table) give a start that isn't fresh; `f` and `h KEY GIVEN` ask for the numbers in flight
 //! and the held time. admit-trace reads none of these; all other lines it does. A trace on anything else begins with its
-//! name, and each call is its eight words.
+//! name, and each call is its eight words; an input of the trace program is the command that gives it to admit-trace.
 
 use crate::trace::{Kind, PeerStart, Trace};
 use vocabulary::peer::*;
@@ -81,6 +81,9 @@ pub fn trace(trace: &Trace) -> String {
     if trace.kind != Kind::Peers {
         text += &format!("{}\n", trace.kind.name());
     }
+    if trace.kind == Kind::Inputs {
+        return text + &format!("{GIVE}{}{TO_ADMIT_TRACE}\n", escaped(&trace.input.bytes));
+    }
     if matches!(trace.kind, Kind::Peers | Kind::PeerRefusals) {
         text += &start(trace);
     }
@@ -110,6 +113,45 @@ fn start(trace: &Trace) -> String {
     text
 }
 
+/// The command that gives admit-trace an input stands around it.
+const GIVE: &str = "printf '";
+const TO_ADMIT_TRACE: &str = "' | ./admit-trace";
+
+/// Bytes as they stand between a shell's quotes as printf's format; none of them begins an option.
+pub fn escaped(bytes: &[u8]) -> String {
+    let escape = |byte: &u8| match byte {
+        b'\n' => "\\n".to_string(),
+        b'%' => "%%".to_string(),
+        b'\\' | b'\'' | b'-' | 0..=31 | 127.. => format!("\\{byte:03o}"),
+        _ => char::from(*byte).to_string(),
+    };
+    bytes.iter().map(escape).collect()
+}
+
+/// Reads what `escaped` writes.
+fn unescaped(text: &str) -> Option<Vec<u8>> {
+    let mut bytes = Vec::new();
+    let mut rest = text;
+    while let Some(first) = rest.bytes().next() {
+        let (byte, length) = match (first, rest.as_bytes().get(1)) {
+            (b'\\', Some(b'n')) => (b'\n', 2),
+            (b'\\', _) => (u8::from_str_radix(rest.get(1..4)?, 8).ok()?, 4),
+            (b'%', Some(b'%')) => (b'%', 2),
+            _ => (first, 1),
+        };
+        bytes.push(byte);
+        rest = rest.get(length..)?;
+    }
+    Some(bytes)
+}
+
+fn read_input(trace: &mut Trace, line: &str) -> Option<()> {
+    let text = line.strip_prefix(GIVE)?.strip_suffix(TO_ADMIT_TRACE)?;
+    trace.input.bytes = unescaped(text)?;
+    trace.calls.push([0; 8]);
+    Some(())
+}
+
 /// Reads what `trace` writes.
 pub fn parse(text: &str) -> Result<Trace, String> {
     let mut lines = text.lines().enumerate().peekable();
@@ -125,7 +167,11 @@ pub fn parse(text: &str) -> Result<Trace, String> {
     }
     for (number, line) in lines {
         let words: Vec<&str> = line.split(' ').collect();
-        read_line(&mut trace, &words).ok_or(format!("line {}: {line}", number + 1))?;
+        let read = match trace.kind {
+            Kind::Inputs => read_input(&mut trace, line),
+            _ => read_line(&mut trace, &words),
+        };
+        read.ok_or(format!("line {}: {line}", number + 1))?;
     }
     if !trace.is_valid() {
         return Err("the start isn't sound, or a call has no answer in the Rust".into());
@@ -206,4 +252,18 @@ pub fn is_for_admit_trace(trace: &Trace) -> bool {
         && trace.start.filler == 0
         && trace.start.settings[6] <= 256
         && !trace.calls.iter().any(asks_more)
+}
+
+#[cfg(test)]
+mod tests {
+    use super::*;
+
+    #[test]
+    fn an_input_of_any_bytes_is_read_back() {
+        let mut input = Trace::of_calls(Kind::Inputs, vec![[0; 8]]);
+        input.input.bytes = (0..=255).chain(*b"%%\\n0\\0127-").collect();
+        let read = parse(&trace(&input)).unwrap();
+        assert_eq!(read.input.bytes, input.input.bytes);
+        assert_eq!(read.calls, input.calls);
+    }
 }

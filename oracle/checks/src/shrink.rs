@@ -29,6 +29,7 @@ impl<'a> Shrinker<'a> {
             let size = weight(&small);
             self.cut_after_difference(&mut small);
             self.delete_calls(&mut small);
+            self.delete_lines(&mut small);
             self.delete_rows(&mut small);
             self.forget_the_start(&mut small);
             self.move_times(&mut small);
@@ -72,6 +73,29 @@ impl<'a> Shrinker<'a> {
                 let mut candidate = small.clone();
                 let end = (at + run).min(candidate.calls.len());
                 candidate.calls.drain(at..end);
+                if !self.take(small, candidate) {
+                    at += run;
+                }
+            }
+            run /= 2;
+        }
+    }
+
+    /// Of an input of the trace program.
+    fn delete_lines(&mut self, small: &mut Trace) {
+        let lines = |trace: &Trace| -> Vec<Vec<u8>> {
+            let lines = trace.input.bytes.split_inclusive(|byte| *byte == b'\n');
+            lines.map(<[u8]>::to_vec).collect()
+        };
+        let mut run = lines(small).len().div_ceil(2);
+        while run > 0 {
+            let mut at = 0;
+            while at < lines(small).len() {
+                let mut left = lines(small);
+                let end = (at + run).min(left.len());
+                left.drain(at..end);
+                let mut candidate = small.clone();
+                candidate.input.bytes = left.concat();
                 if !self.take(small, candidate) {
                     at += run;
                 }
@@ -206,6 +230,6 @@ fn weight(trace: &Trace) -> (usize, usize) {
     let start = digits(&trace.start.settings) + digits(&trace.start.in_flight);
     (
         trace.calls.len() + trace.start.rows.len(),
-        calls + rows + start + trace.keys.len(),
+        calls + rows + start + trace.keys.len() + trace.input.bytes.len(),
     )
 }

@@ -1,6 +1,7 @@
 //! A trace: what it is about, where it begins, its calls, and whether the Rust has an answer to each.
 
 use crate::damage::PEER_DAMAGE;
+use crate::inputs::damage::SORTS;
 use crate::{amounts, settings};
 use vocabulary::peer::*;
 use vocabulary::{BucketCall, BucketOperation, Words};
@@ -14,6 +15,7 @@ pub enum Kind {
     Settings,
     PeerRefusals,
     BucketRefusals,
+    Inputs,
 }
 
 /// The operations on peers, then the making of a fresh policy, with which a trace begins.
@@ -32,13 +34,14 @@ const PEER_OPERATIONS: [&str; MAKING as usize + 1] = [
 pub const MAKING: u64 = PeerOperation::ALL.len() as u64;
 
 impl Kind {
-    pub const ALL: [Self; 6] = [
+    pub const ALL: [Self; 7] = [
         Self::Peers,
         Self::Buckets,
         Self::Amounts,
         Self::Settings,
         Self::PeerRefusals,
         Self::BucketRefusals,
+        Self::Inputs,
     ];
 
     pub fn name(self) -> &'static str {
@@ -49,6 +52,7 @@ impl Kind {
             Self::Settings => "settings",
             Self::PeerRefusals => "peer-refusals",
             Self::BucketRefusals => "bucket-refusals",
+            Self::Inputs => "inputs",
         }
     }
 
@@ -60,6 +64,7 @@ impl Kind {
             Self::Settings => &vocabulary::settings::NAMES,
             Self::PeerRefusals => &PEER_DAMAGE,
             Self::BucketRefusals => &BucketOperation::NAMES,
+            Self::Inputs => &SORTS,
         }
     }
 }
@@ -71,6 +76,15 @@ pub struct Trace {
     pub keys: Vec<Key>,
     pub start: PeerStart,
     pub calls: Vec<Words>,
+    /// Of the kind `Inputs`, which has one call.
+    pub input: Input,
+}
+
+/// A whole input of the trace program, and the sort of its damage.
+#[derive(Clone, Debug, Default)]
+pub struct Input {
+    pub sort: u64,
+    pub bytes: Vec<u8>,
 }
 
 /// The state that a trace on peers begins with, and the lent table.
@@ -100,6 +114,7 @@ impl Trace {
             keys: Vec::new(),
             start: PeerStart::default(),
             calls,
+            input: Input::default(),
         }
     }
 
@@ -132,7 +147,7 @@ impl Trace {
                 self.peer_state().is_some() && self.calls.iter().all(|call| call[1] < keys)
             }
             Kind::Buckets => self.calls.iter().all(bucket_call_is_valid),
-            Kind::BucketRefusals => true,
+            Kind::BucketRefusals | Kind::Inputs => true,
             Kind::Amounts => self.calls.iter().all(amounts::in_domain),
             Kind::Settings => self.calls.iter().all(settings::in_domain),
         }

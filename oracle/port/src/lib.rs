@@ -1,8 +1,11 @@
-//! The proved library as the port under test: each call goes to a C function of crate `exports` (peers) or `bucket_exports` (the rest).
+//! The proved library as the port under test: each call goes to a C function of crate `exports` (peers), `trace_exports` (inputs of
+//! the trace program) or `bucket_exports` (the rest).
 
 mod peers;
 mod plain;
+mod traces;
 
+use traces::Scan;
 use vocabulary::amounts::{DIV_CEIL_LOW, FROM_U64, PRODUCT_PER_THOUSAND, TO_U64};
 use vocabulary::settings::{self, SettingsCall};
 use vocabulary::{Amount, Answer, BucketCall, BucketOperation, Buckets, PeerCall, PeerOperation, Port, Record, Words};
@@ -90,5 +93,19 @@ impl Port for Proved {
             _ if answer == Answer::done() => Answer::values(amount.words()),
             _ => answer,
         }
+    }
+
+    /// A scan hands out at most a line for each of the input's, and one for an input without any.
+    fn trace(&self, input: &[u8], table: &mut [u8]) -> Vec<u8> {
+        let mut scan = Scan::open(input);
+        let mut written = Vec::new();
+        for _ in 0..input.len() + 2 {
+            let line = scan.next(input, table);
+            if line.is_empty() {
+                return written;
+            }
+            written.extend(line);
+        }
+        panic!("more lines written than read");
     }
 }

@@ -15,6 +15,7 @@ struct Wrong {
     bucket: fn(&BucketCall, &mut Buckets) -> Answer,
     settings: fn(&Words) -> (Answer, [u64; 9]),
     amount: fn(&Words) -> Answer,
+    trace: fn(&[u8], &mut [u8]) -> Vec<u8>,
 }
 
 /// No fault yet.
@@ -23,6 +24,7 @@ const FAITHFUL: Wrong = Wrong {
     bucket: |call, buckets| Proved.bucket(call, buckets),
     settings: |call| Proved.settings(call),
     amount: |call| Proved.amount(call),
+    trace: |input, table| Proved.trace(input, table),
 };
 
 impl Wrong {
@@ -49,6 +51,9 @@ impl Port for Wrong {
     }
     fn amount(&self, call: &Words) -> Answer {
         (self.amount)(call)
+    }
+    fn trace(&self, input: &[u8], table: &mut [u8]) -> Vec<u8> {
+        (self.trace)(input, table)
     }
 }
 
@@ -184,6 +189,44 @@ fn a_sum_that_keeps_minus_zero() {
         answer
     };
     is_noticed(&Wrong { amount, ..FAITHFUL }, 2);
+}
+
+#[test]
+fn a_last_line_that_is_not_written() {
+    let trace = |input: &[u8], table: &mut [u8]| {
+        let mut written = Proved.trace(input, table);
+        written.pop();
+        let end = written.iter().rposition(|byte| *byte == b'\n');
+        written.truncate(end.map_or(0, |end| end + 1));
+        written
+    };
+    is_noticed(&Wrong { trace, ..FAITHFUL }, 2);
+}
+
+#[test]
+fn lines_that_are_counted_from_0() {
+    let trace = |input: &[u8], table: &mut [u8]| {
+        let written = String::from_utf8(Proved.trace(input, table)).unwrap();
+        let line = |line: &str| match line.strip_prefix("bad line ") {
+            Some(number) => format!("bad line {}\n", number.parse::<u64>().unwrap() - 1),
+            None => format!("{line}\n"),
+        };
+        written.lines().map(line).collect::<String>().into_bytes()
+    };
+    is_noticed(&Wrong { trace, ..FAITHFUL }, 2);
+}
+
+#[test]
+fn an_answer_that_is_the_table_s() {
+    let trace = |input: &[u8], table: &mut [u8]| {
+        let byte = table[0];
+        let mut written = Proved.trace(input, table);
+        if let Some(first) = written.first_mut().filter(|_| byte > 127) {
+            *first = b'?';
+        }
+        written
+    };
+    is_noticed(&Wrong { trace, ..FAITHFUL }, 2);
 }
 
 #[test]

@@ -117,6 +117,7 @@ fn replay(file: &str) -> ExitCode {
     };
     let mut print = |both: &BothSides, call: &Words| match trace.kind {
         Kind::Peers => println!("{}", show::output_line(call, both.answer(), both.state())),
+        Kind::Inputs => print!("{}", both.output()),
         _ => println!("{}", both.answer()),
     };
     let difference = compare::replay_and_watch(&mut UnchangedRust::default(), &PORT, &trace, &mut print);

@@ -32,4 +32,7 @@ pub trait Port {
 
     /// A call on 128-bit amounts: operation, then operands (`checks::amounts`).
     fn amount(&self, call: &Words) -> Answer;
+
+    /// All that the trace program writes for an input; the table is its memory, filled with anything.
+    fn trace(&self, input: &[u8], table: &mut [u8]) -> Vec<u8>;
 }

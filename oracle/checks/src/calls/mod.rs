@@ -5,6 +5,7 @@
 
 pub mod amounts;
 pub mod buckets;
+pub mod inputs;
 pub mod peers;
 pub mod refusals;
 pub mod settings;

@@ -64,12 +64,8 @@ pub fn begin(dice: &mut Dice) -> (Trace, usize, Plan) {
     if dice.chance(if large { 80 } else { 40 }) {
         fill(dice, &plan, &mut start, large);
     }
-    let trace = Trace {
-        kind: Kind::Peers,
-        keys,
-        start,
-        calls: Vec::new(),
-    };
+    let mut trace = Trace::of_calls(Kind::Peers, Vec::new());
+    (trace.keys, trace.start) = (keys, start);
     let length = if large {
         dice.between(20, 60)
     } else {

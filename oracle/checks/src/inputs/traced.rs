@@ -16,6 +16,16 @@ pub fn traced(original: &mut dyn Original, input: &[u8]) -> String {
     output
 }
 
+/// How an output ends: done with every line, a refusal, or no at a bad line.
+pub fn ending(output: &str) -> Answer {
+    let last = output.lines().next_back().unwrap_or("");
+    match last.split_once(' ') {
+        Some(("bad", _)) => Answer::yes_or_no(false),
+        Some(("refusal", number)) => Answer::plain(number.parse().expect("a refusal's number")),
+        _ => Answer::done(),
+    }
+}
+
 /// Writes a line for each event; answers the line at which the scan was left, if it was.
 fn answer_lines(original: &mut dyn Original, input: &[u8], output: &mut String) -> Option<String> {
     let bad = |number: usize| Some(format!("bad line {number}"));
