@@ -17,7 +17,7 @@ pub struct Step {
 }
 
 impl Held {
-    pub fn nothing() -> Held {
+    pub(crate) fn nothing() -> Held {
         let config = PeerMessagePolicyConfig::with_limits(0, 0, 0);
         Held {
             policy: PeerMessagePolicy {
@@ -33,21 +33,21 @@ impl Held {
         }
     }
 
-    pub fn says(self, text: &[u8]) -> Step {
+    pub(crate) fn says(self, text: &[u8]) -> Step {
         Step {
             held: self,
             line: Line::empty().text(text),
         }
     }
 
-    pub fn says_number(self, n: u64) -> Step {
+    pub(crate) fn says_number(self, n: u64) -> Step {
         Step {
             held: self,
             line: Line::empty().decimal(n),
         }
     }
 
-    pub fn refused(self, number: u32) -> Step {
+    pub(crate) fn refused(self, number: u32) -> Step {
         Step {
             held: self,
             line: Line::empty().refusal(number),
@@ -55,7 +55,7 @@ impl Held {
     }
 
     // The same with the policy that a call left, and what the call answered.
-    pub fn left(self, policy: PeerMessagePolicy, text: &[u8]) -> Step {
+    pub(crate) fn left(self, policy: PeerMessagePolicy, text: &[u8]) -> Step {
         let next = self.next;
         Step {
             held: Held {
