@@ -5,6 +5,7 @@ use mathlib.Core.List.{List, [], _∷_, _++_}
 use Prim.Native.Nat.{ℕ, zero, suc, _+_, _-_, _*_, _/_, _%_}
 use lib.Dec.{leb, ltb, eqb}
 use lib.ListN.{length, drop}
+use Rattle.refusal.specs.Refusal.{Said, gives}
 use Rattle.decimal.specs.declared.Scanned.{Scanned}
 use Rattle.decimal.specs.declared.Scanned.the-variants.{Number, Bad}
 
@@ -44,3 +45,8 @@ numberOf (d ∷ e ∷ ds) at most = cond (eqb d 48) Bad (bounded (valueFrom 0 (d
 -- the number at a place of a text, of all the digits that stand there, and the place behind it
 unfoldable pub scanOf : List ℕ → ℕ → ℕ → Scanned
 scanOf text at most = numberOf (digitsAtFront (drop at text)) at most
+
+-- what the answer says: the number and the place behind it, or nothing
+abbrev pub scannedSays : Scanned → Said
+scannedSays (Number v end) = gives (v ∷ end ∷ [])
+scannedSays Bad = gives []
