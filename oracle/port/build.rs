@@ -4,7 +4,7 @@ use std::path::PathBuf;
 use std::{env, process};
 
 /// The crates whose C functions are linked; `oracle/archive` names them too.
-const EXPORTING: [&str; 3] = ["exports", "bucket_exports", "trace_exports"];
+const EXPORTING: [&str; 3] = ["c_peers", "c_buckets", "c_trace"];
 
 fn main() {
     let here = PathBuf::from(env::var("CARGO_MANIFEST_DIR").unwrap());

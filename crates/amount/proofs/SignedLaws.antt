@@ -10,7 +10,7 @@ use lib.Dec.{leb, ltb, eqb, leb·suc-suc, eqb·suc-zero, eqb·suc-suc}
 use lib.IntN.{ℤ, pos, negℤ, _+ℤ_, negℤ-negℤ, negℤ-+ℤ, +ℤ-comm}
 use lib.Signed.{ltZ}
 use Rattle.amount.specs.declared.Amount.{Amount}
-use Rattle.limb_arithmetic.specs.Limbs.{digits}
+use Rattle.amount_limbs.specs.Limbs.{digits}
 use Rattle.amount.specs.Amount.{signed, value, minusZero, saturated, inRange, natural, Is}
 use Rattle.amount.specs.AmountLaws.{minus-pos, saturated-beyond, saturated-signed, saturated-in-range, natural-negative, natural-other}
 

@@ -5,7 +5,7 @@ use mathlib.Core.List.{List}
 use Prim.Native.Nat.{ℕ, zero, suc}
 use lib.IntN.{pos}
 use Rattle.amount.specs.declared.Amount.{Amount}
-use Rattle.limb_arithmetic.specs.Limbs.{digits}
+use Rattle.amount_limbs.specs.Limbs.{digits}
 use Rattle.amount.specs.Amount.{Is, signed, value, minusZero, natural}
 
 natural-signed : (n : ℕ) → natural (signed true n) ≡ 0

@@ -7,7 +7,7 @@ use Prim.Native.Nat.{ℕ, zero, suc, _-_, _/_, _%_, _^_, min}
 use lib.Dec.{leb, eqb}
 use lib.IntN.{ℤ, pos, negsuc, negℤ}
 use lib.Signed.{ltZ}
-use Rattle.limb_arithmetic.specs.Limbs.{digits}
+use Rattle.amount_limbs.specs.Limbs.{digits}
 use Rattle.amount.specs.declared.Amount.{Amount}
 
 -- n with a sign

@@ -13,7 +13,7 @@ use mir.Syntax.{w32}
 use lib.IntN.{ℤ, pos, negsuc, _+ℤ_, _-ℤ_, +ℤ-negℤ-cancel}
 use lib.Signed.{ltZ}
 use Rattle.amount.specs.declared.Amount.{Amount}
-use Rattle.limb_arithmetic.specs.Limbs.{digits}
+use Rattle.amount_limbs.specs.Limbs.{digits}
 use Rattle.amount.specs.Amount.{signed, value, minusZero, Is, saturated, natural, lesser, inRange, isI128}
 
 -- ---- four limbs, each below 2^32: what the language gives of any amount that a program holds (`search needs` finds it)

@@ -9,7 +9,7 @@ use borrow.Author.Tests.{ne-eqb}
 use lib.ListN.{length, getD}
 use lib.IntN.{ℤ, pos, negsuc}
 use Rattle.amount.specs.declared.Amount.{Amount}
-use Rattle.limb_arithmetic.specs.Limbs.{digits}
+use Rattle.amount_limbs.specs.Limbs.{digits}
 use Rattle.amount.specs.Amount.{limbs, amountOf, signed, value, minusZero, Is, isI128, inRange}
 use Rattle.amount.specs.AmountLaws.{Whole, is-unique, whole-below}
 

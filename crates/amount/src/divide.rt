@@ -1,10 +1,10 @@
 // An amount divided by a u64.
 use super::Amount;
-use limb_arithmetic::divide::divide;
-use limb_arithmetic::divide::low_half;
+use amount_limbs::divide::divide;
+use amount_limbs::divide::low_half;
 ghost use mathlib.Core.Path.{_≡_};
 ghost use Prim.Native.Nat.{_%_, _^_, _<_};
-ghost use Rattle.limb_arithmetic.specs.Limbs.{ceilDiv};
+ghost use Rattle.amount_limbs.specs.Limbs.{ceilDiv};
 ghost use Rattle.amount.specs.Amount.{value, natural};
 
 impl Amount {

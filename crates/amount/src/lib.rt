@@ -13,7 +13,7 @@ ghost use Prim.Native.Nat.{ℕ, _-_, _*_, _/_, _%_, _^_, _<_, min};
 ghost use lib.IntN.{pos, _+ℤ_, _-ℤ_};
 ghost use lib.Signed.{ltZ};
 ghost use Rattle.amount.specs.Magnitude.{size};
-ghost use Rattle.limb_arithmetic.specs.Limbs.{digits};
+ghost use Rattle.amount_limbs.specs.Limbs.{digits};
 ghost use Rattle.amount.specs.Amount.{Is, value, saturated, natural, lesser, isI128};
 
 mod divide;

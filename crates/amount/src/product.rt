@@ -1,12 +1,12 @@
 // Products of amounts: of two u64 over 1000, and of an amount and 1000.
 use super::Amount;
-use limb_arithmetic::product::per_thousand;
-use limb_arithmetic::product::product;
-use limb_arithmetic::product::thousandfold;
+use amount_limbs::product::per_thousand;
+use amount_limbs::product::product;
+use amount_limbs::product::thousandfold;
 ghost use mathlib.Core.Path.{_≡_};
 ghost use Prim.Native.Nat.{_*_, _/_};
 ghost use lib.IntN.{pos};
-ghost use Rattle.limb_arithmetic.specs.Limbs.{saturatedUnsigned};
+ghost use Rattle.amount_limbs.specs.Limbs.{saturatedUnsigned};
 ghost use Rattle.amount.specs.Amount.{Is, value, natural};
 
 impl Amount {

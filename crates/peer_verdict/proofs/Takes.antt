@@ -5,8 +5,8 @@ use native.Mathlib.Nat.{min-eq-left}
 use native.Mathlib.Omega.{arith}
 use lib.IntN.{pos}
 use Rattle.amount.specs.Amount.{value, natural}
-use Rattle.byte_bucket.specs.declared.bytes.ByteConsumed.{ByteConsumed}
-use Rattle.byte_bucket.specs.ByteBucket.{byteLevel, ByteTryConsumeMeets}
+use Rattle.bucket_bytes.specs.declared.bytes.ByteConsumed.{ByteConsumed}
+use Rattle.bucket_bytes.specs.ByteBucket.{byteLevel, ByteTryConsumeMeets}
 use Rattle.peer_settings.specs.declared.config.PeerMessagePolicyConfig.{PeerMessagePolicyConfig}
 use Rattle.peer_state.specs.declared.entry.Level.{Level}
 use Rattle.peer_verdict.specs.declared.verdict.Take.{Take}

@@ -9,18 +9,18 @@ use borrow.Author.Tests.{ltb-true, le-leb, le-ltb}
 use lib.Dec.{ltb, leb, eqb, lit≤}
 use lib.IntN.{ℤ, pos, negsuc, negℤ, _+ℤ_, _-ℤ_}
 use lib.Signed.{ltZ}
-use Rattle.limb_arithmetic.specs.Limbs.{digits}
+use Rattle.amount_limbs.specs.Limbs.{digits}
 use Rattle.amount.specs.Amount.{limbs, value, amountOf, Is, isI128, saturated, natural, lesser}
 use Rattle.amount.specs.AmountOfLaws.{amountOf-is}
 use Rattle.bucket_terms.specs.declared.answer.Consumed.{Consumed}
 use Rattle.bucket_terms.specs.declared.answer.Consumed.the-variants as Consumed
-use Rattle.discrete_bucket.specs.declared.discrete.DiscreteTokenBucket.{DiscreteTokenBucket}
-use Rattle.discrete_bucket.specs.declared.discrete.DiscreteConsumed.{DiscreteConsumed}
-use Rattle.byte_bucket.specs.declared.bytes.ByteTokenBucket.{ByteTokenBucket}
-use Rattle.byte_bucket.specs.declared.bytes.ByteConsumed.{ByteConsumed}
+use Rattle.bucket_discrete.specs.declared.discrete.DiscreteTokenBucket.{DiscreteTokenBucket}
+use Rattle.bucket_discrete.specs.declared.discrete.DiscreteConsumed.{DiscreteConsumed}
+use Rattle.bucket_bytes.specs.declared.bytes.ByteTokenBucket.{ByteTokenBucket}
+use Rattle.bucket_bytes.specs.declared.bytes.ByteConsumed.{ByteConsumed}
 use Rattle.bucket_terms.specs.Limit.{byteDisabled}
-use Rattle.discrete_bucket.specs.DiscreteBucket.{discreteRefill, discreteTake, discreteTryConsume}
-use Rattle.byte_bucket.specs.ByteBucket.{byteSound, byteLevel, byteRefill, byteDeficit, byteTake, byteTryConsume}
+use Rattle.bucket_discrete.specs.DiscreteBucket.{discreteRefill, discreteTake, discreteTryConsume}
+use Rattle.bucket_bytes.specs.ByteBucket.{byteSound, byteLevel, byteRefill, byteDeficit, byteTake, byteTryConsume}
 use Rattle.peer_settings.specs.declared.config.PeerMessagePolicyConfig.{PeerMessagePolicyConfig}
 use Rattle.peer_state.specs.declared.entry.Level.{Level}
 use Rattle.peer_verdict.specs.declared.verdict.Take.{Take}

@@ -6,11 +6,11 @@ use lib.IntN.{pos}
 use Rattle.amount.specs.Amount.{value, natural}
 use Rattle.bucket_terms.specs.declared.answer.Consumed.{Consumed}
 use Rattle.bucket_terms.specs.declared.answer.Consumed.the-variants as Consumed
-use Rattle.discrete_bucket.specs.declared.discrete.DiscreteTokenBucket.{DiscreteTokenBucket}
-use Rattle.discrete_bucket.specs.declared.discrete.DiscreteConsumed.{DiscreteConsumed}
-use Rattle.byte_bucket.specs.declared.bytes.ByteConsumed.{ByteConsumed}
-use Rattle.discrete_bucket.specs.DiscreteBucket.{discreteTryConsume}
-use Rattle.byte_bucket.specs.ByteBucket.{byteLevel, byteTryConsume}
+use Rattle.bucket_discrete.specs.declared.discrete.DiscreteTokenBucket.{DiscreteTokenBucket}
+use Rattle.bucket_discrete.specs.declared.discrete.DiscreteConsumed.{DiscreteConsumed}
+use Rattle.bucket_bytes.specs.declared.bytes.ByteConsumed.{ByteConsumed}
+use Rattle.bucket_discrete.specs.DiscreteBucket.{discreteTryConsume}
+use Rattle.bucket_bytes.specs.ByteBucket.{byteLevel, byteTryConsume}
 use Rattle.peer_settings.specs.declared.config.PeerMessagePolicyConfig.{PeerMessagePolicyConfig}
 use Rattle.peer_state.specs.declared.entry.Level.{Level}
 use Rattle.peer_state.specs.declared.entry.ViolationWindow.{ViolationWindow}

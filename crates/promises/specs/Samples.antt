@@ -6,12 +6,12 @@ use mathlib.Core.List.{List, [], _∷_, _++_}
 use Prim.Native.Nat.{ℕ}
 use lib.ListN.{getD, replicate}
 use Rattle.refusal.specs.Refusal.{Said, gives, refused}
-use Rattle.discrete_bucket.specs.declared.discrete.DiscreteTokenBucket.{DiscreteTokenBucket}
-use Rattle.byte_bucket.specs.declared.bytes.ByteTokenBucket.{ByteTokenBucket}
+use Rattle.bucket_discrete.specs.declared.discrete.DiscreteTokenBucket.{DiscreteTokenBucket}
+use Rattle.bucket_bytes.specs.declared.bytes.ByteTokenBucket.{ByteTokenBucket}
 use Rattle.bucket_terms.specs.Answers.{consumedSays, delaySays, toldSays, told}
 use Rattle.bucket_terms.specs.Limit.{byteLimit}
-use Rattle.discrete_bucket.specs.DiscreteBucket.{discreteNew, discreteTryConsume}
-use Rattle.byte_bucket.specs.ByteBucket.{byteNew, byteTryConsume, byteReserve, byteHasDebt}
+use Rattle.bucket_discrete.specs.DiscreteBucket.{discreteNew, discreteTryConsume}
+use Rattle.bucket_bytes.specs.ByteBucket.{byteNew, byteTryConsume, byteReserve, byteHasDebt}
 use Rattle.table.specs.Table.{Row}
 use Rattle.peer_settings.specs.declared.config.PeerMessagePolicyConfig.{PeerMessagePolicyConfig}
 use Rattle.peer_state.specs.declared.entry.ViolationWindow.{ViolationWindow}

@@ -4,7 +4,7 @@ use mathlib.Core.Bool.{Bool, true, false}
 use mathlib.Core.List.{List, [], _∷_, _++_}
 use Prim.Native.Nat.{ℕ, _/_, _%_, _^_}
 use lib.ListN.{take}
-use Rattle.limb_arithmetic.specs.Limbs as limbs
+use Rattle.amount_limbs.specs.Limbs as limbs
 use Rattle.amount.specs.declared.Amount.{Amount}
 use Rattle.decimal.specs.Decimal.{digitsOf}
 use Rattle.replay.specs.declared.line.Line.{Line}

@@ -10,7 +10,7 @@ use borrow.Author.Tests.{lt-ltb, le-ltb, ltb-true, ltb-false}
 use lib.Dec.{ltb}
 use lib.ListN.{length, getD, take, set, length-take, length-append}
 use lib.Seq.{take-all, take-append-le, take-suc, take-suc-set, length-take-le}
-use Rattle.limb_arithmetic.specs.Limbs as limbs
+use Rattle.amount_limbs.specs.Limbs as limbs
 use Rattle.amount.specs.AmountLaws.{digits-four}
 use Rattle.decimal.specs.Decimal.{digitsWithin, digitsOf}
 use Rattle.lent_bytes.specs.LentBytes.{put}

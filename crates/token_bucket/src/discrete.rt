@@ -1,4 +1,4 @@
 // The bucket that counts messages.
-pub use discrete_bucket::discrete::DiscreteConsumed;
-pub use discrete_bucket::discrete::DiscreteRefilled;
-pub use discrete_bucket::discrete::DiscreteTokenBucket;
+pub use bucket_discrete::discrete::DiscreteConsumed;
+pub use bucket_discrete::discrete::DiscreteRefilled;
+pub use bucket_discrete::discrete::DiscreteTokenBucket;

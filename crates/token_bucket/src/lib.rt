@@ -5,7 +5,7 @@
 // caller could have reached (more available than its capacity, an amount out of range, minus zero) is refused with 3 and
 // comes back as it was. No operation has a `requires`.
 //
-// Each bucket is proved in a crate of its own (`discrete_bucket`, `byte_bucket`, over `bucket_terms`); this one gathers them.
+// Each bucket is proved in a crate of its own (`bucket_discrete`, `bucket_bytes`, over `bucket_terms`); this one gathers them.
 pub mod answer;
 pub mod bytes;
 pub mod discrete;

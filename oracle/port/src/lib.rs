@@ -1,5 +1,5 @@
-//! The proved library as the port under test: each call goes to a C function of crate `exports` (peers), `trace_exports` (inputs of
-//! the trace program) or `bucket_exports` (the rest).
+//! The proved library as the port under test: each call goes to a C function of crate `c_peers` (peers), `c_trace` (inputs of
+//! the trace program) or `c_buckets` (the rest).
 
 mod peers;
 mod plain;

@@ -1,4 +1,4 @@
-//! The functions of crate `exports` behind safe ones: the peers' calls. The types here rule out what its callers answer
+//! The functions of crate `c_peers` behind safe ones: the peers' calls. The types here rule out what its callers answer
 //! for: null, a wrong length, and two lendings of the same memory. A slice crosses as a pointer and a length.
 
 use vocabulary::{Key, Record};

@@ -1,4 +1,4 @@
-//! The functions of crate `bucket_exports` behind safe ones: buckets, settings and amounts by themselves. The types here
+//! The functions of crate `c_buckets` behind safe ones: buckets, settings and amounts by themselves. The types here
 //! rule out what its callers answer for: null, and two lendings of the same memory.
 
 use vocabulary::{Amount, Answer, ByteBucket, DiscreteBucket, Settings};

@@ -1,4 +1,4 @@
-//! The functions of crate `trace_exports` behind safe ones: the scan of an input, line by line. The types here rule out what its
+//! The functions of crate `c_trace` behind safe ones: the scan of an input, line by line. The types here rule out what its
 //! callers answer for: null, a wrong length, and two lendings of the same memory. A slice crosses as a pointer and a length.
 
 /// The scan's own numbers (place, line number, phase), and the policy's words.

@@ -3,9 +3,9 @@ use mathlib.Core.Path.{_≡_, refl, sym, ap, _∙_}
 use Prim.Native.Nat.{ℕ, _+_, _%_, _^_}
 use native.Mathlib.Omega.{arith}
 use borrow.Author.Needs.{needs}
-use Rattle.limb_arithmetic.specs.Limbs.{digits, ceilDiv}
+use Rattle.amount_limbs.specs.Limbs.{digits, ceilDiv}
 use Rattle.amount.specs.Amount.{value, natural}
-use Rattle.limb_arithmetic.specs.LongDivisionLaws.{Divided, nothing, ceil-exact, ceil-low}
+use Rattle.amount_limbs.specs.LongDivisionLaws.{Divided, nothing, ceil-exact, ceil-low}
 use Rattle.amount.proofs.Unsigned.{natural-negative, natural-plain}
 use Rattle.amount.proofs.Amount.div_ceil_low.Statement.{statement}
 use Rattle.amount.proofs.Amount.div_ceil_low.Tie as tie

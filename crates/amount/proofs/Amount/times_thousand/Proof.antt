@@ -3,7 +3,7 @@ use mathlib.Core.Path.{sym, ap, _∙_}
 use mathlib.Core.List.{[], _∷_}
 use Prim.Native.Nat.{ℕ, _*_}
 use borrow.Author.Needs.{needs}
-use Rattle.limb_arithmetic.specs.Limbs.{saturatedUnsigned}
+use Rattle.amount_limbs.specs.Limbs.{saturatedUnsigned}
 use Rattle.amount.proofs.Unsigned.{is-plain, natural-negative, natural-plain}
 use Rattle.amount.proofs.Amount.times_thousand.Statement.{statement}
 use Rattle.amount.proofs.Amount.times_thousand.Tie as tie

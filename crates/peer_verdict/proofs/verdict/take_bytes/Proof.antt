@@ -6,7 +6,7 @@ use lib.IntN.{pos}
 use lib.ListN.{getD}
 use Rattle.amount.specs.AmountLaws.{Whole}
 use Rattle.amount.specs.AmountOfLaws.{is-amountOf}
-use Rattle.byte_bucket.specs.ByteBucket.{byteLevel, ByteTryConsumeMeets}
+use Rattle.bucket_bytes.specs.ByteBucket.{byteLevel, ByteTryConsumeMeets}
 use Rattle.peer_settings.specs.Config.{bytesOf}
 use Rattle.peer_verdict.proofs.Takes.{call-takes, call-fits}
 use borrow.Author.Needs.{needs}

@@ -1,7 +1,7 @@
 -- `verdict::take_message` meets its contract. Assumes nothing.
 use mathlib.Core.Path.{sym, _∙_}
 use borrow.Author.Tests.{le-leb}
-use Rattle.discrete_bucket.specs.DiscreteBucket.{DiscreteTryConsumeMeets}
+use Rattle.bucket_discrete.specs.DiscreteBucket.{DiscreteTryConsumeMeets}
 use Rattle.peer_verdict.specs.Verdict.{takeMessage}
 use borrow.Author.Needs.{needs}
 use Rattle.peer_verdict.proofs.verdict.take_message.Statement.{statement}

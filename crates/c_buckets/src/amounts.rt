@@ -1,0 +1,182 @@
+// Amounts, under the numbers of the recorded lists: 0 from_u64, 1 is_negative, 2 is_below, 3 is_above, 4 lesser, 5 saturating_add,
+// 6 saturating_sub, 7 deficit, 8 to_u64, 9 is_i128, 10 product_per_thousand, 11 times_thousand, 12 div_ceil_low.
+ghost use mathlib.Core.Path.{_≡_};
+ghost use Rattle.c_buckets.specs.Amounts.{amountOperation, amountOfWords, amountWords, quotientSaid, AmountDoes, AmountLeft, AmountExported};
+use super::said;
+use super::said::Said;
+use amount::Amount;
+
+pub enum AmountOperation {
+    FromU64,
+    IsNegative,
+    IsBelow,
+    IsAbove,
+    Lesser,
+    SaturatingAdd,
+    SaturatingSub,
+    Deficit,
+    ToU64,
+    IsI128,
+    ProductPerThousand,
+    TimesThousand,
+    DivCeilLow,
+    Unknown,
+}
+
+// The amount that a call answers, or its first operand where it answers no amount, and what the call said.
+pub struct AmountDone {
+    pub amount: Amount,
+    pub said: Said,
+}
+
+fn operation_of(n: u32) -> AmountOperation
+    ensures { λ r. ⌜ r ≡ amountOperation n ⌝ }
+{
+    match n {
+        0 => AmountOperation::FromU64,
+        1 => AmountOperation::IsNegative,
+        2 => AmountOperation::IsBelow,
+        3 => AmountOperation::IsAbove,
+        4 => AmountOperation::Lesser,
+        5 => AmountOperation::SaturatingAdd,
+        6 => AmountOperation::SaturatingSub,
+        7 => AmountOperation::Deficit,
+        8 => AmountOperation::ToU64,
+        9 => AmountOperation::IsI128,
+        10 => AmountOperation::ProductPerThousand,
+        11 => AmountOperation::TimesThousand,
+        12 => AmountOperation::DivCeilLow,
+        _ => AmountOperation::Unknown,
+    }
+}
+
+pub(crate) fn amount_of(words: &[u32; 5]) -> Amount
+    ensures { λ r. ⌜ r ≡ amountOfWords (now (words .entry)) ⌝ }
+{
+    let limbs = [words[1], words[2], words[3], words[4]];
+    if words[0] == 0 {
+        return Amount {
+            negative: false,
+            limbs,
+        };
+    }
+    Amount {
+        negative: true,
+        limbs,
+    }
+}
+
+pub(crate) fn words_of(a: Amount) -> [u32; 5]
+    ensures { λ r. ⌜ r ≡ amountWords a ⌝ }
+{
+    let limbs = a.limbs;
+    if a.negative {
+        return [1, limbs[0], limbs[1], limbs[2], limbs[3]];
+    }
+    [0, limbs[0], limbs[1], limbs[2], limbs[3]]
+}
+
+// No number is divided by 0.
+fn quotient(a: Amount, divisor: u64) -> Said
+    ensures { λ r. ⌜ r ≡ quotientSaid a divisor ⌝ }
+{
+    if divisor == 0 {
+        return said::plain(said::UNKNOWN);
+    }
+    said::value(a.div_ceil_low(divisor))
+}
+
+fn done(operation: AmountOperation, a: Amount, b: Amount, n: u64, m: u64) -> AmountDone
+    ensures { λ r. ⌜ AmountDoes operation a b n m r ⌝ }
+{
+    match operation {
+        AmountOperation::FromU64 => AmountDone {
+            amount: Amount::from_u64(n),
+            said: said::plain(said::DONE),
+        },
+        AmountOperation::IsNegative => AmountDone {
+            amount: a,
+            said: said::truth(a.is_negative()),
+        },
+        AmountOperation::IsBelow => AmountDone {
+            amount: a,
+            said: said::truth(a.is_below(b)),
+        },
+        AmountOperation::IsAbove => AmountDone {
+            amount: a,
+            said: said::truth(a.is_above(n)),
+        },
+        AmountOperation::Lesser => AmountDone {
+            amount: a.lesser(n),
+            said: said::plain(said::DONE),
+        },
+        AmountOperation::SaturatingAdd => AmountDone {
+            amount: a.saturating_add(b),
+            said: said::plain(said::DONE),
+        },
+        AmountOperation::SaturatingSub => AmountDone {
+            amount: a.saturating_sub(n),
+            said: said::plain(said::DONE),
+        },
+        AmountOperation::Deficit => AmountDone {
+            amount: a.deficit(n),
+            said: said::plain(said::DONE),
+        },
+        AmountOperation::ToU64 => AmountDone {
+            amount: a,
+            said: said::value(a.to_u64()),
+        },
+        AmountOperation::IsI128 => AmountDone {
+            amount: a,
+            said: said::truth(a.is_i128()),
+        },
+        AmountOperation::ProductPerThousand => AmountDone {
+            amount: Amount::product_per_thousand(n, m),
+            said: said::plain(said::DONE),
+        },
+        AmountOperation::TimesThousand => AmountDone {
+            amount: a.times_thousand(),
+            said: said::plain(said::DONE),
+        },
+        AmountOperation::DivCeilLow => AmountDone {
+            amount: a,
+            said: quotient(a, n),
+        },
+        AmountOperation::Unknown => AmountDone {
+            amount: a,
+            said: said::plain(said::UNKNOWN),
+        },
+    }
+}
+
+// On a refusal nothing is left.
+fn leave(result: &mut [u32; 5], value: &mut u64, d: AmountDone) -> u32
+    ensures { λ r. ⌜ AmountLeft d (now (result .entry)) (now (value .entry)) r (now (result .exit)) (now (value .exit)) ⌝ }
+{
+    let said = d.said;
+    if said.number < said::ANSWERS {
+        return said.number;
+    }
+    let amount = d.amount;
+    *result = words_of(amount);
+    *value = said.value;
+    said.number
+}
+
+#[no_mangle]
+pub extern "C" fn uglezmir_amount(
+    operation: u32,
+    first: &[u32; 5],
+    second: &[u32; 5],
+    n: u64,
+    m: u64,
+    result: &mut [u32; 5],
+    value: &mut u64,
+) -> u32
+    ensures { λ r. ⌜ AmountExported operation (now (first .entry)) (now (second .entry)) n m (now (result .entry)) (now (value .entry)) r (now (result .exit)) (now (value .exit)) ⌝ }
+{
+    let a = amount_of(first);
+    let b = amount_of(second);
+    let d = done(operation_of(operation), a, b, n, m);
+    leave(result, value, d)
+}

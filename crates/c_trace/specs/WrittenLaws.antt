@@ -1,0 +1,115 @@
+-- Laws of the lines that a scan hands out: each is a text with zeros behind it, so in 64 bytes it is no longer than they are, and it is empty
+-- exactly where the scan is done. Nobody needs to believe these: they are proved. Assumes nothing.
+use mathlib.Core.Path.{_≡_, refl, sym, ap, _∙_}
+use mathlib.Core.Bool.{Bool, true, false, cond}
+use mathlib.Core.List.{List, [], _∷_, _++_}
+use mathlib.Core.Option.{Option, none, some}
+use Prim.Native.Nat.{ℕ, _-_, _≤_}
+use native.Mathlib.Omega.{arith}
+use borrow.Author.Tests.{ne-eqb}
+use lib.Dec.{eqb, leb}
+use lib.ListN.{length, drop, replicate, length-append}
+use Rattle.peer_message_policy.specs.Calls.{refuse}
+use Rattle.trace_lines.specs.declared.line.Line.{Line}
+use Rattle.trace_lines.specs.Lines.{lineOf, eventOf, wordText, numberText, answerText, badLineText, refusalText}
+use Rattle.trace.specs.declared.settle.Settled.{Settled}
+use Rattle.trace.specs.declared.settle.Settled.the-variants as Settled
+use Rattle.trace.specs.declared.scan.Phase.{Phase}
+use Rattle.trace.specs.declared.scan.Phase.the-variants as Phase
+use Rattle.trace.specs.declared.scan.Scan.{Scan}
+use Rattle.trace.specs.declared.scan.Handed.{Handed}
+use Rattle.trace.specs.declared.step.Answered.{Answered}
+use Rattle.trace.specs.declared.step.Answered.the-variants.{Says, Refused, NoEvent}
+use Rattle.trace.specs.Step.{spokenText, stepOutcome, answeredOutcome}
+use Rattle.trace.specs.Scan.{firstLine, last, ended, lineOutcome, eventsOutcome, EventsMeets, settledScan, SettledMeets, SettingsBy, SettingsMeets, NextIn, NextMeets}
+use Rattle.c_trace.specs.Written.{Written}
+
+-- ════ No text is empty ════════════════════════════════════════════════════════════════════════════
+
+abbrev isEmpty : List ℕ → Bool
+isEmpty text = eqb (length text) 0
+
+bad-line : (k : ℕ) → isEmpty (badLineText k) ≡ false
+unfolding badLineText
+bad-line k = ne-eqb (length (badLineText k)) 0 (λ e. omega (arith, e))
+
+refusal : (n : ℕ) → isEmpty (refusalText n) ≡ false
+unfolding refusalText
+refusal n = ne-eqb (length (refusalText n)) 0 (λ e. omega (arith, e))
+
+spoken : (number : ℕ) (a : Answered) → isEmpty (spokenText number a) ≡ false
+unfolding answerText
+spoken number (Says w q) =
+    let rest =
+    numberText (q .ingress .«in_flight_messages») ++ (numberText (q .ingress .«in_flight_bytes») ++ (numberText (q .rows) ++ (10 ∷ []))) in
+    ne-eqb (length (wordText w ++ rest)) 0 (λ e. omega (arith, e, length-append (wordText w) rest))
+spoken number (Refused n) = refusal n
+spoken number NoEvent = bad-line number
+
+-- ════ What is handed out ══════════════════════════════════════════════════════════════════════════
+
+-- the line of a text, empty where it is done and nowhere else
+record Hands (h : Handed) : Type 0 where
+  pub text : List ℕ
+  pub is : h .line ≡ lineOf text
+  pub empty : isEmpty text ≡ h .done
+
+module _ (input : List ℕ) (h : Handed) (after : List ℕ) where
+  by-last : (scan : Scan) (text : List ℕ) → isEmpty text ≡ false → h ≡ last scan (lineOf text) → Hands h
+  by-last scan text some-byte e =
+      record { text = text; is = ap (λ (x : Handed). x .line) e; empty = some-byte ∙ sym (ap (λ (x : Handed). x .done) e) }
+
+  by-ended : (scan : Scan) → h ≡ ended scan → Hands h
+  by-ended scan e = record { text = []; is = ap (λ (x : Handed). x .line) e; empty = sym (ap (λ (x : Handed). x .done) e) }
+
+  by-line : (scan : Scan) (line : Option (List ℕ)) (before : List ℕ) → h ≡ lineOutcome scan line before .answer → Hands h
+  unfolding stepOutcome
+  by-line scan none before e = by-last scan (badLineText (scan .number)) (bad-line (scan .number)) e
+  by-line scan (some line) before e =
+      let answer = answeredOutcome (scan .policy) before (eventOf line) .answer in
+      record {
+        text = spokenText (scan .number) answer;
+        is = ap (λ (x : Handed). x .line) e;
+        empty = spoken (scan .number) answer ∙ sym (ap (λ (x : Handed). x .done) e);
+      }
+
+  by-event : (scan : Scan) (before : List ℕ) → EventsMeets scan input before h after → Hands h
+  unfolding EventsMeets eventsOutcome
+  by-event scan before m = go (leb (length input) (scan .at)) (m .answers)
+    where
+      go : (b : Bool) → h ≡ cond b (refuse (ended scan)) (lineOutcome scan (firstLine (drop (scan .at) input)) before) .answer → Hands h
+      go true e = by-ended scan e
+      go false e = by-line scan (firstLine (drop (scan .at) input)) before e
+
+  by-settled : (scan : Scan) (line : List ℕ) (a : Settled) (before : List ℕ) → SettledMeets scan line a input before h after → Hands h
+  by-settled scan line (Settled.Policy p) before m = by-event (settledScan scan line p) before m
+  by-settled scan line (Settled.Refused n) before m = by-last scan (refusalText n) (refusal n) (m .0)
+  by-settled scan line Settled.Bad before m = by-last scan (badLineText (scan .number)) (bad-line (scan .number)) (m .0)
+
+  by-settings : (scan : Scan) (line : Option (List ℕ)) (before : List ℕ) → SettingsBy scan line input before h after → Hands h
+  by-settings scan none before m = by-last scan (badLineText (scan .number)) (bad-line (scan .number)) (m .0)
+  by-settings scan (some line) before m = by-settled scan line (m .0) (m .1) (m .3)
+
+  by-phase : (phase : Phase) (scan : Scan) (before : List ℕ) → NextIn phase scan input before h after → Hands h
+  unfolding SettingsMeets
+  by-phase Phase.TooLong scan before m = by-last scan (badLineText 1) (bad-line 1) (m .0)
+  by-phase Phase.Settings scan before m = by-settings scan (firstLine (drop (scan .at) input)) before m
+  by-phase Phase.Events scan before m = by-event scan before m
+  by-phase Phase.Done scan before m = by-ended scan (m .0)
+
+  module _ (scan : Scan) (before : List ℕ) (m : NextMeets scan input before h after) where
+    pub handed-written : Written (h .line)
+    unfolding NextMeets
+    handed-written = let w = by-phase (scan .phase) scan before m in record { text = w .text; is = w .is }
+
+    -- a length of 0 says that the scan is done, and nothing else does
+    pub zero-is-done : eqb (h .line .length) 0 ≡ h .done
+    unfolding NextMeets
+    zero-is-done = let w = by-phase (scan .phase) scan before m in ap (λ (l : Line). eqb (l .length) 0) (w .is) ∙ w .empty
+
+-- in 64 bytes
+pub written-fits : (line : Line) → Written line → length (line .bytes) ≡ 64 → line .length ≤ 64
+written-fits line w whole =
+    let bytes = ap (λ (l : Line). length (l .bytes)) (w .is) in
+    let text = ap (λ (l : Line). l .length) (w .is) in
+    omega (arith, whole, bytes, text, length-append (w .text) (replicate (64 - length (w .text)) 0))

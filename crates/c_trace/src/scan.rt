@@ -1,0 +1,49 @@
+// The exported functions: a scan is made of the words, the proved call is called, and the scan behind it is left.
+ghost use mathlib.Core.Path.{_≡_};
+ghost use Rattle.c_trace.specs.Exported.{OpenExported, NextExported};
+ghost use Rattle.c_trace.specs.Written.{Written, LineLeft};
+use super::words;
+use trace::scan;
+use trace_lines::line::Line;
+
+fn write(line: &mut [u8; 64], written: Line) -> u32
+    requires { ⌜ Written written ⌝ }
+    ensures { λ r. ⌜ LineLeft written r (now (line .exit)) ⌝ }
+{
+    let bytes = written.bytes;
+    *line = bytes;
+    written.length as u32
+}
+
+#[no_mangle]
+pub extern "C" fn uglezmir_trace_open(
+    place: &mut [u64; 3],
+    longs: &mut [u64; 8],
+    shorts: &mut [u32; 4],
+    input: &[u8],
+)
+    ensures { λ _. ⌜ OpenExported (now (input .entry)) (now (place .exit)) (now (longs .exit)) (now (shorts .exit)) ⌝ }
+{
+    let opened = scan::open(input);
+    words::leave(place, longs, shorts, opened);
+}
+
+// The line is left in `line`, zeros behind it; its length is handed out, 0 where the scan is done.
+#[no_mangle]
+pub extern "C" fn uglezmir_trace_next(
+    place: &mut [u64; 3],
+    longs: &mut [u64; 8],
+    shorts: &mut [u32; 4],
+    input: &[u8],
+    table: &mut [u8],
+    line: &mut [u8; 64],
+) -> u32
+    ensures { λ r. ⌜ NextExported (now (place .entry)) (now (longs .entry)) (now (shorts .entry)) (now (input .entry)) (now (table .entry)) r (now (place .exit)) (now (longs .exit)) (now (shorts .exit)) (now (table .exit)) (now (line .exit)) ⌝ }
+{
+    let before = words::scan_of(place, longs, shorts);
+    let handed = scan::next(before, input, table);
+    let behind = handed.scan;
+    words::leave(place, longs, shorts, behind);
+    let written = handed.line;
+    write(line, written)
+}
