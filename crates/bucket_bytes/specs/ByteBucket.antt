@@ -1,7 +1,9 @@
 -- ByteTokenBucket of gossip_policy.rs, written from its text, function by function and under its names. Definitions only; what it is on
 -- plain naturals is proved in `NaturalLaws`.
 --
--- Where the Rust saturates a sum that can't reach the bound (`last_refill_ms`), the sum stands here as it is.
+-- Sums and differences of `available_bytes` saturate where the Rust's do. One more does here: the Rust's try_consume takes bytes out by
+-- `-=`, and only where they are there, so that the saturating difference of reserve is the same. The Rust's cast of a refill to i128
+-- stands nowhere here: a product of two u64 over 1000 is below 2^127, and the cast keeps it.
 use mathlib.Core.Path.{_≡_}
 use mathlib.Core.Bool.{Bool, _&&_, _||_, not, cond}
 use Prim.Native.Nat.{ℕ, _-_, _*_, _/_, _%_, min}
@@ -54,8 +56,8 @@ abbrev pub byteTaken : ByteTokenBucket → ℕ → ByteTokenBucket
 byteTaken b bytes =
     byteLevel (b .config) (saturated (value (b .«available_bytes») -ℤ pos bytes)) (b .«last_refill_ms»)
 
--- a refilled bucket asked for bytes: where they exceed what is available it says no and by how much (at most 2^64 - 1), and
--- keeps its refill
+-- a refilled bucket asked for bytes: where they exceed what is available it says no and keeps its refill. By how much they exceed it
+-- (at most 2^64 - 1) is more than the Rust's `false` says
 unfoldable pub byteTake : ByteTokenBucket → ℕ → ByteConsumed
 byteTake b bytes =
     cond (ltZ (value (b .«available_bytes»)) (pos bytes))
@@ -82,7 +84,7 @@ unfoldable pub byteReserve : ByteTokenBucket → ℕ → ℕ → ByteReserved
 byteReserve b bytes now =
     cond (byteDisabled (b .config)) (record { bucket = b; answer = Delay.Wait 0 }) (bytePromised (byteRefill b now) bytes)
 
--- peek_delay_after_refill
+-- peek_delay_after_refill: the Rust repeats the lines of refill and peek_delay here
 unfoldable pub bytePeekDelayAfterRefill : ByteTokenBucket → ℕ → ℕ → ℕ
 bytePeekDelayAfterRefill b bytes now = cond (byteDisabled (b .config)) 0 (bytePeekDelay (byteRefill b now) bytes)
 

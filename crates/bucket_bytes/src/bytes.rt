@@ -47,7 +47,7 @@ impl ByteTokenBucket {
         }
     }
 
-    // The bucket at a time: what the rate gives for the time that has passed.
+    // The bucket at a time: what the rate gives for the time that has passed, up to its burst.
     pub fn refill(self, now_ms: u64) -> ByteRefilled
         ensures { λ r. ⌜ ByteRefillMeets self «now_ms» r ⌝ }
     {
@@ -63,7 +63,7 @@ impl ByteTokenBucket {
         }
     }
 
-    // Takes the bytes if they are there. A no keeps the refill and says how many were missing.
+    // Takes the bytes if they are there. A no keeps the refill and says how many were missing, at most 2^64 - 1.
     pub fn try_consume(self, bytes: u64, now_ms: u64) -> ByteConsumed
         ensures { λ r. ⌜ ByteTryConsumeMeets self bytes «now_ms» r ⌝ }
     {
