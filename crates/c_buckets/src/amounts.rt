@@ -1,7 +1,7 @@
 // Amounts, under the numbers of the recorded lists: 0 from_u64, 1 is_negative, 2 is_below, 3 is_above, 4 lesser, 5 saturating_add,
 // 6 saturating_sub, 7 deficit, 8 to_u64, 9 is_i128, 10 product_per_thousand, 11 times_thousand, 12 div_ceil_low.
 ghost use mathlib.Core.Path.{_≡_};
-ghost use Rattle.c_buckets.specs.Amounts.{amountOperation, amountOfWords, amountWords, quotientSaid, AmountDoes, AmountLeft, AmountExported};
+ghost use Rattle.c_buckets.specs.Amounts.{amountOperation, amountOfWords, amountWords, quotientSaid, amountDone, AmountLeft, AmountExported};
 use super::said;
 use super::said::Said;
 use amount::Amount;
@@ -87,7 +87,7 @@ fn quotient(a: Amount, divisor: u64) -> Said
 }
 
 fn done(operation: AmountOperation, a: Amount, b: Amount, n: u64, m: u64) -> AmountDone
-    ensures { λ r. ⌜ AmountDoes operation a b n m r ⌝ }
+    ensures { λ r. ⌜ r ≡ amountDone operation a b n m ⌝ }
 {
     match operation {
         AmountOperation::FromU64 => AmountDone {
