@@ -27,6 +27,10 @@ use Rattle.bucket_bytes.specs.declared.bytes.ByteRefilled.{ByteRefilled}
 use Rattle.bucket_bytes.specs.declared.bytes.ByteConsumed.{ByteConsumed}
 use Rattle.bucket_bytes.specs.declared.bytes.ByteReserved.{ByteReserved}
 
+-- times are milliseconds, and the rate counts bytes in a second
+abbrev pub msPerSec : ℕ
+msPerSec = 1000
+
 -- an i128, no minus zero, and never above the burst
 unfoldable pub byteSound : ByteTokenBucket → Bool
 byteSound b = isI128 (b .«available_bytes») && not (ltZ (pos (b .config .«burst_bytes»)) (value (b .«available_bytes»)))
@@ -39,10 +43,10 @@ byteLevel c available last = record { config = c; «available_bytes» = amountOf
 abbrev pub byteNew : ByteRateLimitConfig → ByteTokenBucket
 byteNew c = byteLevel c (pos (c .«burst_bytes»)) 0
 
--- refill: elapsed * rate / 1000, up to the burst; the fraction is lost; a bucket that is off never moves
+-- refill: elapsed * rate over the milliseconds of a second, up to the burst; the fraction is lost; a bucket that is off never moves
 unfoldable pub byteRefill : ByteTokenBucket → ℕ → ByteTokenBucket
 byteRefill b now =
-    let refill = (now - b .«last_refill_ms») * b .config .«rate_bytes_per_sec» / 1000
+    let refill = (now - b .«last_refill_ms») * b .config .«rate_bytes_per_sec» / msPerSec
     in cond (byteDisabled (b .config) || leb now (b .«last_refill_ms»)) b
     (byteLevel (b .config) (lesser (saturated (value (b .«available_bytes») +ℤ pos refill)) (pos (b .config .«burst_bytes»)))
     now)
@@ -73,7 +77,7 @@ byteTryConsume b bytes now =
 abbrev pub bytePeekDelay : ByteTokenBucket → ℕ → ℕ
 bytePeekDelay b bytes =
     cond (eqb (byteDeficit b bytes) 0) 0
-    (ceilDiv (saturatedUnsigned (1000 * byteDeficit b bytes)) (b .config .«rate_bytes_per_sec») % 18446744073709551616)
+    (ceilDiv (saturatedUnsigned (msPerSec * byteDeficit b bytes)) (b .config .«rate_bytes_per_sec») % 18446744073709551616)
 
 -- a refilled bucket that promises bytes: the delay, then the charge
 abbrev pub bytePromised : ByteTokenBucket → ℕ → ByteReserved

@@ -10,6 +10,7 @@ use lib.Signed.{ltZ}
 use Rattle.amount.specs.declared.Amount.{Amount}
 use Rattle.amount_limbs.specs.Limbs.{saturatedUnsigned, ceilDiv}
 use Rattle.amount.specs.Amount.{amountOf, value, saturated, natural, lesser, isI128}
+use Rattle.bucket_bytes.specs.ByteBucket.{msPerSec}
 use Rattle.c_buckets.specs.declared.said.Said.{Said}
 use Rattle.c_buckets.specs.declared.amounts.AmountOperation.{AmountOperation}
 use Rattle.c_buckets.specs.declared.amounts.AmountOperation.the-variants.{FromU64, IsNegative, IsBelow, IsAbove, Lesser, SaturatingAdd, SaturatingSub, Deficit, ToU64, IsI128, ProductPerThousand, TimesThousand, DivCeilLow, Unknown}
@@ -76,8 +77,8 @@ amountDone SaturatingSub a b n m = amountGiven (saturated (value a -ℤ pos n))
 amountDone Deficit a b n m = amountGiven (pos (natural (saturated (pos n -ℤ value a))))
 amountDone ToU64 a b n m = amountSays a (said 261 (min (natural (value a)) (2 ^ 64 - 1)))
 amountDone IsI128 a b n m = amountSays a (truthSaid (isI128 a))
-amountDone ProductPerThousand a b n m = amountGiven (pos (n * m / 1000))
-amountDone TimesThousand a b n m = amountGiven (pos (saturatedUnsigned (1000 * natural (value a))))
+amountDone ProductPerThousand a b n m = amountGiven (pos (n * m / msPerSec))
+amountDone TimesThousand a b n m = amountGiven (pos (saturatedUnsigned (msPerSec * natural (value a))))
 amountDone DivCeilLow a b n m = amountSays a (quotientSaid a n)
 amountDone Unknown a b n m = amountSays a (said 0 0)
 

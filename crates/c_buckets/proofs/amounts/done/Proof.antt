@@ -98,8 +98,8 @@ truth-requires-4 c κs = search needs
 enum-told-11 : tie.Need-enum-told-11
 enum-told-11 c = search needs
 
-product-per-thousand-requires : tie.Need-product-per-thousand-requires
-product-per-thousand-requires c κs = search needs
+product-over-requires : tie.Need-product-over-requires
+product-over-requires c κs = search needs
 
 plain-requires-6 : tie.Need-plain-requires-6
 plain-requires-6 c κs = search needs
@@ -107,8 +107,8 @@ plain-requires-6 c κs = search needs
 enum-told-12 : tie.Need-enum-told-12
 enum-told-12 c = search needs
 
-times-thousand-requires : tie.Need-times-thousand-requires
-times-thousand-requires c κs = search needs
+times-requires : tie.Need-times-requires
+times-requires c κs = search needs
 
 plain-requires-7 : tie.Need-plain-requires-7
 plain-requires-7 c κs = search needs
@@ -161,12 +161,12 @@ returns-10 : tie.Need-returns-10
 returns-10 c = rw (c .before .before .enum-told10 .given .1) (rw (c .truth4 .ensures, c .before .is-i128 .ensures))
 
 returns-11 : tie.Need-returns-11
-returns-11 c = let w : Whole (c .before .product-per-thousand .result) = record { four = search needs; fit = λ i. search needs } in
-    rw (c .before .before .enum-told11 .given .1) (rw (c .plain6 .ensures, is-amountOf w (c .before .product-per-thousand .ensures)))
+returns-11 c = let w : Whole (c .before .product-over .result) = record { four = search needs; fit = λ i. search needs } in
+    rw (c .before .before .enum-told11 .given .1) (rw (c .plain6 .ensures, is-amountOf w (c .before .product-over .ensures)))
 
 returns-12 : tie.Need-returns-12
-returns-12 c = let w : Whole (c .before .times-thousand .result) = record { four = search needs; fit = λ i. search needs } in
-    rw (c .before .before .enum-told12 .given .1) (rw (c .plain7 .ensures, is-amountOf w (c .before .times-thousand .ensures)))
+returns-12 c = let w : Whole (c .before .times .result) = record { four = search needs; fit = λ i. search needs } in
+    rw (c .before .before .enum-told12 .given .1) (rw (c .plain7 .ensures, is-amountOf w (c .before .times .ensures)))
 
 returns-13 : tie.Need-returns-13
 returns-13 c = rw (c .before .enum-told13 .given .1) (rw (c .quotient .ensures))
@@ -209,10 +209,10 @@ done-spec =
     is-i128-requires
     truth-requires-4
     enum-told-11
-    product-per-thousand-requires
+    product-over-requires
     plain-requires-6
     enum-told-12
-    times-thousand-requires
+    times-requires
     plain-requires-7
     enum-told-13
     quotient-requires
