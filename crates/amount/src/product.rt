@@ -1,29 +1,30 @@
-// Products of amounts: of two u64 over 1000, and of an amount and 1000.
+// Products of amounts: of two u64 over a u32, and of an amount and a u32.
 use super::Amount;
-use amount_limbs::product::per_thousand;
+use amount_limbs::product::over;
 use amount_limbs::product::product;
-use amount_limbs::product::thousandfold;
+use amount_limbs::product::times;
 ghost use mathlib.Core.Path.{_≡_};
-ghost use Prim.Native.Nat.{_*_, _/_};
+ghost use Prim.Native.Nat.{_*_, _/_, _<_};
 ghost use lib.IntN.{pos};
 ghost use Rattle.amount_limbs.specs.Limbs.{saturatedUnsigned};
 ghost use Rattle.amount.specs.Amount.{Is, value, natural};
 
 impl Amount {
-    // a * b / 1000, rounded down, of the whole 128-bit product. It runs for every admit, so it has no loop and no long division.
-    pub fn product_per_thousand(a: u64, b: u64) -> Amount
-        ensures { λ r. ⌜ Is r (pos (a * b / 1000)) ⌝ }
+    // a * b / divisor, rounded down, of the whole 128-bit product. It runs for every admit, so it has no loop and no long division.
+    pub fn product_over(a: u64, b: u64, divisor: u32) -> Amount
+        requires { ⌜ 0 < divisor ⌝ }
+        ensures { λ r. ⌜ Is r (pos (a * b / divisor)) ⌝ }
     {
-        let limbs = per_thousand(product(a, b));
+        let limbs = over(product(a, b), divisor);
         Amount {
             negative: false,
             limbs,
         }
     }
 
-    // Rust's `u128::saturating_mul(1_000)`; a negative amount counts as 0.
-    pub fn times_thousand(self) -> Amount
-        ensures { λ r. ⌜ Is r (pos (saturatedUnsigned (1000 * natural (value self)))) ⌝ }
+    // Rust's `u128::saturating_mul`; a negative amount counts as 0.
+    pub fn times(self, factor: u32) -> Amount
+        ensures { λ r. ⌜ Is r (pos (saturatedUnsigned (factor * natural (value self)))) ⌝ }
     {
         if self.negative {
             let none = [0, 0, 0, 0];
@@ -33,7 +34,7 @@ impl Amount {
             };
         }
         let limbs = self.limbs;
-        let product = thousandfold(limbs);
+        let product = times(limbs, factor);
         Amount {
             negative: false,
             limbs: product,

@@ -1,4 +1,4 @@
--- Products column by column: what a column holds at most, the columns of a number times a limb, and where 1000 times four limbs stops. Assumes nothing.
+-- Products column by column: what a column holds at most, the columns of a number times a limb, and where a number times four limbs stops. Assumes nothing.
 use mathlib.Core.Path.{_≡_, sym, ap, subst, _∙_}
 use Prim.Native.Nat.{ℕ, _+_, _-_, _*_, _^_, _<_, _≤_}
 use native.Mathlib.Nat.{le-of-lt, le-trans, min-eq-left, min-eq-right, mul-le-mul, mul-le-mul-left}
@@ -43,14 +43,14 @@ fifth-above P a b c d e h =
     let one : 1 ≤ e = omega arith in
     omega (arith, mul-le-mul-left (P * P * P * P) one)
 
--- ---- saturation of 1000 times n, which is m
+-- ---- saturation of k times n, which is m
 
-pub saturated-fits : (n : ℕ) {m : ℕ} → Scaled 1000 n 0 0 m → m < 2 ^ 128 → m ≡ saturatedUnsigned (1000 * n)
-saturated-fits n {m} s h =
-    let e : m ≡ 1000 * n = omega (arith, s .sum) in
-    e ∙ sym (min-eq-left {n = 1000 * n} {m = 2 ^ 128 - 1} (subst (λ (x : ℕ). x ≤ 2 ^ 128 - 1) e (le-ones 128 h)))
+pub saturated-fits : (k n : ℕ) {m : ℕ} → Scaled k n 0 0 m → m < 2 ^ 128 → m ≡ saturatedUnsigned (k * n)
+saturated-fits k n {m} s h =
+    let e : m ≡ k * n = omega (arith, s .sum) in
+    e ∙ sym (min-eq-left {n = k * n} {m = 2 ^ 128 - 1} (subst (λ (x : ℕ). x ≤ 2 ^ 128 - 1) e (le-ones 128 h)))
 
-pub saturated-stops : (n : ℕ) {m : ℕ} → Scaled 1000 n 0 0 m → 2 ^ 128 ≤ m → 2 ^ 128 - 1 ≡ saturatedUnsigned (1000 * n)
-saturated-stops n {m} s h =
-    let e : m ≡ 1000 * n = omega (arith, s .sum) in
-    sym (min-eq-right {n = 2 ^ 128 - 1} {m = 1000 * n} (subst (λ (x : ℕ). 2 ^ 128 - 1 ≤ x) e (le-trans (le-of-lt (ones-lt 128)) h)))
+pub saturated-stops : (k n : ℕ) {m : ℕ} → Scaled k n 0 0 m → 2 ^ 128 ≤ m → 2 ^ 128 - 1 ≡ saturatedUnsigned (k * n)
+saturated-stops k n {m} s h =
+    let e : m ≡ k * n = omega (arith, s .sum) in
+    sym (min-eq-right {n = 2 ^ 128 - 1} {m = k * n} (subst (λ (x : ℕ). 2 ^ 128 - 1 ≤ x) e (le-trans (le-of-lt (ones-lt 128)) h)))

@@ -2,7 +2,7 @@
 use mathlib.Core.Path.{_≡_, refl, sym, ap, subst, _∙_}
 use mathlib.Core.List.{List, [], _∷_}
 use Prim.Native.Nat.{ℕ, suc, _+_, _-_, _*_, _/_, _%_, _^_, _<_, _≤_}
-use native.Mathlib.Nat.{le-refl, lt-of-lt-of-le, pow-succ'}
+use native.Mathlib.Nat.{le-refl, lt-of-lt-of-le, pow-succ', div-add-mod', div-lt-iff-lt-mul, mod-lt}
 use native.Mathlib.Numerals.{add-one}
 use native.Mathlib.Omega.{arith}
 use lib.Arith.{digits-div}
@@ -38,6 +38,15 @@ ceil-low {q = q} s h e = ap (λ (x : ℕ). x % 2 ^ 64) (ceil-over s h) ∙ omega
 
 pub nothing : (d : ℕ) → 0 < d → Divided 0 d 0 0
 nothing d h = record { whole = omega arith; small = h }
+
+-- under a rest below the divisor, a limb's quotient is a limb
+pub limb-quotient : {r d l : ℕ} → r < d → l < 4294967296 → (r * 4294967296 + l) / d < 4294967296
+limb-quotient {r} {d} {l} h k =
+    div-lt-iff-lt-mul {k = d} {x = r * 4294967296 + l} {y = 4294967296} (omega arith) .1 (omega arith)
+
+-- and with what it leaves it is all there was
+pub limb-divided : (r d l : ℕ) → r < d → ((r * 4294967296 + l) / d * d + (r * 4294967296 + l) % d ≡ r * 4294967296 + l) × ((r * 4294967296 + l) % d < d)
+limb-divided r d l h = (div-add-mod' (r * 4294967296 + l) d, mod-lt (r * 4294967296 + l) (omega arith))
 
 -- one limb more, below the others
 pub bring-down : (l q′ r′ : ℕ) {n d q r : ℕ} → Divided n d q r → (q′ * d + r′ ≡ r * 4294967296 + l) × (r′ < d) → Divided (l + 4294967296 * n) d (q′ + 4294967296 * q) r′

@@ -1,4 +1,4 @@
-// Products of unsigned numbers, limb by limb: of two u64, over 1000, and of four limbs and 1000.
+// Products of unsigned numbers, limb by limb: of two u64, over a u32, and of four limbs and a u32.
 //
 // Every sum of a column is one `mul_add`, which keeps each bit of it, so no carry can be lost.
 ghost use mathlib.Core.Path.{_≡_};
@@ -11,8 +11,8 @@ struct Wide {
     hi: u32,
 }
 
-// A limb of a quotient by 1000, and what is left for the limb below it.
-struct Thousandth {
+// A limb of a quotient by a u32, and what is left for the limb below it.
+struct LimbOver {
     quotient: u32,
     rest: u32,
 }
@@ -43,26 +43,27 @@ pub fn product(a: u64, b: u64) -> [u32; 4]
     [first.lo, second.lo, third.lo, third.hi]
 }
 
-// One limb of a division by 1000, under what the limb above it left. The divisor is a constant, so this compiles to no division.
-fn thousandth_step(rest: u32, limb: u32) -> Thousandth
-    requires { ⌜ rest < 1000 ⌝ }
-    ensures { λ r. ⌜ (r .quotient * 1000 + r .rest ≡ rest * 4294967296 + limb) × (r .rest < 1000) ⌝ }
+// One limb of a division by a u32, under what the limb above it left. Where the divisor is a constant, this compiles to no division.
+fn limb_over(rest: u32, limb: u32, divisor: u32) -> LimbOver
+    requires { ⌜ rest < divisor ⌝ }
+    ensures { λ r. ⌜ (r .quotient * divisor + r .rest ≡ rest * 4294967296 + limb) × (r .rest < divisor) ⌝ }
 {
     let dividend = (rest as u64) * 0x1_0000_0000 + (limb as u64);
-    Thousandth {
-        quotient: (dividend / 1000) as u32,
-        rest: (dividend % 1000) as u32,
+    LimbOver {
+        quotient: (dividend / (divisor as u64)) as u32,
+        rest: (dividend % (divisor as u64)) as u32,
     }
 }
 
-// The limbs' number divided by 1000, rounded down.
-pub fn per_thousand(limbs: [u32; 4]) -> [u32; 4]
-    ensures { λ r. ⌜ digits r ≡ digits limbs / 1000 ⌝ }
+// The limbs' number divided by a u32, rounded down.
+pub fn over(limbs: [u32; 4], divisor: u32) -> [u32; 4]
+    requires { ⌜ 0 < divisor ⌝ }
+    ensures { λ r. ⌜ digits r ≡ digits limbs / divisor ⌝ }
 {
-    let fourth = thousandth_step(0, limbs[3]);
-    let third = thousandth_step(fourth.rest, limbs[2]);
-    let second = thousandth_step(third.rest, limbs[1]);
-    let first = thousandth_step(second.rest, limbs[0]);
+    let fourth = limb_over(0, limbs[3], divisor);
+    let third = limb_over(fourth.rest, limbs[2], divisor);
+    let second = limb_over(third.rest, limbs[1], divisor);
+    let first = limb_over(second.rest, limbs[0], divisor);
     [
         first.quotient,
         second.quotient,
@@ -71,14 +72,14 @@ pub fn per_thousand(limbs: [u32; 4]) -> [u32; 4]
     ]
 }
 
-// 1000 times the limbs' number, or 2^128 - 1 where that is more than four limbs hold.
-pub fn thousandfold(limbs: [u32; 4]) -> [u32; 4]
-    ensures { λ r. ⌜ digits r ≡ saturatedUnsigned (1000 * digits limbs) ⌝ }
+// The limbs' number times a u32, or 2^128 - 1 where that is more than four limbs hold.
+pub fn times(limbs: [u32; 4], factor: u32) -> [u32; 4]
+    ensures { λ r. ⌜ digits r ≡ saturatedUnsigned (factor * digits limbs) ⌝ }
 {
-    let first = mul_add(limbs[0], 1000, 0, 0);
-    let second = mul_add(limbs[1], 1000, first.hi, 0);
-    let third = mul_add(limbs[2], 1000, second.hi, 0);
-    let fourth = mul_add(limbs[3], 1000, third.hi, 0);
+    let first = mul_add(limbs[0], factor, 0, 0);
+    let second = mul_add(limbs[1], factor, first.hi, 0);
+    let third = mul_add(limbs[2], factor, second.hi, 0);
+    let fourth = mul_add(limbs[3], factor, third.hi, 0);
     if fourth.hi == 0 {
         [first.lo, second.lo, third.lo, fourth.lo]
     } else {

@@ -16,7 +16,7 @@ use Rattle.amount.specs.AmountOfLaws.{is-amountOf}
 use Rattle.bucket_terms.specs.declared.limit.ByteRateLimitConfig.{ByteRateLimitConfig}
 use Rattle.bucket_bytes.specs.declared.bytes.ByteTokenBucket.{ByteTokenBucket}
 use Rattle.bucket_terms.specs.Limit.{byteDisabled}
-use Rattle.bucket_bytes.specs.ByteBucket.{byteRefill}
+use Rattle.bucket_bytes.specs.ByteBucket.{msPerSec, byteRefill}
 
 saturated-twice : (z : ℤ) → saturated (saturated z) ≡ saturated z
 unfolding saturated
@@ -47,8 +47,8 @@ no-deficit {d} {n} h k = eq-eqb n 0 (omega (arith, ltb-false 0 n (rw (h .stands)
 pub some-deficit : {d : Amount} {n : ℕ} → Is d (pos n) → ltZ (pos 0) (value d) ≡ true → eqb n 0 ≡ false
 some-deficit {d} {n} h k = ne-eqb n 0 (λ e. omega (arith, ltb-true 0 n (rw (h .stands) at k)))
 
--- the delay of a deficit, from its thousandfold
-pub delay-of : (rate : ℕ) {d t : Amount} {n r : ℕ} → Is d (pos n) → Is t (pos (saturatedUnsigned (1000 * natural (value d)))) → r ≡ ceilDiv (natural (value t)) rate % 2 ^ 64 → r ≡ ceilDiv (saturatedUnsigned (1000 * n)) rate % 18446744073709551616
+-- the delay of a deficit, from the deficit's milliseconds at a rate of 1
+pub delay-of : (rate : ℕ) {d t : Amount} {n r : ℕ} → Is d (pos n) → Is t (pos (saturatedUnsigned (msPerSec * natural (value d)))) → r ≡ ceilDiv (natural (value t)) rate % 2 ^ 64 → r ≡ ceilDiv (saturatedUnsigned (msPerSec * n)) rate % 18446744073709551616
 delay-of rate {d} {t} {n} {r} h k e = rw (h .stands) at (rw (k .stands) at e)
 
 -- a test against the amount of a number is one against the number

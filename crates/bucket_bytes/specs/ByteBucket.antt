@@ -1,7 +1,9 @@
 -- ByteTokenBucket of gossip_policy.rs, written from its text, function by function and under its names. Definitions only; what it is on
 -- plain naturals is proved in `NaturalLaws`.
 --
--- Where the Rust saturates a sum that can't reach the bound (`last_refill_ms`), the sum stands here as it is.
+-- Sums and differences of `available_bytes` saturate where the Rust's do. One more does here: the Rust's try_consume takes bytes out by
+-- `-=`, and only where they are there, so that the saturating difference of reserve is the same. The Rust's cast of a refill to i128
+-- stands nowhere here: a product of two u64 over 1000 is below 2^127, and the cast keeps it.
 use mathlib.Core.Path.{_≡_}
 use mathlib.Core.Bool.{Bool, _&&_, _||_, not, cond}
 use Prim.Native.Nat.{ℕ, _-_, _*_, _/_, _%_, min}
@@ -25,6 +27,10 @@ use Rattle.bucket_bytes.specs.declared.bytes.ByteRefilled.{ByteRefilled}
 use Rattle.bucket_bytes.specs.declared.bytes.ByteConsumed.{ByteConsumed}
 use Rattle.bucket_bytes.specs.declared.bytes.ByteReserved.{ByteReserved}
 
+-- times are milliseconds, and the rate counts bytes in a second
+abbrev pub msPerSec : ℕ
+msPerSec = 1000
+
 -- an i128, no minus zero, and never above the burst
 unfoldable pub byteSound : ByteTokenBucket → Bool
 byteSound b = isI128 (b .«available_bytes») && not (ltZ (pos (b .config .«burst_bytes»)) (value (b .«available_bytes»)))
@@ -37,10 +43,10 @@ byteLevel c available last = record { config = c; «available_bytes» = amountOf
 abbrev pub byteNew : ByteRateLimitConfig → ByteTokenBucket
 byteNew c = byteLevel c (pos (c .«burst_bytes»)) 0
 
--- refill: elapsed * rate / 1000, up to the burst; the fraction is lost; a bucket that is off never moves
+-- refill: elapsed * rate over the milliseconds of a second, up to the burst; the fraction is lost; a bucket that is off never moves
 unfoldable pub byteRefill : ByteTokenBucket → ℕ → ByteTokenBucket
 byteRefill b now =
-    let refill = (now - b .«last_refill_ms») * b .config .«rate_bytes_per_sec» / 1000
+    let refill = (now - b .«last_refill_ms») * b .config .«rate_bytes_per_sec» / msPerSec
     in cond (byteDisabled (b .config) || leb now (b .«last_refill_ms»)) b
     (byteLevel (b .config) (lesser (saturated (value (b .«available_bytes») +ℤ pos refill)) (pos (b .config .«burst_bytes»)))
     now)
@@ -54,8 +60,8 @@ abbrev pub byteTaken : ByteTokenBucket → ℕ → ByteTokenBucket
 byteTaken b bytes =
     byteLevel (b .config) (saturated (value (b .«available_bytes») -ℤ pos bytes)) (b .«last_refill_ms»)
 
--- a refilled bucket asked for bytes: where they exceed what is available it says no and by how much (at most 2^64 - 1), and
--- keeps its refill
+-- a refilled bucket asked for bytes: where they exceed what is available it says no and keeps its refill. By how much they exceed it
+-- (at most 2^64 - 1) is more than the Rust's `false` says
 unfoldable pub byteTake : ByteTokenBucket → ℕ → ByteConsumed
 byteTake b bytes =
     cond (ltZ (value (b .«available_bytes»)) (pos bytes))
@@ -71,7 +77,7 @@ byteTryConsume b bytes now =
 abbrev pub bytePeekDelay : ByteTokenBucket → ℕ → ℕ
 bytePeekDelay b bytes =
     cond (eqb (byteDeficit b bytes) 0) 0
-    (ceilDiv (saturatedUnsigned (1000 * byteDeficit b bytes)) (b .config .«rate_bytes_per_sec») % 18446744073709551616)
+    (ceilDiv (saturatedUnsigned (msPerSec * byteDeficit b bytes)) (b .config .«rate_bytes_per_sec») % 18446744073709551616)
 
 -- a refilled bucket that promises bytes: the delay, then the charge
 abbrev pub bytePromised : ByteTokenBucket → ℕ → ByteReserved
@@ -82,7 +88,7 @@ unfoldable pub byteReserve : ByteTokenBucket → ℕ → ℕ → ByteReserved
 byteReserve b bytes now =
     cond (byteDisabled (b .config)) (record { bucket = b; answer = Delay.Wait 0 }) (bytePromised (byteRefill b now) bytes)
 
--- peek_delay_after_refill
+-- peek_delay_after_refill: the Rust repeats the lines of refill and peek_delay here
 unfoldable pub bytePeekDelayAfterRefill : ByteTokenBucket → ℕ → ℕ → ℕ
 bytePeekDelayAfterRefill b bytes now = cond (byteDisabled (b .config)) 0 (bytePeekDelay (byteRefill b now) bytes)
 

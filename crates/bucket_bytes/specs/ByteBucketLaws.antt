@@ -1,21 +1,27 @@
 -- Laws of the byte bucket: at most one outcome for each call, and a sound bucket is never refused. Assumes nothing.
 use mathlib.Core.Path.{_≡_}
-use mathlib.Core.Bool.{true}
+use mathlib.Core.Bool.{Bool, true}
 use Prim.Native.Nat.{ℕ}
 use Rattle.refusal.specs.OneOutcome.{one-outcome}
 use Rattle.bucket_terms.specs.declared.answer.Refilled.the-variants as Refilled
 use Rattle.bucket_terms.specs.declared.answer.Delay.{Delay}
 use Rattle.bucket_terms.specs.declared.answer.Delay.the-variants as Delay
 use Rattle.bucket_terms.specs.declared.answer.Told.{Told}
+use Rattle.bucket_terms.specs.declared.limit.ByteRateLimitConfig.{ByteRateLimitConfig}
 use Rattle.bucket_terms.specs.Answers.{told}
+use Rattle.bucket_terms.specs.Limit.{byteDisabled}
+use Rattle.bucket_terms.specs.LimitLaws.{byte-limit-is-disabled-outcome}
 use Rattle.bucket_bytes.specs.declared.bytes.ByteTokenBucket.{ByteTokenBucket}
 use Rattle.bucket_bytes.specs.declared.bytes.ByteRefilled.{ByteRefilled}
 use Rattle.bucket_bytes.specs.declared.bytes.ByteConsumed.{ByteConsumed}
 use Rattle.bucket_bytes.specs.declared.bytes.ByteReserved.{ByteReserved}
-use Rattle.bucket_bytes.specs.ByteBucket.{byteSound, byteRefill, byteTryConsume, byteReserve, bytePeekDelayAfterRefill, byteRefund, byteHasDebt}
+use Rattle.bucket_bytes.specs.ByteBucket.{byteSound, byteNew, byteRefill, byteTryConsume, byteReserve, bytePeekDelayAfterRefill, byteRefund, byteHasDebt}
 use Rattle.bucket_bytes.specs.ByteBucket.{ByteRefillMeets, ByteTryConsumeMeets, ByteReserveMeets, BytePeekDelayMeets, ByteRefundMeets, ByteHasDebtMeets}
 
 -- ════ At most one outcome ═════════════════════════════════════════════════════════════════════════
+
+pub byte-new-outcome : (c : ByteRateLimitConfig) {r q : ByteTokenBucket} → r ≡ byteNew c → q ≡ byteNew c → r ≡ q
+byte-new-outcome c = one-outcome
 
 pub byte-refill-outcome : (b : ByteTokenBucket) (now : ℕ) {r q : ByteRefilled} → ByteRefillMeets b now r → ByteRefillMeets b now q → r ≡ q
 unfolding ByteRefillMeets
@@ -40,6 +46,12 @@ byte-refund-outcome b bytes now = one-outcome
 pub byte-has-debt-outcome : (b : ByteTokenBucket) (now : ℕ) {r q : Told} → ByteHasDebtMeets b now r → ByteHasDebtMeets b now q → r ≡ q
 unfolding ByteHasDebtMeets
 byte-has-debt-outcome b now = one-outcome
+
+pub byte-burst-bytes-outcome : (b : ByteTokenBucket) {r q : ℕ} → r ≡ b .config .«burst_bytes» → q ≡ b .config .«burst_bytes» → r ≡ q
+byte-burst-bytes-outcome b = one-outcome
+
+pub byte-is-disabled-outcome : (b : ByteTokenBucket) {r q : Bool} → r ≡ byteDisabled (b .config) → q ≡ byteDisabled (b .config) → r ≡ q
+byte-is-disabled-outcome b = byte-limit-is-disabled-outcome (b .config)
 
 -- ════ A sound bucket is never refused ═════════════════════════════════════════════════════════════
 

@@ -7,12 +7,12 @@ use lib.IntN.{pos}
 use Rattle.bucket_terms.specs.declared.answer.Consumed.the-variants as Consumed
 use Rattle.bucket_terms.specs.declared.limit.ByteRateLimitConfig.{ByteRateLimitConfig}
 use Rattle.bucket_bytes.specs.declared.bytes.ByteConsumed.{ByteConsumed}
-use Rattle.bucket_bytes.specs.ByteBucket.{byteLevel}
+use Rattle.bucket_bytes.specs.ByteBucket.{msPerSec, byteLevel}
 
 -- what is available after a refill at a time
 unfoldable pub refilledTo : (rate burst available last now : ℕ) → ℕ
 refilledTo rate burst available last now =
-    cond (leb now last) available (min (available + (now - last) * rate / 1000) burst)
+    cond (leb now last) available (min (available + (now - last) * rate / msPerSec) burst)
 
 -- when the bucket was last refilled after a refill at a time: time does not go back
 abbrev pub refilledAt : (last now : ℕ) → ℕ

@@ -16,7 +16,7 @@ use Rattle.bucket_terms.specs.declared.limit.ByteRateLimitConfig.{ByteRateLimit
 use Rattle.bucket_bytes.specs.declared.bytes.ByteTokenBucket.{ByteTokenBucket}
 use Rattle.bucket_bytes.specs.declared.bytes.ByteConsumed.{ByteConsumed}
 use Rattle.bucket_terms.specs.Limit.{byteDisabled}
-use Rattle.bucket_bytes.specs.ByteBucket.{byteLevel, byteRefill, byteTake, byteTryConsume}
+use Rattle.bucket_bytes.specs.ByteBucket.{msPerSec, byteLevel, byteRefill, byteTake, byteTryConsume}
 use Rattle.bucket_bytes.specs.Natural.{refilledTo, refilledAt, naturalTake}
 
 -- a number that fits a u64 is what its amount stands for
@@ -40,14 +40,14 @@ level-by false c x y last now = refl
 pub refill-natural : (c : ByteRateLimitConfig) (a last now : ℕ) → byteDisabled c ≡ false → a < 2 ^ 64 → c .«burst_bytes» < 2 ^ 64 → byteRefill (byteLevel c (pos a) last) now ≡ byteLevel c (pos (refilledTo (c .«rate_bytes_per_sec») (c .«burst_bytes») a last now)) (refilledAt last now)
 unfolding byteRefill refilledTo
 refill-natural c a last now on h k =
-    rw (value-of a h, capped-sum a ((now - last) * c .«rate_bytes_per_sec» / 1000) (c .«burst_bytes») k, on)
-    (level-by (leb now last) c a (min (a + (now - last) * c .«rate_bytes_per_sec» / 1000) (c .«burst_bytes»)) last now)
+    rw (value-of a h, capped-sum a ((now - last) * c .«rate_bytes_per_sec» / msPerSec) (c .«burst_bytes») k, on)
+    (level-by (leb now last) c a (min (a + (now - last) * c .«rate_bytes_per_sec» / msPerSec) (c .«burst_bytes»)) last now)
 
 -- what a refill leaves is within the burst
 pub refilled-within : (rate burst a last now : ℕ) → a ≤ burst → refilledTo rate burst a last now ≤ burst
 unfolding refilledTo
 refilled-within rate burst a last now h =
-    within (leb now last) a (min (a + (now - last) * rate / 1000) burst) h (min-le-right (a + (now - last) * rate / 1000) burst)
+    within (leb now last) a (min (a + (now - last) * rate / msPerSec) burst) h (min-le-right (a + (now - last) * rate / msPerSec) burst)
   where
     within : {n : ℕ} (b : Bool) (x y : ℕ) → x ≤ n → y ≤ n → cond b x y ≤ n
     within true x y h k = h

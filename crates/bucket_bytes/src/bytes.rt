@@ -36,6 +36,9 @@ impl ByteTokenBucket {
     // When a fresh bucket was last refilled.
     pub const FIRST_REFILL_MS: u64 = 0;
 
+    // Times are milliseconds, and the rate counts bytes in a second.
+    pub const MS_PER_SEC: u32 = 1_000;
+
     // A full bucket.
     pub fn new(config: ByteRateLimitConfig) -> ByteTokenBucket
         ensures { λ r. ⌜ r ≡ byteNew config ⌝ }
@@ -47,7 +50,7 @@ impl ByteTokenBucket {
         }
     }
 
-    // The bucket at a time: what the rate gives for the time that has passed.
+    // The bucket at a time: what the rate gives for the time that has passed, up to its burst.
     pub fn refill(self, now_ms: u64) -> ByteRefilled
         ensures { λ r. ⌜ ByteRefillMeets self «now_ms» r ⌝ }
     {
@@ -63,7 +66,7 @@ impl ByteTokenBucket {
         }
     }
 
-    // Takes the bytes if they are there. A no keeps the refill and says how many were missing.
+    // Takes the bytes if they are there. A no keeps the refill and says how many were missing, at most 2^64 - 1.
     pub fn try_consume(self, bytes: u64, now_ms: u64) -> ByteConsumed
         ensures { λ r. ⌜ ByteTryConsumeMeets self bytes «now_ms» r ⌝ }
     {
@@ -191,7 +194,11 @@ fn refilled(b: ByteTokenBucket, now_ms: u64) -> ByteTokenBucket
     }
     let config = b.config;
     let available = b.available_bytes;
-    let gain = Amount::product_per_thousand(now_ms - b.last_refill_ms, config.rate_bytes_per_sec);
+    let gain = Amount::product_over(
+        now_ms - b.last_refill_ms,
+        config.rate_bytes_per_sec,
+        ByteTokenBucket::MS_PER_SEC,
+    );
     ByteTokenBucket {
         config,
         available_bytes: available.saturating_add(gain).lesser(config.burst_bytes),
@@ -230,7 +237,7 @@ fn peek_delay(b: ByteTokenBucket, bytes: u64) -> u64
         return 0;
     }
     deficit
-        .times_thousand()
+        .times(ByteTokenBucket::MS_PER_SEC)
         .div_ceil_low(b.config.rate_bytes_per_sec)
 }
 

@@ -1,7 +1,8 @@
 -- DiscreteTokenBucket of gossip_policy.rs, written from its text, function by function and under its names. Definitions only.
 --
--- Where the Rust saturates a sum that can't reach the bound (`available` in a refill, `last_refill_ms`), the sum stands here as
--- it is: the capacity is a u32, and last_refill_ms never passes now_ms.
+-- Two sums that the Rust saturates stand here as they are. `available.saturating_add(refill)` can saturate, but the Rust cuts it to
+-- the capacity at once, and that is a u32 itself: the sum and the saturated sum are cut to the same. `last_refill_ms` never passes
+-- now_ms, so its sum, and the product in it, never reach the bound.
 use mathlib.Core.Path.{_≡_}
 use mathlib.Core.Bool.{Bool, _||_, cond}
 use Prim.Native.Nat.{ℕ, _+_, _-_, _*_, _/_, _%_, min}
@@ -53,7 +54,8 @@ discreteTaken b =
       «last_refill_ms» = b .«last_refill_ms»;
     }
 
--- a refilled bucket asked for a token: an empty one is short by one, and keeps its refill
+-- a refilled bucket asked for a token: an empty one says no, and keeps its refill. That it is short by one is more than the Rust's
+-- `false` says
 unfoldable pub discreteTake : DiscreteTokenBucket → DiscreteConsumed
 discreteTake b =
     cond (eqb (b .available) 0)

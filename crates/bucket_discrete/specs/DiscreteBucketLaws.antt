@@ -9,10 +9,13 @@ use Rattle.bucket_terms.specs.Answers.{told}
 use Rattle.bucket_discrete.specs.declared.discrete.DiscreteTokenBucket.{DiscreteTokenBucket}
 use Rattle.bucket_discrete.specs.declared.discrete.DiscreteRefilled.{DiscreteRefilled}
 use Rattle.bucket_discrete.specs.declared.discrete.DiscreteConsumed.{DiscreteConsumed}
-use Rattle.bucket_discrete.specs.DiscreteBucket.{discreteSound, discreteRefill, discreteTryConsume, discreteIsFull}
+use Rattle.bucket_discrete.specs.DiscreteBucket.{discreteSound, discreteNew, discreteRefill, discreteTryConsume, discreteIsFull}
 use Rattle.bucket_discrete.specs.DiscreteBucket.{DiscreteRefillMeets, DiscreteTryConsumeMeets, DiscreteIsFullMeets}
 
 -- ════ At most one outcome ═════════════════════════════════════════════════════════════════════════
+
+pub discrete-new-outcome : (interval capacity : ℕ) {r q : DiscreteTokenBucket} → r ≡ discreteNew interval capacity → q ≡ discreteNew interval capacity → r ≡ q
+discrete-new-outcome interval capacity = one-outcome
 
 pub discrete-refill-outcome : (b : DiscreteTokenBucket) (now : ℕ) {r q : DiscreteRefilled} → DiscreteRefillMeets b now r → DiscreteRefillMeets b now q → r ≡ q
 unfolding DiscreteRefillMeets

@@ -40,7 +40,7 @@ impl DiscreteTokenBucket {
         }
     }
 
-    // The bucket at a time: a token more for each interval that has passed.
+    // The bucket at a time: a token more for each interval that has passed (the low 32 bits of their number), up to its capacity.
     pub fn refill(self, now_ms: u64) -> DiscreteRefilled
         ensures { λ r. ⌜ DiscreteRefillMeets self «now_ms» r ⌝ }
     {

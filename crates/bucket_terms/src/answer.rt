@@ -13,7 +13,7 @@ pub enum Consumed {
     Refused(u32),
 }
 
-// How many milliseconds until the bucket is out of debt.
+// How many milliseconds until the rate has given what was missing, the low 64 bits of their number.
 pub enum Delay {
     Wait(u64),
     Refused(u32),

@@ -7,10 +7,10 @@ use lib.Dec.{eqb}
 use lib.IntN.{ℤ, pos, _+ℤ_, _-ℤ_}
 use lib.ListN.{getD}
 use lib.Signed.{ltZ}
-use Rattle.refusal.specs.Some.{Some}
 use Rattle.amount.specs.declared.Amount.{Amount}
 use Rattle.amount_limbs.specs.Limbs.{saturatedUnsigned, ceilDiv}
-use Rattle.amount.specs.Amount.{Is, value, saturated, natural, lesser, isI128}
+use Rattle.amount.specs.Amount.{amountOf, value, saturated, natural, lesser, isI128}
+use Rattle.bucket_bytes.specs.ByteBucket.{msPerSec}
 use Rattle.c_buckets.specs.declared.said.Said.{Said}
 use Rattle.c_buckets.specs.declared.amounts.AmountOperation.{AmountOperation}
 use Rattle.c_buckets.specs.declared.amounts.AmountOperation.the-variants.{FromU64, IsNegative, IsBelow, IsAbove, Lesser, SaturatingAdd, SaturatingSub, Deficit, ToU64, IsI128, ProductPerThousand, TimesThousand, DivCeilLow, Unknown}
@@ -58,30 +58,29 @@ amountWords a =
 abbrev pub quotientSaid : Amount → ℕ → Said
 quotientSaid a d = cond (eqb d 0) (said 0 0) (said 261 (ceilDiv (natural (value a)) d % 2 ^ 64))
 
--- the call answers the amount of an integer
-abbrev pub Gives : ℤ → AmountDone → Type 0
-Gives z d = Is (d .amount) z × (d .said ≡ said 261 0)
-
--- the call answers no amount
 abbrev pub amountSays : Amount → Said → AmountDone
 amountSays a s = record { amount = a; said = s }
 
--- what each operation does
-abbrev pub AmountDoes : AmountOperation → Amount → Amount → ℕ → ℕ → AmountDone → Type 0
-AmountDoes FromU64 a b n m d = Gives (pos n) d
-AmountDoes IsNegative a b n m d = d ≡ amountSays a (truthSaid (ltZ (value a) (pos 0)))
-AmountDoes IsBelow a b n m d = d ≡ amountSays a (truthSaid (ltZ (value a) (value b)))
-AmountDoes IsAbove a b n m d = d ≡ amountSays a (truthSaid (ltZ (pos n) (value a)))
-AmountDoes Lesser a b n m d = Gives (saturated (lesser (value a) (pos n))) d
-AmountDoes SaturatingAdd a b n m d = Gives (saturated (value a +ℤ value b)) d
-AmountDoes SaturatingSub a b n m d = Gives (saturated (value a -ℤ pos n)) d
-AmountDoes Deficit a b n m d = Gives (pos (natural (saturated (pos n -ℤ value a)))) d
-AmountDoes ToU64 a b n m d = d ≡ amountSays a (said 261 (min (natural (value a)) (2 ^ 64 - 1)))
-AmountDoes IsI128 a b n m d = d ≡ amountSays a (truthSaid (isI128 a))
-AmountDoes ProductPerThousand a b n m d = Gives (pos (n * m / 1000)) d
-AmountDoes TimesThousand a b n m d = Gives (pos (saturatedUnsigned (1000 * natural (value a)))) d
-AmountDoes DivCeilLow a b n m d = d ≡ amountSays a (quotientSaid a n)
-AmountDoes Unknown a b n m d = d ≡ amountSays a (said 0 0)
+-- the call answers the one amount of an integer
+abbrev pub amountGiven : ℤ → AmountDone
+amountGiven z = amountSays (amountOf z) (said 261 0)
+
+-- what each operation does: where it answers no amount, its first operand stays
+abbrev pub amountDone : AmountOperation → Amount → Amount → ℕ → ℕ → AmountDone
+amountDone FromU64 a b n m = amountGiven (pos n)
+amountDone IsNegative a b n m = amountSays a (truthSaid (ltZ (value a) (pos 0)))
+amountDone IsBelow a b n m = amountSays a (truthSaid (ltZ (value a) (value b)))
+amountDone IsAbove a b n m = amountSays a (truthSaid (ltZ (pos n) (value a)))
+amountDone Lesser a b n m = amountGiven (saturated (lesser (value a) (pos n)))
+amountDone SaturatingAdd a b n m = amountGiven (saturated (value a +ℤ value b))
+amountDone SaturatingSub a b n m = amountGiven (saturated (value a -ℤ pos n))
+amountDone Deficit a b n m = amountGiven (pos (natural (saturated (pos n -ℤ value a))))
+amountDone ToU64 a b n m = amountSays a (said 261 (min (natural (value a)) (2 ^ 64 - 1)))
+amountDone IsI128 a b n m = amountSays a (truthSaid (isI128 a))
+amountDone ProductPerThousand a b n m = amountGiven (pos (n * m / msPerSec))
+amountDone TimesThousand a b n m = amountGiven (pos (saturatedUnsigned (msPerSec * natural (value a))))
+amountDone DivCeilLow a b n m = amountSays a (quotientSaid a n)
+amountDone Unknown a b n m = amountSays a (said 0 0)
 
 -- the number returned, and the words and the value after the call
 abbrev pub AmountLeft : AmountDone → List ℕ → ℕ → ℕ → List ℕ → ℕ → Type 0
@@ -93,5 +92,4 @@ AmountLeft d result value r result' value' =
 -- uglezmir_amount
 abbrev pub AmountExported : ℕ → List ℕ → List ℕ → ℕ → ℕ → List ℕ → ℕ → ℕ → List ℕ → ℕ → Type 0
 AmountExported operation first second n m result value r result' value' =
-    Some (λ d. AmountDoes (amountOperation operation) (amountOfWords first) (amountOfWords second) n m d)
-    (λ d. AmountLeft d result value r result' value')
+    AmountLeft (amountDone (amountOperation operation) (amountOfWords first) (amountOfWords second) n m) result value r result' value'

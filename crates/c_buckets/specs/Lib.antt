@@ -4,3 +4,4 @@ pub mod Amounts
 pub mod Bytes
 pub mod Settings
 pub mod Limits
+pub mod OutcomeLaws

@@ -1,10 +1,11 @@
 // Amounts, under the numbers of the recorded lists: 0 from_u64, 1 is_negative, 2 is_below, 3 is_above, 4 lesser, 5 saturating_add,
-// 6 saturating_sub, 7 deficit, 8 to_u64, 9 is_i128, 10 product_per_thousand, 11 times_thousand, 12 div_ceil_low.
+// 6 saturating_sub, 7 deficit, 8 to_u64, 9 is_i128, 10 product_over 1,000, 11 times 1,000, 12 div_ceil_low.
 ghost use mathlib.Core.Path.{_≡_};
-ghost use Rattle.c_buckets.specs.Amounts.{amountOperation, amountOfWords, amountWords, quotientSaid, AmountDoes, AmountLeft, AmountExported};
+ghost use Rattle.c_buckets.specs.Amounts.{amountOperation, amountOfWords, amountWords, quotientSaid, amountDone, AmountLeft, AmountExported};
 use super::said;
 use super::said::Said;
 use amount::Amount;
+use token_bucket::bytes::ByteTokenBucket;
 
 pub enum AmountOperation {
     FromU64,
@@ -87,7 +88,7 @@ fn quotient(a: Amount, divisor: u64) -> Said
 }
 
 fn done(operation: AmountOperation, a: Amount, b: Amount, n: u64, m: u64) -> AmountDone
-    ensures { λ r. ⌜ AmountDoes operation a b n m r ⌝ }
+    ensures { λ r. ⌜ r ≡ amountDone operation a b n m ⌝ }
 {
     match operation {
         AmountOperation::FromU64 => AmountDone {
@@ -131,11 +132,11 @@ fn done(operation: AmountOperation, a: Amount, b: Amount, n: u64, m: u64) -> Amo
             said: said::truth(a.is_i128()),
         },
         AmountOperation::ProductPerThousand => AmountDone {
-            amount: Amount::product_per_thousand(n, m),
+            amount: Amount::product_over(n, m, ByteTokenBucket::MS_PER_SEC),
             said: said::plain(said::DONE),
         },
         AmountOperation::TimesThousand => AmountDone {
-            amount: a.times_thousand(),
+            amount: a.times(ByteTokenBucket::MS_PER_SEC),
             said: said::plain(said::DONE),
         },
         AmountOperation::DivCeilLow => AmountDone {

@@ -9,6 +9,9 @@ use replay::record;
 use replay::record::Input;
 use replay::record::Record;
 
+// What the recorded products are over, and times.
+const THOUSAND: u32 = 1_000;
+
 // A proved loop has to end, and nothing says that the input does: so turns are counted down from a number that no run uses up.
 fn main() {
     let mut turns = u64::MAX;
@@ -46,8 +49,8 @@ fn answer(r: Record) -> Line {
         7 => line.amount(a.deficit(n)),
         8 => line.decimal(a.to_u64()),
         9 => line.truth(a.is_i128()),
-        10 => line.amount(Amount::product_per_thousand(r.first, r.second)),
-        11 => line.amount(a.times_thousand()),
+        10 => line.amount(Amount::product_over(r.first, r.second, THOUSAND)),
+        11 => line.amount(a.times(THOUSAND)),
         12 => quotient(line, a, n),
         _ => line.text(b"unknown operation").then(operation),
     }

@@ -10,7 +10,7 @@ use Rattle.bucket_bytes.proofs.bytes.peek_delay.Lts as lts
 use Rattle.amount.proofs.Amount.deficit.Reads as deficit-reads
 use Rattle.amount.proofs.Amount.div_ceil_low.Reads as div-ceil-low-reads
 use Rattle.amount.proofs.Amount.is_above.Reads as is-above-reads
-use Rattle.amount.proofs.Amount.times_thousand.Reads as times-thousand-reads
+use Rattle.amount.proofs.Amount.times.Reads as times-reads
 
 deficit-requires : tie.Need-deficit-requires
 deficit-requires c κs = search needs
@@ -21,14 +21,14 @@ is-above-requires c κs = search needs
 returns : tie.Need-returns
 returns c = rw (no-deficit (c .before .before .deficit .ensures) (sym (c .before .is-above .ensures) ∙ not-true (c .before .is-above .result) (c .if1 .taken)))
 
-times-thousand-requires : tie.Need-times-thousand-requires
-times-thousand-requires c κs = search needs
+times-requires : tie.Need-times-requires
+times-requires c κs = search needs
 
 div-ceil-low-requires : tie.Need-div-ceil-low-requires
 div-ceil-low-requires c κs = search needs
 
 returns-2 : tie.Need-returns-2
-returns-2 c = rw (some-deficit (c .before .before .before .before .deficit .ensures) (sym (c .before .before .before .is-above .ensures) ∙ not-false (c .before .before .before .is-above .result) (c .before .before .if1 .left))) (delay-of (c .before .before .before .before .before .before .args .b .config .«rate_bytes_per_sec») (c .before .before .before .before .deficit .ensures) (c .before .times-thousand .ensures) (c .div-ceil-low .ensures))
+returns-2 c = rw (some-deficit (c .before .before .before .before .deficit .ensures) (sym (c .before .before .before .is-above .ensures) ∙ not-false (c .before .before .before .is-above .result) (c .before .before .if1 .left))) (delay-of (c .before .before .before .before .before .before .args .b .config .«rate_bytes_per_sec») (c .before .before .before .before .deficit .ensures) (c .before .times .ensures) (c .div-ceil-low .ensures))
 
 pub peek-delay-spec : {M : Type 1} → statement M
 peek-delay-spec =
@@ -37,6 +37,6 @@ peek-delay-spec =
     deficit-requires
     is-above-requires
     returns
-    times-thousand-requires
+    times-requires
     div-ceil-low-requires
     returns-2)

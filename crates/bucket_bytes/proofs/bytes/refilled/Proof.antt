@@ -4,7 +4,7 @@ use native.Mathlib.Omega.{arith}
 use lib.ListN.{length, getD}
 use borrow.Author.Tests.{le-leb, lt-leb}
 use Rattle.amount.specs.AmountLaws.{Whole}
-use Rattle.bucket_bytes.specs.ByteBucket.{byteRefill}
+use Rattle.bucket_bytes.specs.ByteBucket.{msPerSec, byteRefill}
 use Rattle.bucket_bytes.proofs.Levels.{topped}
 use borrow.Author.Needs.{needs}
 use Rattle.bucket_bytes.proofs.bytes.refilled.Statement.{statement}
@@ -12,7 +12,7 @@ use Rattle.bucket_bytes.proofs.bytes.refilled.Tie as tie
 use Rattle.bucket_bytes.proofs.bytes.refilled.Reads as reads
 use Rattle.bucket_bytes.proofs.bytes.refilled.Lts as lts
 use Rattle.amount.proofs.Amount.lesser.Reads as lesser-reads
-use Rattle.amount.proofs.Amount.product_per_thousand.Reads as product-per-thousand-reads
+use Rattle.amount.proofs.Amount.product_over.Reads as product-over-reads
 use Rattle.amount.proofs.Amount.saturating_add.Reads as saturating-add-reads
 use Rattle.bucket_terms.proofs.limit.ByteRateLimitConfig.is_disabled.Reads as is-disabled-reads
 
@@ -27,11 +27,11 @@ returns-2 : tie.Need-returns-2
 unfolding byteRefill
 returns-2 c = rw (sym (c .before .before .before .is-disabled .ensures), c .before .before .if1 .left, le-leb _ _ (c .if2 .taken))
 
-sub-product-per-thousand : tie.Need-sub-product-per-thousand
-sub-product-per-thousand c = search needs
+sub-product-over : tie.Need-sub-product-over
+sub-product-over c = search needs
 
-product-per-thousand-requires : tie.Need-product-per-thousand-requires
-product-per-thousand-requires c κs = search needs
+product-over-requires : tie.Need-product-over-requires
+product-over-requires c κs = search needs
 
 saturating-add-requires : tie.Need-saturating-add-requires
 saturating-add-requires c κs = search needs
@@ -43,7 +43,7 @@ returns-3 : tie.Need-returns-3
 unfolding byteRefill
 returns-3 c = let w : Whole (c .lesser .result) = record { four = search needs; fit = λ i. search needs } in
     let a = c .before .before .before .before .before .before .before .before .before .before .args in
-    rw (topped (a .b .«available_bytes») ((a .now-ms - a .b .«last_refill_ms») * a .b .config .«rate_bytes_per_sec» / 1000) (a .b .config .«burst_bytes») (omega arith) w (c .before .before .product-per-thousand .ensures) (c .before .saturating-add .ensures) (c .lesser .ensures), sym (c .before .before .before .before .before .before .before .before .before .is-disabled .ensures), c .before .before .before .before .before .before .before .before .if1 .left, lt-leb _ _ (c .before .before .before .before .before .before .if2 .left))
+    rw (topped (a .b .«available_bytes») ((a .now-ms - a .b .«last_refill_ms») * a .b .config .«rate_bytes_per_sec» / msPerSec) (a .b .config .«burst_bytes») (omega arith) w (c .before .before .product-over .ensures) (c .before .saturating-add .ensures) (c .lesser .ensures), sym (c .before .before .before .before .before .before .before .before .before .is-disabled .ensures), c .before .before .before .before .before .before .before .before .if1 .left, lt-leb _ _ (c .before .before .before .before .before .before .if2 .left))
 
 pub refilled-spec : {M : Type 1} → statement M
 refilled-spec =
@@ -52,8 +52,8 @@ refilled-spec =
     is-disabled-requires
     returns
     returns-2
-    sub-product-per-thousand
-    product-per-thousand-requires
+    sub-product-over
+    product-over-requires
     saturating-add-requires
     lesser-requires
     returns-3)

@@ -1,5 +1,7 @@
 -- `amounts::done` meets its contract: operation by operation. Assumes nothing.
 use borrow.Author.Needs.{needs}
+use Rattle.amount.specs.AmountLaws.{Whole}
+use Rattle.amount.specs.AmountOfLaws.{is-amountOf}
 use Rattle.c_buckets.proofs.amounts.done.Statement.{statement}
 use Rattle.c_buckets.proofs.amounts.done.Tie as tie
 
@@ -96,8 +98,8 @@ truth-requires-4 c κs = search needs
 enum-told-11 : tie.Need-enum-told-11
 enum-told-11 c = search needs
 
-product-per-thousand-requires : tie.Need-product-per-thousand-requires
-product-per-thousand-requires c κs = search needs
+product-over-requires : tie.Need-product-over-requires
+product-over-requires c κs = search needs
 
 plain-requires-6 : tie.Need-plain-requires-6
 plain-requires-6 c κs = search needs
@@ -105,8 +107,8 @@ plain-requires-6 c κs = search needs
 enum-told-12 : tie.Need-enum-told-12
 enum-told-12 c = search needs
 
-times-thousand-requires : tie.Need-times-thousand-requires
-times-thousand-requires c κs = search needs
+times-requires : tie.Need-times-requires
+times-requires c κs = search needs
 
 plain-requires-7 : tie.Need-plain-requires-7
 plain-requires-7 c κs = search needs
@@ -124,7 +126,8 @@ plain-requires-8 : tie.Need-plain-requires-8
 plain-requires-8 c κs = search needs
 
 returns : tie.Need-returns
-returns c = rw (c .before .before .enum-told .given .1) (c .before .from-u64 .ensures, c .plain .ensures)
+returns c = let w : Whole (c .before .from-u64 .result) = record { four = search needs; fit = λ i. search needs } in
+    rw (c .before .before .enum-told .given .1) (rw (c .plain .ensures, is-amountOf w (c .before .from-u64 .ensures)))
 
 returns-2 : tie.Need-returns-2
 returns-2 c = rw (c .before .before .enum-told2 .given .1) (rw (c .truth .ensures, c .before .is-negative .ensures))
@@ -136,16 +139,20 @@ returns-4 : tie.Need-returns-4
 returns-4 c = rw (c .before .before .enum-told4 .given .1) (rw (c .truth3 .ensures, c .before .is-above .ensures))
 
 returns-5 : tie.Need-returns-5
-returns-5 c = rw (c .before .before .enum-told5 .given .1) (c .before .lesser .ensures, c .plain2 .ensures)
+returns-5 c = let w : Whole (c .before .lesser .result) = record { four = search needs; fit = λ i. search needs } in
+    rw (c .before .before .enum-told5 .given .1) (rw (c .plain2 .ensures, is-amountOf w (c .before .lesser .ensures)))
 
 returns-6 : tie.Need-returns-6
-returns-6 c = rw (c .before .before .enum-told6 .given .1) (c .before .saturating-add .ensures, c .plain3 .ensures)
+returns-6 c = let w : Whole (c .before .saturating-add .result) = record { four = search needs; fit = λ i. search needs } in
+    rw (c .before .before .enum-told6 .given .1) (rw (c .plain3 .ensures, is-amountOf w (c .before .saturating-add .ensures)))
 
 returns-7 : tie.Need-returns-7
-returns-7 c = rw (c .before .before .enum-told7 .given .1) (c .before .saturating-sub .ensures, c .plain4 .ensures)
+returns-7 c = let w : Whole (c .before .saturating-sub .result) = record { four = search needs; fit = λ i. search needs } in
+    rw (c .before .before .enum-told7 .given .1) (rw (c .plain4 .ensures, is-amountOf w (c .before .saturating-sub .ensures)))
 
 returns-8 : tie.Need-returns-8
-returns-8 c = rw (c .before .before .enum-told8 .given .1) (c .before .deficit .ensures, c .plain5 .ensures)
+returns-8 c = let w : Whole (c .before .deficit .result) = record { four = search needs; fit = λ i. search needs } in
+    rw (c .before .before .enum-told8 .given .1) (rw (c .plain5 .ensures, is-amountOf w (c .before .deficit .ensures)))
 
 returns-9 : tie.Need-returns-9
 returns-9 c = rw (c .before .before .enum-told9 .given .1) (rw (c .value .ensures, c .before .to-u64 .ensures))
@@ -154,10 +161,12 @@ returns-10 : tie.Need-returns-10
 returns-10 c = rw (c .before .before .enum-told10 .given .1) (rw (c .truth4 .ensures, c .before .is-i128 .ensures))
 
 returns-11 : tie.Need-returns-11
-returns-11 c = rw (c .before .before .enum-told11 .given .1) (c .before .product-per-thousand .ensures, c .plain6 .ensures)
+returns-11 c = let w : Whole (c .before .product-over .result) = record { four = search needs; fit = λ i. search needs } in
+    rw (c .before .before .enum-told11 .given .1) (rw (c .plain6 .ensures, is-amountOf w (c .before .product-over .ensures)))
 
 returns-12 : tie.Need-returns-12
-returns-12 c = rw (c .before .before .enum-told12 .given .1) (c .before .times-thousand .ensures, c .plain7 .ensures)
+returns-12 c = let w : Whole (c .before .times .result) = record { four = search needs; fit = λ i. search needs } in
+    rw (c .before .before .enum-told12 .given .1) (rw (c .plain7 .ensures, is-amountOf w (c .before .times .ensures)))
 
 returns-13 : tie.Need-returns-13
 returns-13 c = rw (c .before .enum-told13 .given .1) (rw (c .quotient .ensures))
@@ -200,10 +209,10 @@ done-spec =
     is-i128-requires
     truth-requires-4
     enum-told-11
-    product-per-thousand-requires
+    product-over-requires
     plain-requires-6
     enum-told-12
-    times-thousand-requires
+    times-requires
     plain-requires-7
     enum-told-13
     quotient-requires

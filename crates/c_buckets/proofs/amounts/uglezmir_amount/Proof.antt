@@ -20,11 +20,7 @@ leave-requires c κs = search needs
 
 returns : tie.Need-returns
 returns c = let called = c .before .before .before in
-    record {
-      answer = called .done .result;
-      met = rw (called .before .operation-of .ensures, called .before .before .amount-of2 .ensures, called .before .before .before .amount-of .ensures) at (called .done .ensures);
-      leaves = c .leave .ensures;
-    }
+    rw (called .done .ensures, called .before .operation-of .ensures, called .before .before .amount-of2 .ensures, called .before .before .before .amount-of .ensures) at (c .leave .ensures)
 
 pub uglezmir-amount-spec : {M : Type 1} → statement M
 uglezmir-amount-spec =
