@@ -32,6 +32,13 @@ use Rattle.table_laws.specs.Walk.{rises, rowAt, follows, soundFrom, Walk
 pub row-in : (w i n m : ℕ) → i < n → w * n ≤ m → w * i + w ≤ m
 row-in w i n m h k = omega (arith, mul-le-mul-left w h, mul-suc w i)
 
+-- a row begins where the one before it ends
+pub row-before : (w i : ℕ) → 0 < i → w * (i - 1) + w ≡ w * i
+row-before w zero h = absurd (omega arith)
+row-before w (suc i) h =
+    let back : suc i - 1 ≡ i = omega arith in
+    omega (arith, ap (λ (j : ℕ). w * j) back, mul-suc w i)
+
 -- ---- keys ----
 
 -- a row but the first rises by its key and that of the one before it
