@@ -117,23 +117,31 @@ module _ {A : Type 0} (L : Layout A) where
     pub ascending-raw : ascending (rows L s n) ≡ ascending (rawRows s n)
     ascending-raw = ap ascending (rows-raw s n) ∙ ascending-map (L .decode) (rawRows s n)
 
-    -- a key's place among the rows from the j-th on, the first of which counts as the i-th
-    pub place-raw : (i j : ℕ) (k : List ℕ) → placeFrom i k (drop j (rows L s n)) ≡ placeFrom i k (drop j (rawRows s n))
-    place-raw i j k =
+    -- a key has its place among the raw rows
+    place-rows : (i j : ℕ) (k : List ℕ) → placeFrom i k (drop j (rows L s n)) ≡ placeFrom i k (drop j (rawRows s n))
+    place-rows i j k =
         ap (λ (rs : List (Row A)). placeFrom i k (drop j rs)) (rows-raw s n)
         ∙ ap (placeFrom i k) (drop-map (L .decode) j (rawRows s n))
         ∙ place-map (L .decode) i k (drop j (rawRows s n))
 
-    -- what is found in raw rows is found in the rows, where these keep their rule
-    pub seek-raw : {r : Seek} (rule : Row A → Bool) (k : List ℕ) → r ≡ seek anyRow k (rawRows s n) → every rule (rows L s n) ≡ true
-        → r ≡ seek rule k (rows L s n)
-    unfolding seek
-    seek-raw rule k found rules =
-        let raw : List (Row (List ℕ)) = rawRows s n in
-        found ∙ ap (λ (b : Bool). cond (b && ascending raw) (placeFrom 0 k raw) Unsound) (every-any raw)
-        ∙ sym (ap (λ (b : Bool). cond (b && ascending (rows L s n)) (placeFrom 0 k (rows L s n)) Unsound) rules
-        ∙ ap (λ (b : Bool). cond b (placeFrom 0 k (rows L s n)) Unsound) ascending-raw
-        ∙ ap (λ (p : Seek). cond (ascending raw) p Unsound) (place-raw 0 0 k))
+    module _ {r : Seek} (k : List ℕ) (size : length k ≡ L .keyWidth) where
+      -- a place among the raw rows from the j-th on, the first of which counts as the i-th, is that among the rows
+      pub place-raw : (i j : ℕ) → r ≡ placeFrom i k (drop j (rows (rawLayout (length k) (L .width)) s n))
+          → r ≡ placeFrom i k (drop j (rows L s n))
+      place-raw i j found =
+          found ∙ ap (λ (w : ℕ). placeFrom i k (drop j (rows (rawLayout w (L .width)) s n))) size ∙ sym (place-rows i j k)
+
+      -- what is found in raw rows is found in the rows, where these keep their rule
+      pub seek-raw : (rule : Row A → Bool) → r ≡ seek anyRow k (rows (rawLayout (length k) (L .width)) s n)
+          → every rule (rows L s n) ≡ true → r ≡ seek rule k (rows L s n)
+      unfolding seek
+      seek-raw rule found rules =
+          let raw : List (Row (List ℕ)) = rawRows s n in
+          found ∙ ap (λ (w : ℕ). seek anyRow k (rows (rawLayout w (L .width)) s n)) size
+          ∙ ap (λ (b : Bool). cond (b && ascending raw) (placeFrom 0 k raw) Unsound) (every-any raw)
+          ∙ sym (ap (λ (b : Bool). cond (b && ascending (rows L s n)) (placeFrom 0 k (rows L s n)) Unsound) rules
+          ∙ ap (λ (b : Bool). cond b (placeFrom 0 k (rows L s n)) Unsound) ascending-raw
+          ∙ ap (λ (p : Seek). cond (ascending raw) p Unsound) (place-rows 0 0 k))
 
 module _ {A : Type 0} {L : Layout A} {Good : A → Type 0} (ok : Faithful L Good) where
   -- decoded rows have the bytes of the raw ones
