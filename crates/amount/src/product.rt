@@ -10,10 +10,16 @@ ghost use Rattle.amount_limbs.specs.Limbs.{saturatedUnsigned};
 ghost use Rattle.amount.specs.Amount.{Is, value, natural};
 
 impl Amount {
-    // a * b / 1000, rounded down, of the whole 128-bit product. It runs for every admit, so it has no loop and no long division.
+    // a * b / 1000, rounded down, of the whole 128-bit product. It runs for every admit, so it has no loop and no long division, and
+    // factors of 32 bits, as they nearly always are, take one product.
     pub fn product_per_thousand(a: u64, b: u64) -> Amount
         ensures { λ r. ⌜ Is r (pos (a * b / 1000)) ⌝ }
     {
+        if a < 0x1_0000_0000 {
+            if b < 0x1_0000_0000 {
+                return Amount::from_u64(a * b / 1000);
+            }
+        }
         let limbs = per_thousand(product(a, b));
         Amount {
             negative: false,

@@ -1,17 +1,15 @@
--- `table::keys::compare_at` meets its contract: the part of the slice is the key's 33 bytes. Assumes nothing.
+-- `keyed_rows::find::compare_key` meets its contract: the part of the slice is as long as the key. Assumes nothing.
 use mathlib.Core.Path.{_≡_}
 use Prim.Native.Nat.{_+_, _-_}
 use native.Mathlib.Omega.{arith}
-use borrow.Author.Needs.{needs}
+use lib.ListN.{length}
 use Rattle.lent_bytes.specs.LentBytes.{part}
-use Rattle.table.proofs.keys.compare_at.Tie as tie
-use Rattle.table.proofs.keys.compare_at.Statement.{statement}
+use borrow.Author.Needs.{needs}
+use Rattle.keyed_rows.proofs.find.compare_key.Statement.{statement}
+use Rattle.keyed_rows.proofs.find.compare_key.Tie as tie
 
-add-key-end : tie.Need-add-key-end
-add-key-end c = search needs
-
-slice-aggregate-compare-bytes : tie.Need-slice-aggregate-compare-bytes
-slice-aggregate-compare-bytes c = search needs
+add-end : tie.Need-add-end
+add-end c = search needs
 
 sub-compare-bytes : tie.Need-sub-compare-bytes
 sub-compare-bytes c = search needs
@@ -27,16 +25,16 @@ compare-bytes-requires c κs = search needs
 
 returns : tie.Need-returns
 unfolding part
-returns c = let a = c .before .before .before .before .before .args in
-    let e : (a .at + 33) - a .at ≡ 33 = omega arith in
+returns c = let a = c .before .before .before .before .args in
+    let n = length (a .key .now) in
+    let e : (a .at + n) - a .at ≡ n = omega arith in
     rw e at (c .compare-bytes .ensures)
 
-pub compare-at-spec : {M : Type 1} → statement M
-compare-at-spec =
+pub compare-key-spec : {M : Type 1} → statement M
+compare-key-spec =
     tie.close
     (tie.spec
-    add-key-end
-    slice-aggregate-compare-bytes
+    add-end
     sub-compare-bytes
     part-compare-bytes-start
     part-compare-bytes-end

@@ -1,0 +1,4 @@
+pub mod Raw
+pub mod RawLaws
+pub mod Walk
+pub mod WalkLaws
