@@ -1,7 +1,7 @@
 -- Laws of soundness, on settings, rows and changes: soundness part by part; what a change of the rows must keep, so that the policy after
 -- it is sound; and that each call's change keeps it. The calls themselves are in `CallLaws`. Assumes nothing.
-use mathlib.Core.Path.{_≡_, refl, sym, ap, _∙_}
-use mathlib.Core.Bool.{Bool, true, and-eq-true-iff}
+use mathlib.Core.Path.{_≡_, refl, ap, _∙_}
+use mathlib.Core.Bool.{true, and-eq-true-iff}
 use mathlib.Core.List.{List, [], _∷_}
 use mathlib.Core.Option.{Option, none, some}
 use Prim.Native.Nat.{ℕ, _*_, _≤_}
@@ -9,10 +9,9 @@ use native.Mathlib.Omega.{arith}
 use borrow.Author.Tests.{leb-true, le-leb}
 use lib.ListN.{length}
 use Rattle.lent_bytes.specs.LentBytes.{Bytes}
-use Rattle.pubkey.specs.Order.{compareBytes}
-use Rattle.table.specs.Table.{Row, every, ascending, look, store}
-use Rattle.table.specs.TableLaws.{by-answer, true-is-not-false, every-parts, every-store, ascending-store, Sub, sub-every, sub-ascending, sub-length, sub-erase}
-use Rattle.table.specs.LookLaws.{look-before, look-first, look-later, look-below, some-is-not-none}
+use Rattle.table.specs.Table.{every, ascending, look, store}
+use Rattle.table.specs.TableLaws.{true-is-not-false, every-store, ascending-store, Sub, sub-every, sub-ascending, sub-length, sub-erase}
+use Rattle.table.specs.LookLaws.{look-rule}
 use Rattle.table.specs.PlaceLaws.{length-store-some, length-store-none}
 use Rattle.table.specs.Memory.{rows}
 use Rattle.table.specs.MemoryLaws.{length-rows}
@@ -28,7 +27,7 @@ use Rattle.peer_state.specs.EntryLaws.{chosen, new-sound, expire-sound}
 use Rattle.peer_state.specs.Ingress.{ingressSound}
 use Rattle.peer_verdict.specs.Verdict.{judged, judgedInvalid, overflows}
 use Rattle.peer_verdict.specs.VerdictLaws.{judged-sound, judged-invalid-sound, judged-load, noted-ways}
-use Rattle.peer_rows.specs.Rows.{Peers, peerLayout}
+use Rattle.peer_rows.specs.Rows.{Peers, peerLayout, peerSound}
 use Rattle.peer_table.specs.Room.{makeRoom}
 use Rattle.peer_table.specs.RoomLaws.{sub-makeRoom, room-for-one, look-makeRoom-none}
 use Rattle.peer_message_policy.specs.declared.policy.PeerMessagePolicy.{PeerMessagePolicy}
@@ -77,7 +76,7 @@ holds-record p h = rw (le-leb _ _ (h .tracked), le-leb _ _ (h .few)) (h .load)
 -- rules and order of rows, no more than the limit, each under a key of 33 bytes
 pub record RowsHold (c : PeerMessagePolicyConfig) (rs : Peers) : Type 0 where
   pub few : length rs ≤ limit c
-  pub rules : every (entrySound c) rs ≡ true
+  pub rules : every (peerSound c) rs ≡ true
   pub order : ascending rs ≡ true
   pub keyed : Keyed rs
 
@@ -85,7 +84,7 @@ pub record RowsHold (c : PeerMessagePolicyConfig) (rs : Peers) : Type 0 where
 pub record PolicyHolds (p : PeerMessagePolicy) (s : List ℕ) : Type 0 where
   pub own : RecordHolds p
   pub long : 121 * limit (p .config) ≤ length s
-  pub rules : every (entrySound (p .config)) (rowsOf p s) ≡ true
+  pub rules : every (peerSound (p .config)) (rowsOf p s) ≡ true
   pub order : ascending (rowsOf p s) ≡ true
 
 pub policy-holds : (p : PeerMessagePolicy) (s : List ℕ) → sound p s ≡ true → PolicyHolds p s
@@ -149,7 +148,7 @@ module _ (p : PeerMessagePolicy) (s t : List ℕ) (i : FiberIngressBudget) where
             holds-policy q t (record {
               own = own;
               long = omega (arith, h .long);
-              rules = ap (every (entrySound c)) (m .reads) ∙ r .rules;
+              rules = ap (every (peerSound c)) (m .reads) ∙ r .rules;
               order = ap ascending (m .reads) ∙ r .order;
             });
         same-length = same-length;
@@ -194,24 +193,13 @@ module _ (c : PeerMessagePolicyConfig) (i : FiberIngressBudget) (k : List ℕ) w
 
 -- ════ What each call's change keeps ═══════════════════════════════════════════════════════════════
 
--- what is found keeps what rule all rows keep
-pub look-rule : {A : Type 0} (rule : A → Bool) (k : List ℕ) (rs : List (Row A)) {e : A} → every rule rs ≡ true → look k rs ≡ some e
-    → rule e ≡ true
-look-rule rule k [] h found = absurd (some-is-not-none found (look-below k [] refl))
-look-rule rule k (r ∷ rs) {e} h found =
-    let parts = every-parts rule r rs h in
-    by-answer (compareBytes k (r .key))
-    (λ o. absurd (some-is-not-none found (look-before k r rs o)))
-    (λ o. let z : r .entry ≡ e = cc (look-first k r rs o) in rw (← z) (parts .0))
-    (λ o. look-rule rule k rs (parts .1) (sym (look-later k r rs o) ∙ found))
-
 module _ (c : PeerMessagePolicyConfig) where
   -- rows left
   pub sub-hold : {xs ys : Peers} → Sub xs ys → RowsHold c ys → RowsHold c xs
   sub-hold s h =
       record {
         few = omega (arith, sub-length s, h .few);
-        rules = sub-every (entrySound c) s (h .rules);
+        rules = sub-every (peerSound c) s (h .rules);
         order = sub-ascending s (h .order);
         keyed = keyed-sub s (h .keyed);
       }
@@ -222,7 +210,7 @@ module _ (c : PeerMessagePolicyConfig) where
   store-hold k e rs key sound-entry h room =
       record {
         few = room;
-        rules = every-store k e (entrySound c) rs sound-entry (h .rules);
+        rules = every-store k e (peerSound c) rs sound-entry (h .rules);
         order = ascending-store k e rs (h .order);
         keyed = keyed-store k e rs key (h .keyed);
       }
@@ -253,7 +241,7 @@ module _ (c : PeerMessagePolicyConfig) where
         chosen (UpdateHolds k) (entryIsBanned e now) (λ t. tt)
         (λ t.
         chosen (UpdateHolds k) (entryIsSpent e now) (λ u. (new-sound c now, over))
-        (λ u. (look-rule (entrySound c) k rs (h .rules) l, over)))
+        (λ u. (look-rule (peerSound c) k rs (h .rules) l, over)))
 
     for-update : UpdateHolds k (entryForUpdate c now rs (look k rs))
     for-update = for-update-by (look k rs) refl
@@ -307,7 +295,7 @@ module _ (c : PeerMessagePolicyConfig) where
     disconnected-holds none l = tt
     disconnected-holds (some e) l =
         let x : PeerMessagePolicyEntry = entryExpireWindows e now (c .«ban_duration_ms») in
-        let y : entrySound c x ≡ true = expire-sound c e now (c .«ban_duration_ms») (look-rule (entrySound c) k rs (h .rules) l) in
+        let y : entrySound c x ≡ true = expire-sound c e now (c .«ban_duration_ms») (look-rule (peerSound c) k rs (h .rules) l) in
         chosen (ChangeHolds c) (entryIsBanned e now) (λ t. tt)
         (λ t.
         chosen (ChangeHolds c) (entryIsSpent e now) (λ u. sub-hold (sub-erase k rs) h)

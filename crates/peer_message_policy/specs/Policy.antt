@@ -7,6 +7,8 @@ use lib.Dec.{leb}
 use lib.ListN.{length}
 use Rattle.table.specs.Table.{Row, every, ascending, look, store, erase}
 use Rattle.table.specs.Memory.{rows}
+use Rattle.table.specs.Outcome as lent
+pub use Rattle.table.specs.Outcome.{same, become}
 use Rattle.peer_settings.specs.declared.config.PeerMessagePolicyConfig.{PeerMessagePolicyConfig}
 use Rattle.peer_state.specs.declared.entry.PeerMessagePolicyEntry.{PeerMessagePolicyEntry}
 use Rattle.peer_state.specs.declared.ingress.FiberIngressBudget.{FiberIngressBudget}
@@ -14,9 +16,9 @@ use Rattle.peer_verdict.specs.declared.verdict.Cause.{Cause}
 use Rattle.peer_verdict.specs.declared.verdict.Cause.the-variants as Cause
 use Rattle.peer_verdict.specs.declared.verdict.Decision.{Decision}
 use Rattle.peer_settings.specs.Config.{unlimited, limit}
-use Rattle.peer_state.specs.Entry.{entrySound, entryNew, entryIsBanned, entryIsSpent, entryExpireWindows}
+use Rattle.peer_state.specs.Entry.{entryNew, entryIsBanned, entryIsSpent, entryExpireWindows}
 use Rattle.peer_verdict.specs.Verdict.{judged, judgedInvalid, overflows}
-use Rattle.peer_rows.specs.Rows.{Peers, peerLayout}
+use Rattle.peer_rows.specs.Rows.{Peers, peerLayout, peerSound}
 use Rattle.peer_table.specs.Room.{makeRoom}
 use Rattle.peer_message_policy.specs.declared.policy.PeerMessagePolicy.{PeerMessagePolicy}
 
@@ -39,9 +41,9 @@ policySound p =
 abbrev pub longEnough : PeerMessagePolicyConfig → List ℕ → Bool
 longEnough c s = leb (121 * limit c) (length s)
 
--- every row keeps its rules, and the keys ascend
+-- every row keeps its rule, and the keys ascend
 abbrev pub rowsSound : PeerMessagePolicy → List ℕ → Bool
-rowsSound p s = every (entrySound (p .config)) (rowsOf p s) && ascending (rowsOf p s)
+rowsSound p s = every (peerSound (p .config)) (rowsOf p s) && ascending (rowsOf p s)
 
 -- a policy and the memory lent to it
 unfoldable pub sound : PeerMessagePolicy → List ℕ → Bool
@@ -50,9 +52,8 @@ sound p s = policySound p && (longEnough (p .config) s && rowsSound p s)
 -- ════ The calls ═══════════════════════════════════════════════════════════════════════════════════
 
 -- what a call leaves of the rows: all as they were, or these
-pub data Change : Type 0 where
-  same : Change
-  become : Peers → Change
+abbrev pub Change : Type 0
+Change = lent.Change PeerMessagePolicyEntry
 
 -- what admit and record_invalid come to: why, the load in flight, and the rows
 pub record Turn : Type 0 where

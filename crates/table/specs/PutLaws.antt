@@ -1,12 +1,12 @@
 -- Laws of writing into a list of bytes that the laws of a table's memory cite, beside those of `LentBytesLaws`: a write says the
 -- same where it also writes back what stands before it or behind it. Assumes nothing.
 use mathlib.Core.Path.{_≡_, sym, ap, _∙_}
-use mathlib.Core.List.{List, [], _∷_, _++_, append-assoc, append-nil}
+use mathlib.Core.List.{List, [], _∷_, _++_, append-assoc}
 use Prim.Native.Nat.{ℕ, zero, suc, _+_, _-_, _≤_}
 use native.Mathlib.Nat.{sub-zero, suc-add, zero-add, zero-sub}
 use native.Mathlib.Omega.{arith}
 use lib.ListN.{length, take, drop, length-append, take-append-drop, replicate-append-replicate}
-use lib.Seq.{take-add, take-nil, drop-drop, drop-length}
+use lib.Seq.{take-add, take-nil, drop-drop}
 use Rattle.lent_bytes.specs.LentBytes.{part, put, zeros}
 use Rattle.lent_bytes.specs.LentBytesLaws.{length-part}
 
@@ -34,10 +34,6 @@ put-later s at b n h =
 pub put-front : (s : List ℕ) (b : List ℕ) → put s 0 b ≡ b ++ drop (length b) s
 unfolding put
 put-front s b = ap (λ (m : ℕ). b ++ drop m s) (zero-add (length b))
-
--- a write over all of s
-pub put-all : (s : List ℕ) (b : List ℕ) → length b ≡ length s → put s 0 b ≡ b
-put-all s b h = put-front s b ∙ ap (λ (l : List ℕ). b ++ l) (ap (λ (k : ℕ). drop k s) h ∙ drop-length s) ∙ append-nil b
 
 -- a write, with all that stands before it
 pub put-whole : (s : List ℕ) (at : ℕ) (b : List ℕ) → at ≤ length s → put s at b ≡ put s 0 (take at s ++ b)

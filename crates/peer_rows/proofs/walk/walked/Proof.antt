@@ -1,28 +1,44 @@
--- `peer_rows::walk::walked` meets its contract. The invariant: the rows are sound just where those from the i-th on are, and the key's
--- place is that among them. The measure is how many are left. Assumes nothing.
-use mathlib.Core.Path.{_≡_, refl, sym, _∙_}
-use Prim.Native.Nat.{_+_, _-_, _≤_}
-use native.Mathlib.Omega.{arith}
+-- `peer_rows::walk::walked` meets its contract. The invariant is that of `WalkLaws`, with the rule of a peer's row; the measure is how many
+-- rows are left. Assumes nothing.
 use borrow.Author.Needs.{needs}
 use borrow.Author.Tests.{not-true, not-false}
-use lib.ListN.{drop}
-use Rattle.table.specs.declared.seek.Seek.the-variants.{At, Gap}
-use Rattle.table.specs.Table.{placeFrom}
-use Rattle.table.specs.Memory.{rows}
-use Rattle.peer_rows.specs.Rows.{peerLayout}
-use Rattle.peer_rows.proofs.Judging.{soundFrom, sound-ends, sound-breaks-rule, sound-breaks-order, sound-goes-on}
-use Rattle.peer_rows.proofs.Judging.{place-ends, place-before, place-finds, place-goes-on, seek-fails, seek-ends, seek-judged}
+use mathlib.Core.Bool.{cond}
+use mathlib.Core.Path.{sym, ap, _∙_}
+use Prim.Native.Nat.{ℕ, _+_, _-_}
+use native.Mathlib.Omega.{arith}
+use lib.Dec.{ltb}
+use Rattle.table_laws.specs.Walk.{Walkable, Walking}
+use Rattle.table_laws.specs.WalkLaws.{walk-begins, walk-breaks-rule, walk-breaks-order, walk-goes-on, walk-ends}
+use Rattle.table_laws.specs.RawLaws.{place-raw}
+use Rattle.peer_rows.specs.Rows.{peerLayout, peerSound}
 use Rattle.peer_rows.proofs.walk.walked.Statement.{statement}
 use Rattle.peer_rows.proofs.walk.walked.Tie as tie
 
 abbrev Inv-loop : tie.InvT-loop
-Inv-loop config table count key i₀ i = (i ≤ count) × ((soundFrom config table count 0 ≡ soundFrom config table count i) × (placeFrom 0 key (rows peerLayout table count) ≡ placeFrom i key (drop i (rows peerLayout table count))))
+Inv-loop config table count key key-front last₀ place₀ i₀ last place i = Walking peerLayout (peerSound config) 8 table count key i last place
 
 abbrev μ-loop : tie.MeasureT-loop
-μ-loop config table count key i₀ i = count - i
+μ-loop config table count key key-front last₀ place₀ i₀ last place i = count - i
+
+-- the walk's ground, seen from the loop's head
+on : (c : tie.At-loop Inv-loop μ-loop) → (let a = c .before .before .before .before .args in Walkable peerLayout 8 (a .table .now) (a .count) (a .key .now))
+on c =
+    let pre = c .before .before .before .before .pre in
+    record {
+      key-fits = omega arith;
+      front-fits = omega arith;
+      rows-fit = pre .1;
+      memory-bytes = λ i. c .before .before .before .shared-slice-known .given i .fits;
+      key-bytes = λ i. c .before .before .shared-slice-known2 .given i .fits;
+      key-length = pre .0;
+    }
+
+front-at-requires : tie.Need-front-at-requires Inv-loop μ-loop
+front-at-requires c κs = omega arith
 
 loop-holds : tie.Need-loop-holds Inv-loop μ-loop
-loop-holds c = (omega arith, (refl, refl))
+loop-holds c = let a = c .before .before .before .args in
+    walk-begins peerLayout (peerSound (a .config)) 8 (a .table .now) (a .count) (a .key .now) 0
 
 mul-at : tie.Need-mul-at Inv-loop μ-loop
 mul-at c = omega arith
@@ -31,65 +47,28 @@ row-sound-requires : tie.Need-row-sound-requires Inv-loop μ-loop
 row-sound-requires c κs = omega arith
 
 returns : tie.Need-returns Inv-loop μ-loop
-returns c = let a = c .before .before .before .before .before .before .args in
-    let turn = c .before .before .before .loop in
-    seek-fails (a .config) (a .key .now) (a .table .now) (a .count) (turn .inv .1 .0
-    ∙ sound-breaks-rule (a .config) (a .table .now) (a .count) (turn .i) (omega arith)
-    (sym (c .before .row-sound .ensures) ∙ not-true (c .before .row-sound .result) (c .if1 .taken)))
+returns c = let l = c .before .before .before in
+    let a = l .before .before .before .before .args in
+    walk-breaks-rule peerLayout (peerSound (a .config)) 8 (a .table .now) (a .count) (a .key .now) (on l) (l .loop .i) (l .loop .last) (l .loop .place) (l .loop .inv) (omega arith) (sym (c .before .row-sound .ensures) ∙ not-true (c .before .row-sound .result) (c .if1 .taken))
+
+front-at-requires-2 : tie.Need-front-at-requires-2 Inv-loop μ-loop
+front-at-requires-2 c κs = omega arith
 
 in-order-requires : tie.Need-in-order-requires Inv-loop μ-loop
-in-order-requires c κs = omega arith
+in-order-requires c κs = let l = c .before .before .before .before in
+    let a = l .before .before .before .before .args in
+    ((omega arith, omega arith), (omega arith, (c .front-at2 .ensures, l .loop .inv .carried)))
 
 returns-2 : tie.Need-returns-2 Inv-loop μ-loop
-returns-2 c = let a = c .before .before .before .before .before .before .before .before .args in
-    let turn = c .before .before .before .before .before .loop in
-    seek-fails (a .config) (a .key .now) (a .table .now) (a .count) (turn .inv .1 .0
-    ∙ sound-breaks-order (a .config) (a .table .now) (a .count) (turn .i) (omega arith)
-    (sym (c .before .in-order .ensures) ∙ not-true (c .before .in-order .result) (c .if2 .taken)))
+returns-2 c = let l = c .before .before .before .before .before .before in
+    let a = l .before .before .before .before .args in
+    walk-breaks-order peerLayout (peerSound (a .config)) 8 (a .table .now) (a .count) (a .key .now) (on l) (l .loop .i) (l .loop .last) (l .loop .place) (l .loop .inv) (omega arith) (sym (c .before .in-order .ensures) ∙ not-true (c .before .in-order .result) (c .if2 .taken))
 
-compare-key-requires : tie.Need-compare-key-requires Inv-loop μ-loop
-compare-key-requires c κs = omega arith
+add-place-after : tie.Need-add-place-after Inv-loop μ-loop
+add-place-after c = omega arith
 
-enum-told : tie.Need-enum-told Inv-loop μ-loop
-enum-told c = search needs
-
-add-judged : tie.Need-add-judged Inv-loop μ-loop
-add-judged c = omega arith
-
-judged-requires : tie.Need-judged-requires Inv-loop μ-loop
-judged-requires c κs = omega arith
-
-returns-3 : tie.Need-returns-3 Inv-loop μ-loop
-returns-3 c = let a = c .before .before .before .before .before .before .before .before .before .before .before .before .args in
-    let turn = c .before .before .before .before .before .before .before .before .before .loop in
-    seek-judged (a .config) (a .key .now) (a .table .now) (a .count) (turn .i + 1) (Gap (turn .i)) (c .judged .result)
-    (turn .inv .1 .0 ∙ sound-goes-on (a .config) (a .table .now) (a .count) (turn .i) (omega arith)
-    (sym (c .before .before .before .before .before .before .before .row-sound .ensures) ∙ not-false (c .before .before .before .before .before .before .before .row-sound .result) (c .before .before .before .before .before .before .if1 .left))
-    (sym (c .before .before .before .before .before .in-order .ensures) ∙ not-false (c .before .before .before .before .before .in-order .result) (c .before .before .before .before .if2 .left)))
-    (place-before (a .key .now) (a .table .now) (a .count) (turn .i) (turn .inv .1 .1) (omega arith) (sym (c .before .before .before .compare-key .ensures) ∙ c .before .enum-told .given .1))
-    (c .judged .ensures)
-
-enum-told-2 : tie.Need-enum-told-2 Inv-loop μ-loop
-enum-told-2 c = search needs
-
-add-judged-2 : tie.Need-add-judged-2 Inv-loop μ-loop
-add-judged-2 c = omega arith
-
-judged-requires-2 : tie.Need-judged-requires-2 Inv-loop μ-loop
-judged-requires-2 c κs = omega arith
-
-returns-4 : tie.Need-returns-4 Inv-loop μ-loop
-returns-4 c = let a = c .before .before .before .before .before .before .before .before .before .before .before .before .args in
-    let turn = c .before .before .before .before .before .before .before .before .before .loop in
-    seek-judged (a .config) (a .key .now) (a .table .now) (a .count) (turn .i + 1) (At (turn .i)) (c .judged2 .result)
-    (turn .inv .1 .0 ∙ sound-goes-on (a .config) (a .table .now) (a .count) (turn .i) (omega arith)
-    (sym (c .before .before .before .before .before .before .before .row-sound .ensures) ∙ not-false (c .before .before .before .before .before .before .before .row-sound .result) (c .before .before .before .before .before .before .if1 .left))
-    (sym (c .before .before .before .before .before .in-order .ensures) ∙ not-false (c .before .before .before .before .before .in-order .result) (c .before .before .before .before .if2 .left)))
-    (place-finds (a .key .now) (a .table .now) (a .count) (turn .i) (turn .inv .1 .1) (omega arith) (sym (c .before .before .before .compare-key .ensures) ∙ c .before .enum-told2 .given .1))
-    (c .judged2 .ensures)
-
-enum-told-3 : tie.Need-enum-told-3 Inv-loop μ-loop
-enum-told-3 c = search needs
+place-after-requires : tie.Need-place-after-requires Inv-loop μ-loop
+place-after-requires c κs = search needs
 
 add-i : tie.Need-add-i Inv-loop μ-loop
 add-i c = omega arith
@@ -98,23 +77,21 @@ loop-less : tie.Need-loop-less Inv-loop μ-loop
 loop-less c = omega arith
 
 loop-again : tie.Need-loop-again Inv-loop μ-loop
-loop-again c = let a = c .before .before .before .before .before .before .before .before .before .before .before .args in
-    let turn = c .before .before .before .before .before .before .before .before .loop in (
-      omega arith,
-      (
-        turn .inv .1 .0 ∙ sound-goes-on (a .config) (a .table .now) (a .count) (turn .i) (omega arith)
-            (sym (c .before .before .before .before .before .before .row-sound .ensures) ∙ not-false (c .before .before .before .before .before .before .row-sound .result) (c .before .before .before .before .before .if1 .left))
-            (sym (c .before .before .before .before .in-order .ensures) ∙ not-false (c .before .before .before .before .in-order .result) (c .before .before .before .if2 .left)),
-        place-goes-on (a .key .now) (a .table .now) (a .count) (turn .i) (turn .inv .1 .1) (omega arith) (sym (c .before .before .compare-key .ensures) ∙ c .enum-told3 .given .1),
-      ),
-    )
+loop-again c = let l = c .before .before .before .before .before .before .before in
+    let a = l .before .before .before .before .args in
+    walk-goes-on peerLayout (peerSound (a .config)) 8 (a .table .now) (a .count) (a .key .now) (on l) (l .loop .i) (l .loop .last) (l .loop .place) (l .loop .inv) (omega arith)
+    (sym (c .before .before .before .before .before .row-sound .ensures) ∙ not-false (c .before .before .before .before .before .row-sound .result) (c .before .before .before .before .if1 .left))
+    (sym (c .before .before .in-order .ensures) ∙ not-false (c .before .before .in-order .result) (c .before .if2 .left))
+    (c .before .before .before .front-at2 .result) (c .place-after .result) (c .before .before .before .front-at2 .ensures)
+    (c .place-after .ensures ∙ ap (λ (f : ℕ). cond (ltb (c .before .before .before .front-at2 .result) f) (l .loop .i + 1) (l .loop .place)) (l .before .front-at .ensures))
 
-returns-5 : tie.Need-returns-5 Inv-loop μ-loop
-returns-5 c = let a = c .before .before .before .before .args in
-    let last = c .before .loop in
-    seek-ends (a .config) (a .key .now) (a .table .now) (a .count)
-    (last .inv .1 .0 ∙ sound-ends (a .config) (a .table .now) (a .count) (last .i) (omega arith))
-    (place-ends (a .key .now) (a .table .now) (a .count) (last .i) (last .inv .1 .1) (omega arith))
+place-from-requires : tie.Need-place-from-requires Inv-loop μ-loop
+place-from-requires c κs = omega arith
+
+returns-3 : tie.Need-returns-3 Inv-loop μ-loop
+returns-3 c = let l = c .before .before in
+    let a = l .before .before .before .before .args in
+    walk-ends peerLayout (peerSound (a .config)) 8 (a .table .now) (a .count) (a .key .now) (on l) (l .loop .i) (l .loop .last) (l .loop .place) (l .loop .inv) (omega arith) (place-raw peerLayout (a .table .now) (a .count) (a .key .now) (on l .key-length) (l .loop .place) (l .loop .place) (c .place-from .ensures))
 
 pub walked-spec : {M : Type 1} → statement M
 walked-spec =
@@ -122,23 +99,18 @@ walked-spec =
     (tie.spec
     Inv-loop
     μ-loop
+    front-at-requires
     loop-holds
     mul-at
     row-sound-requires
     returns
+    front-at-requires-2
     in-order-requires
     returns-2
-    compare-key-requires
-    enum-told
-    add-judged
-    judged-requires
-    returns-3
-    enum-told-2
-    add-judged-2
-    judged-requires-2
-    returns-4
-    enum-told-3
+    add-place-after
+    place-after-requires
     add-i
     loop-less
     loop-again
-    returns-5)
+    place-from-requires
+    returns-3)

@@ -1,52 +1,54 @@
 -- `pubkey::order::compare_bytes` meets its contract. The invariant of its loop: what is left from index i compares as the whole does.
--- The measure is what is left of the first run. Assumes nothing.
-use Prim.Native.Nat.{ℕ, _-_}
-use mathlib.Core.List.{List}
+-- The measure is what is left of the shorter run. Assumes nothing.
+use Prim.Native.Nat.{_-_, _≤_}
 use mathlib.Core.Path.{_≡_, refl, sym, _∙_}
 use native.Mathlib.Omega.{arith}
-use lib.ListN.{length, drop}
-use denote.Ref.{now}
+use lib.ListN.{drop}
+use Rattle.lent_bytes.specs.LentBytes.{Bytes}
 use Rattle.pubkey.specs.Order.{compareBytes}
-use Rattle.pubkey.specs.OrderLaws.{less-from, greater-from, equal-from, first-ended, second-ended, both-ended}
+use Rattle.pubkey.specs.FrontLaws.{fronts-less, fronts-greater, fronts-equal}
 use Rattle.pubkey.proofs.order.compare_bytes.Statement.{statement}
 use Rattle.pubkey.proofs.order.compare_bytes.Tie as tie
 
 abbrev Inv-loop : tie.InvT-loop
-Inv-loop a b i₀ i = compareBytes a b ≡ compareBytes (drop i a) (drop i b)
+Inv-loop a b both i₀ i = (i ≤ both) × (compareBytes a b ≡ compareBytes (drop i a) (drop i b))
 
 abbrev μ-loop : tie.MeasureT-loop
-μ-loop a b i₀ i = length a - i
+μ-loop a b both i₀ i = both - i
 
--- both runs, seen from the loop's head
-abbrev A : tie.At-loop Inv-loop μ-loop → List ℕ
-A c = now (c .before .args .a)
+-- what both slices hold are bytes
+first-bytes : (c : tie.At-loop Inv-loop μ-loop) → Bytes (c .before .before .before .before .args .a .now)
+first-bytes c i = c .before .before .before .shared-slice-known .given i .fits
 
-abbrev B : tie.At-loop Inv-loop μ-loop → List ℕ
-B c = now (c .before .args .b)
+second-bytes : (c : tie.At-loop Inv-loop μ-loop) → Bytes (c .before .before .before .before .args .b .now)
+second-bytes c i = c .before .before .shared-slice-known2 .given i .fits
+
+lesser-requires : tie.Need-lesser-requires Inv-loop μ-loop
+lesser-requires c κs = tt
 
 loop-holds : tie.Need-loop-holds Inv-loop μ-loop
-loop-holds c = refl
+loop-holds c = (omega arith, refl)
+
+sub-loop : tie.Need-sub-loop Inv-loop μ-loop
+sub-loop c = omega arith
+
+front-at-requires : tie.Need-front-at-requires Inv-loop μ-loop
+front-at-requires c κs = omega arith
+
+front-at-requires-2 : tie.Need-front-at-requires-2 Inv-loop μ-loop
+front-at-requires-2 c κs = omega arith
 
 returns : tie.Need-returns Inv-loop μ-loop
 returns c =
-    let l = c .before .before in
-    sym (l .loop .inv ∙ second-ended (A l) (B l) (l .loop .i) (omega arith) (omega arith))
-
-shared-slice-read-x : tie.Need-shared-slice-read-x Inv-loop μ-loop
-shared-slice-read-x c = omega arith
-
-shared-slice-read-y : tie.Need-shared-slice-read-y Inv-loop μ-loop
-shared-slice-read-y c = omega arith
+    let l = c .before .before .before .before in
+    let a = l .before .before .before .before .args in
+    sym (l .loop .inv .1 ∙ fronts-less 8 (a .a .now) (a .b .now) (l .loop .i) (first-bytes l) (second-bytes l) (omega arith) (omega arith) (omega (arith, c .before .before .front-at .ensures, c .before .front-at2 .ensures)))
 
 returns-2 : tie.Need-returns-2 Inv-loop μ-loop
 returns-2 c =
     let l = c .before .before .before .before .before in
-    sym (l .loop .inv ∙ less-from (A l) (B l) (l .loop .i) (omega arith) (omega arith) (omega arith))
-
-returns-3 : tie.Need-returns-3 Inv-loop μ-loop
-returns-3 c =
-    let l = c .before .before .before .before .before .before in
-    sym (l .loop .inv ∙ greater-from (A l) (B l) (l .loop .i) (omega arith) (omega arith) (omega arith))
+    let a = l .before .before .before .before .args in
+    sym (l .loop .inv .1 ∙ fronts-greater 8 (a .a .now) (a .b .now) (l .loop .i) (first-bytes l) (second-bytes l) (omega arith) (omega arith) (omega (arith, c .before .before .before .front-at .ensures, c .before .before .front-at2 .ensures)))
 
 add-i : tie.Need-add-i Inv-loop μ-loop
 add-i c = omega arith
@@ -56,18 +58,17 @@ loop-less c = omega arith
 
 loop-again : tie.Need-loop-again Inv-loop μ-loop
 loop-again c =
-    let l = c .before .before .before .before .before .before in
-    l .loop .inv ∙ equal-from (A l) (B l) (l .loop .i) (omega arith) (omega arith) (omega arith)
+    let l = c .before .before .before .before .before in
+    let a = l .before .before .before .before .args in (
+      omega arith,
+      l .loop .inv .1 ∙ fronts-equal 8 (a .a .now) (a .b .now) (l .loop .i) (first-bytes l) (second-bytes l) (omega arith) (omega arith) (omega (arith, c .before .before .before .front-at .ensures, c .before .before .front-at2 .ensures)),
+    )
 
-returns-4 : tie.Need-returns-4 Inv-loop μ-loop
-returns-4 c =
-    let l = c .before .before in
-    sym (l .loop .inv ∙ first-ended (A l) (B l) (l .loop .i) (omega arith) (omega arith))
+compare-from-requires : tie.Need-compare-from-requires Inv-loop μ-loop
+compare-from-requires c κs = tt
 
-returns-5 : tie.Need-returns-5 Inv-loop μ-loop
-returns-5 c =
-    let l = c .before .before in
-    sym (l .loop .inv ∙ both-ended (A l) (B l) (l .loop .i) (omega arith) (omega arith))
+returns-3 : tie.Need-returns-3 Inv-loop μ-loop
+returns-3 c = c .compare-from .ensures ∙ sym (c .before .before .loop .inv .1)
 
 pub compare-bytes-spec : {M : Type 1} → statement M
 compare-bytes-spec =
@@ -75,14 +76,15 @@ compare-bytes-spec =
     (tie.spec
     Inv-loop
     μ-loop
+    lesser-requires
     loop-holds
+    sub-loop
+    front-at-requires
+    front-at-requires-2
     returns
-    shared-slice-read-x
-    shared-slice-read-y
     returns-2
-    returns-3
     add-i
     loop-less
     loop-again
-    returns-4
-    returns-5)
+    compare-from-requires
+    returns-3)

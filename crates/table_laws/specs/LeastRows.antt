@@ -1,0 +1,32 @@
+-- The search for the least row in memory, for a table of any layout and measure: a loop over the rows, whose invariant says that the
+-- least of all is that of what was found and the rows from the i-th on. Assumes nothing.
+use mathlib.Core.Path.{_≡_, sym, ap, _∙_}
+use mathlib.Core.List.{List, []}
+use mathlib.Core.Option.{Option}
+use Prim.Native.Nat.{ℕ, _+_, _*_, _≤_, _<_}
+use native.Mathlib.Omega.{arith}
+use lib.ListN.{drop}
+use Rattle.lent_bytes.specs.LentBytes.{part}
+use Rattle.table.specs.Table.{Row, Best, nothing, best, better, leastFrom}
+use Rattle.table.specs.Memory.{Layout, rowOf, rows}
+use Rattle.table.specs.LeastLaws.{least-ends, least-goes-on, least-found}
+use Rattle.table.specs.MemoryLaws.{length-rows, getD-rows}
+
+module _ {A : Type 0} (L : Layout A) (measure : Row A → Option ℕ) (s : List ℕ) (n : ℕ) where
+  module _ (i : ℕ) (found : Best) (from : leastFrom measure nothing 0 (rows L s n) ≡ leastFrom measure found i (drop i (rows L s n))) where
+    -- no row is left
+    pub first-ends : n ≤ i → found ≡ leastFrom measure nothing 0 (rows L s n)
+    first-ends h = sym (least-ends measure (rows L s n) i found (omega (arith, length-rows L s n)) from)
+
+    -- the row at the i-th place is taken in
+    pub first-goes-on : (m : Option ℕ) (next : Best) → i < n → m ≡ measure (rowOf L (part s (L .width * i) (L .width))) → next ≡ better found i m
+        → leastFrom measure nothing 0 (rows L s n) ≡ leastFrom measure next (i + 1) (drop (i + 1) (rows L s n))
+    first-goes-on m next h e f =
+        let row : Row A = rowOf L (part s (L .width * i) (L .width)) in
+        least-goes-on measure (rows L s n) i found row (omega (arith, length-rows L s n)) from
+        ∙ ap (λ (r : Row A). leastFrom measure (better found i (measure r)) (i + 1) (drop (i + 1) (rows L s n))) (getD-rows L s n i row h)
+        ∙ ap (λ (b : Best). leastFrom measure b (i + 1) (drop (i + 1) (rows L s n))) (sym (f ∙ ap (better found i) e))
+
+  -- what is found is the index of a row
+  pub found-inside : {j m : ℕ} → leastFrom measure nothing 0 (rows L s n) ≡ best j m → j < n
+  found-inside h = omega (arith, least-found measure (rows L s n) (rowOf L []) h .inside, length-rows L s n)

@@ -1,0 +1,14 @@
+pub mod Raw
+pub mod RawLaws
+pub mod Walk
+pub mod WalkLaws
+pub mod Words
+pub mod WordsLaws
+pub mod ChangeLaws
+pub mod KeepLaws
+pub mod LeastRows
+pub mod RankLaws
+pub mod Lent
+pub mod LentLaws
+pub mod Kept
+pub mod KeptLaws

@@ -1,0 +1,255 @@
+-- Laws of a walk over the rows in lent memory, which the proofs of such loops cite: for any layout, rule and width of a key. In order:
+-- places; keys; judging; finding from a row on; rows skipped; the walk that does both. Assumes nothing.
+use mathlib.Core.Bool.{Bool, true, false, _&&_, cond}
+use mathlib.Core.Path.{_≡_, refl, sym, ap, _∙_}
+use mathlib.Core.List.{List, [], _∷_}
+use Prim.Native.Nat.{ℕ, zero, suc, _+_, _-_, _*_, _<_, _≤_}
+use native.Mathlib.Nat.{mul-suc, mul-le-mul-left}
+use native.Mathlib.Numerals.{add-one}
+use native.Mathlib.Omega.{arith}
+use borrow.Author.Tests.{ltb-true}
+use lib.Dec.{ltb}
+use lib.ListN.{length, drop, getD, drop-of-length-le}
+use lib.Seq.{take-take}
+use Rattle.lent_bytes.specs.LentBytes.{part, Bytes}
+use Rattle.lent_bytes.specs.LentBytesLaws.{part-all}
+use Rattle.pubkey.specs.declared.Ordering.the-variants.{Less, Equal, Greater}
+use Rattle.pubkey.specs.Order.{compareBytes, front}
+use Rattle.pubkey.specs.OrderLaws.{transitive, less-flip, greater-flip}
+use Rattle.pubkey.specs.FrontLaws.{front-less}
+use Rattle.table.specs.declared.seek.Seek.{Seek}
+use Rattle.table.specs.declared.seek.Seek.the-variants.{Unsound, At, Gap}
+use Rattle.table.specs.Table.{Row, byOrder, below, ascending, every, placeFrom, seek}
+use Rattle.table.specs.Memory.{Layout, rowOf, rows}
+use Rattle.table.specs.TableLaws.{by-test, both-parts, second-fails, below-each, ascending-parts, sound-cons}
+use Rattle.table.specs.PlaceLaws.{place-before, place-first, place-later, seek-sound, seek-unsound}
+use Rattle.table.specs.MemoryLaws.{length-rows, getD-rows, rows-cons}
+use Rattle.table_laws.specs.Walk.{rises, rowAt, follows, soundFrom, Walkable, Walking}
+
+-- ---- places ----
+
+-- a row lies in memory that n rows fit
+pub row-in : (w i n m : ℕ) → i < n → w * n ≤ m → w * i + w ≤ m
+row-in w i n m h k = omega (arith, mul-le-mul-left w h, mul-suc w i)
+
+-- a row begins where the one before it ends
+pub row-before : (w i : ℕ) → 0 < i → w * (i - 1) + w ≡ w * i
+row-before w zero h = absurd (omega arith)
+row-before w (suc i) h =
+    let back : suc i - 1 ≡ i = omega arith in
+    omega (arith, ap (λ (j : ℕ). w * j) back, mul-suc w i)
+
+-- ---- keys ----
+
+-- a row but the first rises by its key and that of the one before it
+pub rises-later : (w k : ℕ) (s : List ℕ) (i : ℕ) → 0 < i
+    → rises w k s i ≡ byOrder (compareBytes (part s (w * (i - 1)) k) (part s (w * i) k)) true false false
+rises-later w k s zero h = absurd (omega arith)
+rises-later w k s (suc i) h =
+    let e : suc i - 1 ≡ i = omega arith in
+    sym (ap (λ (j : ℕ). byOrder (compareBytes (part s (w * j) k) (part s (w * suc i) k)) true false false) e)
+
+-- a row whose front is above that of the one before it rises
+pub rises-front : (m w k : ℕ) (s : List ℕ) (i : ℕ) → m ≤ k → k ≤ w → Bytes s → w * i + w ≤ length s
+    → (0 < i → front m s (w * (i - 1)) < front m s (w * i)) → rises w k s i ≡ true
+rises-front m w k s zero narrow fits b h above = refl
+rises-front m w k s (suc i) narrow fits b h above =
+    let e : suc i - 1 ≡ i = omega arith in
+    let less : front m s (w * i) < front m s (w * suc i) =
+    omega (arith, ap (λ (j : ℕ). front m s (w * j)) e, above (omega arith)) in
+    ap (λ o. byOrder o true false false)
+    (front-less m k s (w * i) s (w * suc i) narrow b b (omega (arith, mul-suc w i)) (omega arith) less)
+
+module _ {A : Type 0} (L : Layout A) where
+  -- where the key of a row stands
+  pub key-at : L .keyWidth ≤ L .width → (s : List ℕ) (i : ℕ) → rowAt L s i .key ≡ part s (L .width * i) (L .keyWidth)
+  unfolding rowOf part
+  key-at fits s i = take-take (L .keyWidth) (L .width) (drop (L .width * i) s) fits
+
+  -- ---- judging ----
+
+  module _ (fits : L .keyWidth ≤ L .width) (s : List ℕ) (n : ℕ) where
+    -- the rows from the i-th on come after the one before them where the i-th rises
+    follows-rises : (i : ℕ) → i < n → follows L s n i ≡ rises (L .width) (L .keyWidth) s i
+    follows-rises zero h = refl
+    follows-rises (suc i) h =
+        let key : rowAt L s i .key ≡ part s (L .width * i) (L .keyWidth) = key-at fits s i in
+        let next : rowAt L s (suc i) .key ≡ part s (L .width * suc i) (L .keyWidth) = key-at fits s (suc i) in
+        ap (λ (rs : List (Row A)). below (rowAt L s i .key) rs) (rows-cons L s n (suc i) h)
+        ∙ ap (λ (l : List ℕ). byOrder (compareBytes l (rowAt L s (suc i) .key)) true false false) key
+        ∙ ap (λ (l : List ℕ). byOrder (compareBytes (part s (L .width * i) (L .keyWidth)) l) true false false) next
+
+    module _ (rule : Row A → Bool) (i : ℕ) where
+      -- no row is left
+      pub sound-ends : n ≤ i → soundFrom L rule s n i ≡ true
+      unfolding soundFrom every ascending
+      sound-ends h =
+          let most : length (rows L s n) ≤ i = omega (arith, length-rows L s n) in
+          ended i (drop-of-length-le (rows L s n) most)
+        where
+          ended : (j : ℕ) → drop j (rows L s n) ≡ [] → soundFrom L rule s n j ≡ true
+          ended zero e = ap (λ (rs : List (Row A)). every rule rs && ascending rs) e
+          ended (suc j) e = ap (λ (rs : List (Row A)). below (rowAt L s j .key) rs && (every rule rs && ascending rs)) e
+
+      module _ (inside : i < n) where
+        -- the next rows come after the i-th
+        follows-next : follows L s n (i + 1) ≡ below (rowAt L s i .key) (drop (i + 1) (rows L s n))
+        follows-next =
+            ap (follows L s n) (add-one i) ∙ ap (λ (j : ℕ). below (rowAt L s i .key) (drop j (rows L s n))) (sym (add-one i))
+
+        -- one row: it rises and keeps the rule, and so on
+        sound-step : soundFrom L rule s n i
+            ≡ (rises (L .width) (L .keyWidth) s i && (rule (rowAt L s i) && soundFrom L rule s n (i + 1)))
+        unfolding soundFrom
+        sound-step =
+            let up : Bool = rises (L .width) (L .keyWidth) s i in
+            let ruled : Bool = rule (rowAt L s i) in
+            let rest : List (Row A) = drop (i + 1) (rows L s n) in
+            ap (λ (b : Bool). b && (every rule (drop i (rows L s n)) && ascending (drop i (rows L s n)))) (follows-rises i inside)
+            ∙ ap (λ (rs : List (Row A)). up && (every rule rs && ascending rs)) (rows-cons L s n i inside)
+            ∙ ap (λ (b : Bool). up && b) (sound-cons rule (rowAt L s i) rest)
+            ∙ ap (λ (b : Bool). up && (ruled && (b && (every rule rest && ascending rest)))) (sym follows-next)
+
+        -- the i-th row breaks the rule
+        pub sound-breaks-rule : rule (rowAt L s i) ≡ false → soundFrom L rule s n i ≡ false
+        sound-breaks-rule h = sound-step ∙ second-fails (rises (L .width) (L .keyWidth) s i) (rw h)
+
+        -- the i-th row does not come after the one before it
+        pub sound-breaks-order : rises (L .width) (L .keyWidth) s i ≡ false → soundFrom L rule s n i ≡ false
+        sound-breaks-order h = sound-step ∙ rw h
+
+        -- the i-th row is sound
+        pub sound-goes-on : rule (rowAt L s i) ≡ true → rises (L .width) (L .keyWidth) s i ≡ true
+            → soundFrom L rule s n i ≡ soundFrom L rule s n (i + 1)
+        sound-goes-on h k = sound-step ∙ rw (k, h)
+
+  -- ---- finding from a row on: the invariant says that the answer is the key's place among the rows from the i-th on ----
+
+  module _ (fits : L .keyWidth ≤ L .width) (k s : List ℕ) (n : ℕ) (answer : Seek) (i : ℕ)
+      (from : answer ≡ placeFrom i k (drop i (rows L s n))) where
+    -- no row is left
+    pub find-ends : n ≤ i → answer ≡ Gap i
+    unfolding placeFrom
+    find-ends h =
+        let most : length (rows L s n) ≤ i = omega (arith, length-rows L s n) in
+        from ∙ rw (drop-of-length-le (rows L s n) most)
+
+    module _ (inside : i < n) where
+      -- the answer, by the i-th row and those behind it
+      from-row : answer ≡ placeFrom i k (rowAt L s i ∷ drop (i + 1) (rows L s n))
+      from-row = from ∙ ap (λ (rs : List (Row A)). placeFrom i k rs) (rows-cons L s n i inside)
+
+      -- the key comes before the i-th row
+      pub find-before : compareBytes k (part s (L .width * i) (L .keyWidth)) ≡ Less → answer ≡ Gap i
+      find-before h = from-row ∙ place-before i k (rowAt L s i) (drop (i + 1) (rows L s n)) (rw (key-at fits s i) h)
+
+      -- the key is that of the i-th row
+      pub find-finds : compareBytes k (part s (L .width * i) (L .keyWidth)) ≡ Equal → answer ≡ At i
+      find-finds h = from-row ∙ place-first i k (rowAt L s i) (drop (i + 1) (rows L s n)) (rw (key-at fits s i) h)
+
+      -- the key comes after the i-th row
+      pub find-goes-on : compareBytes k (part s (L .width * i) (L .keyWidth)) ≡ Greater
+          → answer ≡ placeFrom (i + 1) k (drop (i + 1) (rows L s n))
+      find-goes-on h = from-row ∙ place-later i k (rowAt L s i) (drop (i + 1) (rows L s n)) (rw (key-at fits s i) h)
+
+-- ---- rows skipped ----
+
+-- what comes after a key comes after those before that key
+after-earlier : (k a b : List ℕ) → compareBytes a b ≡ Less → compareBytes k b ≡ Greater → compareBytes k a ≡ Greater
+after-earlier k a b h g = less-flip a k (transitive a b k h (greater-flip k b g))
+
+module _ {A : Type 0} where
+  -- where the key comes after the p-th of ascending rows, its place is that among the rows behind it
+  pub place-skips : (i p : ℕ) (k : List ℕ) (rs : List (Row A)) (d : Row A) → ascending rs ≡ true → p < length rs
+      → compareBytes k (getD rs p d .key) ≡ Greater → placeFrom i k rs ≡ placeFrom (i + suc p) k (drop (suc p) rs)
+  place-skips i p k [] d order inside after = absurd (omega arith)
+  place-skips i zero k (r ∷ rs) d order inside after = place-later i k r rs after
+  place-skips i (suc p) k (r ∷ rs) d order inside after =
+      let parts = ascending-parts r rs order in
+      let within : p < length rs = omega arith in
+      let first : compareBytes k (r .key) ≡ Greater =
+      after-earlier k (r .key) (getD rs p d .key) (below-each (r .key) rs p d (parts .0) (parts .1) within) after in
+      place-later i k r rs first ∙ place-skips (i + 1) p k rs d (parts .1) within after
+      ∙ ap (λ (j : ℕ). placeFrom j k (drop (suc p) rs)) (omega arith)
+
+-- ---- the walk that judges and finds ----
+
+module _ {A : Type 0} (L : Layout A) (rule : Row A → Bool) (m : ℕ) (s : List ℕ) (n : ℕ) (k : List ℕ) where
+  -- before the first row nothing is known
+  pub walk-begins : (last : ℕ) → Walking L rule m s n k 0 last 0
+  walk-begins last =
+      record { inside = omega arith; judged = refl; carried = λ h. absurd (omega arith); place-inside = omega arith; passed = λ h. absurd (omega arith) }
+
+  -- rows that are not sound from the first on are not sound
+  walk-fails : soundFrom L rule s n 0 ≡ false → Unsound ≡ seek rule k (rows L s n)
+  unfolding soundFrom
+  walk-fails h = sym (seek-unsound rule k (rows L s n) .1 h)
+
+  module _ (on : Walkable L m s n k) (i last place : ℕ) (at : Walking L rule m s n k i last place) where
+    -- the i-th row breaks the rule
+    pub walk-breaks-rule : i < n → rule (rowAt L s i) ≡ false → Unsound ≡ seek rule k (rows L s n)
+    walk-breaks-rule h broken = walk-fails (at .judged ∙ sound-breaks-rule L (on .key-fits) s n rule i h broken)
+
+    -- the i-th row does not come after the one before it
+    pub walk-breaks-order : i < n → rises (L .width) (L .keyWidth) s i ≡ false → Unsound ≡ seek rule k (rows L s n)
+    walk-breaks-order h broken = walk-fails (at .judged ∙ sound-breaks-order L (on .key-fits) s n rule i h broken)
+
+    -- the key comes after a row whose front is below the key's
+    passes : i < n → front m s (L .width * i) < front m k 0 → compareBytes k (part s (L .width * i) (L .keyWidth)) ≡ Greater
+    passes h less =
+        let w : ℕ = L .keyWidth in
+        let own : List ℕ = part s (L .width * i) w in
+        let all : part k 0 w ≡ k = ap (part k 0) (sym (on .key-length)) ∙ part-all k in
+        let room : L .width * i + w ≤ length s = omega (arith, row-in (L .width) i n (length s) h (on .rows-fit), on .key-fits) in
+        let first : compareBytes own (part k 0 w) ≡ Less =
+        front-less m w s (L .width * i) k 0 (on .front-fits) (on .memory-bytes) (on .key-bytes) room (omega (arith, on .key-length)) less in
+        less-flip own k (ap (compareBytes own) (sym all) ∙ first)
+
+    module _ (inside : i < n) (ruled : rule (rowAt L s i) ≡ true) (risen : rises (L .width) (L .keyWidth) s i ≡ true)
+        (own next : ℕ) (front-is : own ≡ front m s (L .width * i)) where
+      -- the i-th row is sound, and the key comes after the row before the next place
+      stepped : next ≤ n → (0 < next → compareBytes k (part s (L .width * (next - 1)) (L .keyWidth)) ≡ Greater)
+          → Walking L rule m s n k (i + 1) own next
+      stepped most after =
+          let back : i ≡ i + 1 - 1 = omega arith in
+          record {
+            inside = omega arith;
+            judged = at .judged ∙ sound-goes-on L (on .key-fits) s n rule i inside ruled risen;
+            carried = λ h. front-is ∙ ap (λ (j : ℕ). front m s (L .width * j)) back;
+            place-inside = most;
+            passed = after;
+          }
+
+      -- the i-th row is sound: the invariant at the next, where the place is behind the row if its front is below the key's
+      pub walk-goes-on : next ≡ cond (ltb own (front m k 0)) (i + 1) place → Walking L rule m s n k (i + 1) own next
+      walk-goes-on e =
+          by-test (ltb own (front m k 0))
+          (λ t. let moved : next ≡ i + 1 = e ∙ ap (λ (b : Bool). cond b (i + 1) place) t in
+          let back : next - 1 ≡ i = omega arith in
+          let less : front m s (L .width * i) < front m k 0 = omega (arith, ltb-true own (front m k 0) t, front-is) in
+          stepped (omega arith) (λ h. ap (λ (j : ℕ). compareBytes k (part s (L .width * j) (L .keyWidth))) back ∙ passes inside less))
+          (λ t. let stayed : place ≡ next = sym (e ∙ ap (λ (b : Bool). cond b (i + 1) place) t) in
+          stepped (omega (arith, at .place-inside))
+          (λ h. ap (λ (j : ℕ). compareBytes k (part s (L .width * (j - 1)) (L .keyWidth))) (sym stayed) ∙ at .passed (omega arith)))
+
+    -- the place of the key is that among the rows from a row on, if it comes after the one before that
+    skips : (p : ℕ) → ascending (rows L s n) ≡ true → p ≤ n
+        → (0 < p → compareBytes k (part s (L .width * (p - 1)) (L .keyWidth)) ≡ Greater)
+        → placeFrom 0 k (rows L s n) ≡ placeFrom p k (drop p (rows L s n))
+    skips zero order most after = refl
+    skips (suc p) order most after =
+        let back : suc p - 1 ≡ p = omega arith in
+        let key : getD (rows L s n) p (rowAt L s p) .key ≡ part s (L .width * p) (L .keyWidth) =
+        ap (λ (r : Row A). r .key) (getD-rows L s n p (rowAt L s p) (omega arith)) ∙ key-at L (on .key-fits) s p in
+        let greater : compareBytes k (part s (L .width * p) (L .keyWidth)) ≡ Greater =
+        ap (λ (j : ℕ). compareBytes k (part s (L .width * j) (L .keyWidth))) (sym back) ∙ after (omega arith) in
+        place-skips 0 p k (rows L s n) (rowAt L s p) order (omega (arith, length-rows L s n)) (rw key greater)
+        ∙ ap (λ (j : ℕ). placeFrom j k (drop (suc p) (rows L s n))) (omega arith)
+
+    -- no row is left, and the key was sought from its place on
+    pub walk-ends : {r : Seek} → n ≤ i → r ≡ placeFrom place k (drop place (rows L s n)) → r ≡ seek rule k (rows L s n)
+    unfolding soundFrom
+    walk-ends h found =
+        let sound : (every rule (rows L s n) && ascending (rows L s n)) ≡ true = at .judged ∙ sound-ends L (on .key-fits) s n rule i h in
+        let order : ascending (rows L s n) ≡ true = both-parts (every rule (rows L s n)) (ascending (rows L s n)) sound .1 in
+        found ∙ sym (seek-sound rule k (rows L s n) sound ∙ skips place order (at .place-inside) (at .passed))
