@@ -1,32 +1,29 @@
-// admit-trace: reads a trace from standard input and writes the policy's answers to standard output, each line as it comes.
-// Everything but reading and writing is in crate `trace`.
-mod standard;
-
-use trace::scan::next;
-use trace::scan::open;
+// admit-trace: reads a trace from standard input, all of it, and then writes the policy's answers to standard output.
+// Crate `trace` has the answers, `trace_output` writes them, `standard` reads.
+ghost use mathlib.Core.Path.{_≡_};
+ghost use Prim.Native.Nat.{_<_};
+ghost use lib.ListN.{length};
+ghost use Rattle.trace.specs.Scan.{longestInput};
+use standard::Input;
+use trace_output::write_answers;
 
 fn main() {
-    let mut input = [0u8; 65537];
-    let count = standard::read(&mut input);
+    let mut buffer = [0u8; 65537];
     let mut table = [0u8; 30976];
-    answer(&input[..count], &mut table);
+    answer_input(&mut buffer, &mut table);
 }
 
-// A proved loop has to end: turns are counted down from a number that no run uses up, since a scan hands out at most one line for
-// each of the input's.
-fn answer(input: &[u8], table: &mut [u8]) {
-    let mut scan = open(input);
-    let mut turns = u64::MAX;
-    while turns > 0 {
-        let handed = next(scan, input, table);
-        if handed.done {
-            return;
+// The buffer holds more than the longest input, so that a longer one is seen to be too long and not cut; the table holds the rows of
+// 256 peers. Of an input that could not be read to its end nothing is answered.
+fn answer_input(buffer: &mut [u8], table: &mut [u8])
+    requires { ⌜ longestInput < length (now buffer) ⌝ }
+    requires { ⌜ length (now table) ≡ 30976 ⌝ }
+{
+    let input = standard::read(buffer);
+    match input {
+        Input::Failed => {}
+        Input::Bytes(count) => {
+            write_answers(&buffer[..count], table);
         }
-        let line = handed.line;
-        if !standard::print(line) {
-            return;
-        }
-        scan = handed.scan;
-        turns -= 1;
     }
 }

@@ -9,18 +9,18 @@ use Rattle.replay_traces.proofs.answer_part.Tie as tie
 returns : tie.Need-returns
 returns c = search needs
 
-title-requires : tie.Need-title-requires
-title-requires c κs = search needs
+write-title-requires : tie.Need-write-title-requires
+write-title-requires c κs = search needs
 
 returns-2 : tie.Need-returns-2
 returns-2 c = search needs
 
-slice-aggregate-answer : tie.Need-slice-aggregate-answer
-slice-aggregate-answer c =
-    sym (length-take-le (c .before .before .before .before .before .before .args .length) (c .before .before .before .before .before .before .args .input .now) (omega arith))
+slice-aggregate-write-answers : tie.Need-slice-aggregate-write-answers
+slice-aggregate-write-answers c =
+    sym (length-take-le (c .before .before .before .before .before .before .args .length) (c .before .before .before .before .before .before .args .buffer .now) (omega arith))
 
-answer-requires : tie.Need-answer-requires
-answer-requires c κs = search needs
+write-answers-requires : tie.Need-write-answers-requires
+write-answers-requires c κs = search needs
 
 same-length : tie.Need-same-length
 same-length c = search needs
@@ -33,9 +33,9 @@ answer-part-spec =
     tie.close
     (tie.spec
     returns
-    title-requires
+    write-title-requires
     returns-2
-    slice-aggregate-answer
-    answer-requires
+    slice-aggregate-write-answers
+    write-answers-requires
     same-length
     returns-3)

@@ -9,10 +9,10 @@ use Rattle.replay_traces.proofs.replay.Statement.{statement}
 use Rattle.replay_traces.proofs.replay.Tie as tie
 
 abbrev Inv-loop : tie.InvT-loop
-Inv-loop input₀ table₀ number₀ input table number = (length input ≡ length input₀) × (length table ≡ length table₀)
+Inv-loop buffer₀ table₀ number₀ buffer table number = (length buffer ≡ length buffer₀) × (length table ≡ length table₀)
 
 abbrev μ-loop : tie.MeasureT-loop
-μ-loop input₀ table₀ number₀ input table number = 18446744073709551615 - number
+μ-loop buffer₀ table₀ number₀ buffer table number = 18446744073709551615 - number
 
 loop-holds : tie.Need-loop-holds Inv-loop μ-loop
 loop-holds c = (refl, refl)

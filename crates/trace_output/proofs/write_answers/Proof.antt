@@ -1,11 +1,11 @@
--- `replay_traces::answer` is safe and ends: the measure is the number of turns that are left, and the table keeps its length.
+-- `trace_output::write_answers` is safe and ends: the measure is the number of turns that are left, and the table keeps its length.
 -- Assumes nothing.
 use mathlib.Core.Path.{_≡_, refl}
 use native.Mathlib.Omega.{arith}
 use lib.ListN.{length}
 use borrow.Author.Needs.{needs}
-use Rattle.replay_traces.proofs.answer.Statement.{statement}
-use Rattle.replay_traces.proofs.answer.Tie as tie
+use Rattle.trace_output.proofs.write_answers.Statement.{statement}
+use Rattle.trace_output.proofs.write_answers.Tie as tie
 
 abbrev Inv-loop : tie.InvT-loop
 Inv-loop input table₀ scan₀ turns₀ table scan turns = length table ≡ length table₀
@@ -28,8 +28,8 @@ same-length c = search needs
 returns : tie.Need-returns Inv-loop μ-loop
 returns c = search needs
 
-print-requires : tie.Need-print-requires Inv-loop μ-loop
-print-requires c κs = search needs
+write-line-requires : tie.Need-write-line-requires Inv-loop μ-loop
+write-line-requires c κs = search needs
 
 same-length-2 : tie.Need-same-length-2 Inv-loop μ-loop
 same-length-2 c = search needs
@@ -52,8 +52,8 @@ same-length-3 c = search needs
 returns-3 : tie.Need-returns-3 Inv-loop μ-loop
 returns-3 c = search needs
 
-pub answer-spec : {M : Type 1} → statement M
-answer-spec =
+pub write-answers-spec : {M : Type 1} → statement M
+write-answers-spec =
     tie.close
     (tie.spec
     Inv-loop
@@ -63,7 +63,7 @@ answer-spec =
     next-requires
     same-length
     returns
-    print-requires
+    write-line-requires
     same-length-2
     returns-2
     sub-turns

@@ -1,0 +1,11 @@
+-- What the contracts of `standard` say of an input. Definitions only.
+use Prim.Native.Nat.{ℕ}
+use mathlib.Core.List.{List}
+use Rattle.io.specs.Counts.{Counts}
+use Rattle.standard.specs.declared.Input.{Input}
+use Rattle.standard.specs.declared.Input.the-variants as Input
+
+-- as many bytes as were read stand at the start of the buffer
+abbrev pub Within : Input → List ℕ → Type 0
+Within (Input.Bytes n) buffer = Counts n buffer
+Within Input.Failed buffer = Unit {0}
