@@ -1,0 +1,4 @@
+pub mod Layout
+pub mod SlotLaws
+pub mod LayoutLaws
+pub mod PlaceLaws
