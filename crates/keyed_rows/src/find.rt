@@ -6,14 +6,14 @@ ghost use mathlib.Core.Path.{_≡_};
 ghost use Prim.Native.Nat.{_+_, _-_, _*_, _<_, _≤_};
 ghost use lib.Dec.{ltb};
 ghost use lib.ListN.{length, drop};
-ghost use Rattle.lent_bytes.specs.LentBytes.{part};
-ghost use Rattle.pubkey.specs.Order.{compareBytes, front};
+ghost use Rattle.lent_bytes.specs.LentBytes.{part, front};
+ghost use Rattle.pubkey.specs.Order.{compareBytes};
 ghost use Rattle.table.specs.Table.{placeFrom, seek};
 ghost use Rattle.table.specs.Memory.{rows};
 ghost use Rattle.table_laws.specs.Raw.{rawLayout, anyRow};
 ghost use Rattle.table_laws.specs.Walk.{rises};
+use lent_bytes::number::front_at;
 use pubkey::Ordering;
-use pubkey::order::front_at;
 use table::seek::Seek;
 
 // Which comes first, the key or the bytes of its length at the place. Both are compared where they stand.

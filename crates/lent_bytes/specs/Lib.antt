@@ -1,2 +1,3 @@
 pub mod LentBytes
 pub mod LentBytesLaws
+pub mod FrontLaws

@@ -1,9 +1,9 @@
-// Numbers in a slice of bytes, the least byte first. A wider number is read and written by its halves, which a compiler joins
+// Numbers in a slice of bytes, the least byte first (but for fronts, which are ordered as their bytes). A wider number is read and written by its halves, which a compiler joins
 // to one load or one store.
 ghost use mathlib.Core.Path.{_≡_};
 ghost use Prim.Native.Nat.{_+_, _≤_};
 ghost use lib.ListN.{length};
-ghost use Rattle.lent_bytes.specs.LentBytes.{part, put, le, bytes};
+ghost use Rattle.lent_bytes.specs.LentBytes.{part, put, le, bytes, front};
 
 // The number that the 2 bytes at the place spell.
 pub fn get_u16(s: &[u8], at: usize) -> u16
@@ -33,6 +33,37 @@ pub fn get_u64(s: &[u8], at: usize) -> u64
     let low = get_u32(s, at);
     let high = get_u32(s, at + 4);
     (low as u64) + 0x1_0000_0000 * (high as u64)
+}
+
+// The two bytes at the place as one number, the first the highest.
+fn quarter_at(s: &[u8], at: usize) -> u16
+    requires { ⌜ at + 2 ≤ length (now s) ⌝ }
+    ensures { λ r. ⌜ r ≡ front 2 (now (s .entry)) at ⌝ }
+{
+    let high = s[at];
+    let low = s[at + 1];
+    256 * (high as u16) + (low as u16)
+}
+
+// The four bytes at the place as one number, the first the highest.
+fn half_at(s: &[u8], at: usize) -> u32
+    requires { ⌜ at + 4 ≤ length (now s) ⌝ }
+    ensures { λ r. ⌜ r ≡ front 4 (now (s .entry)) at ⌝ }
+{
+    let high = quarter_at(s, at);
+    let low = quarter_at(s, at + 2);
+    0x1_0000 * (high as u32) + (low as u32)
+}
+
+// The eight bytes at the place as one number, the first the highest: where two runs differ there, one comparison of these decides.
+// It is read by its halves, which a compiler joins to one load and a byte swap.
+pub fn front_at(s: &[u8], at: usize) -> u64
+    requires { ⌜ at + 8 ≤ length (now s) ⌝ }
+    ensures { λ r. ⌜ r ≡ front 8 (now (s .entry)) at ⌝ }
+{
+    let high = half_at(s, at);
+    let low = half_at(s, at + 4);
+    0x1_0000_0000 * (high as u64) + (low as u64)
 }
 
 // Writes the number's 2 bytes at the place.

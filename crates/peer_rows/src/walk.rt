@@ -9,9 +9,9 @@ use super::row::row_sound;
 use keyed_rows::find::in_order;
 use keyed_rows::find::place_after;
 use keyed_rows::find::place_from;
+use lent_bytes::number::front_at;
 use peer_settings::config::PeerMessagePolicyConfig;
 use pubkey::Pubkey;
-use pubkey::order::front_at;
 use table::seek::Seek;
 
 // Judges each row and whether it comes after the one before it, and passes those whose fronts are below the key's: the key is then

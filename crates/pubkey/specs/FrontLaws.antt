@@ -1,16 +1,17 @@
--- Laws of fronts: the n bytes at a place as one number, the first the highest. They decide a comparison, or what stands behind them
+-- Fronts, the n bytes at a place as one number, the first the highest, decide a comparison, or what stands behind them
 -- does. One law for every width; the code takes eight bytes at a time. Assumes nothing.
 use mathlib.Core.Logic.{⊎-elim}
 use mathlib.Core.Path.{_≡_, refl, sym, ap, _∙_}
 use mathlib.Core.List.{List}
-use Prim.Native.Nat.{ℕ, zero, suc, _+_, _*_, _^_, _≤_, _<_}
-use native.Mathlib.Nat.{zero-add, add-zero, add-suc, add-assoc, mul-assoc, pow-succ'}
+use Prim.Native.Nat.{ℕ, zero, suc, _+_, _*_, _≤_, _<_}
+use native.Mathlib.Nat.{add-zero, add-assoc}
 use native.Mathlib.Numerals.{add-one}
 use native.Mathlib.Omega.{arith}
 use lib.ListN.{length, drop, getD}
-use Rattle.lent_bytes.specs.LentBytes.{part, Bytes}
-use Rattle.lent_bytes.specs.LentBytesLaws.{length-part, getD-part, Bytes-part}
-use Rattle.pubkey.specs.Order.{_then_, compareNumbers, compareBytes, front}
+use Rattle.lent_bytes.specs.LentBytes.{part, front, Bytes}
+use Rattle.lent_bytes.specs.LentBytesLaws.{length-part, Bytes-part}
+use Rattle.lent_bytes.specs.FrontLaws.{front-part}
+use Rattle.pubkey.specs.Order.{_then_, compareNumbers, compareBytes}
 use Rattle.pubkey.specs.OrderLaws.{then-assoc, numbers-less, numbers-equal, numbers-greater, numbers-cases, compare-from}
 use Rattle.pubkey.specs.declared.Ordering.{Ordering}
 use Rattle.pubkey.specs.declared.Ordering.the-variants.{Less, Greater}
@@ -37,25 +38,6 @@ compare-digits x y c d fc fd =
     (numbers-cases x y)
 
 -- ---- fronts ----
-
--- the front of n + m bytes is that of the first n and, m bytes lower, that of the m behind them
-pub front-append : (n m : ℕ) (s : List ℕ) (at : ℕ) → front (n + m) s at ≡ 256 ^ m * front n s at + front m s (at + n)
-unfolding front
-front-append n zero s at =
-    let same : front (n + 0) s at ≡ front n s at = ap (λ (k : ℕ). front k s at) (add-zero n) in
-    omega arith
-front-append n (suc m) s at =
-    let first : ℕ = front n s at in
-    let higher : 256 ^ suc m * first ≡ 256 * (256 ^ m * first) = ap (λ (p : ℕ). p * first) (pow-succ' 256 m) ∙ mul-assoc 256 (256 ^ m) first in
-    let last : getD s (at + (n + m)) 0 ≡ getD s (at + n + m) 0 = ap (λ (i : ℕ). getD s i 0) (sym (add-assoc at n m)) in
-    ap (λ (k : ℕ). front k s at) (add-suc n m) ∙ omega (arith, front-append n m s at)
-
--- a single byte
-pub front-one : (s : List ℕ) (at : ℕ) → front 1 s at ≡ getD s at 0
-unfolding front
-front-one s at =
-    let same : getD s (at + 0) 0 ≡ getD s at 0 = ap (λ (i : ℕ). getD s i 0) (add-zero at) in
-    omega arith
 
 -- the fronts of two lists decide at a place, or what stands behind them does
 pub compare-fronts : (n : ℕ) (a b : List ℕ) (i : ℕ) → Bytes a → Bytes b → i + n ≤ length a → i + n ≤ length b
@@ -94,15 +76,6 @@ module _ (n : ℕ) (a b : List ℕ) (i : ℕ) (fa : Bytes a) (fb : Bytes b) (ha 
   fronts-equal h = by-fronts (numbers-equal h)
 
 -- ---- parts of one width ----
-
--- the front of a part is that at the part's place
-pub front-part : (n : ℕ) (s : List ℕ) (at k : ℕ) → n ≤ k → front n (part s at k) 0 ≡ front n s at
-unfolding front
-front-part zero s at k h = refl
-front-part (suc n) s at k h =
-    let byte : getD (part s at k) (0 + n) 0 ≡ getD s (at + n) 0 =
-    ap (λ (i : ℕ). getD (part s at k) i 0) (zero-add n) ∙ getD-part s at k n (omega arith) in
-    omega (arith, front-part n s at k (omega arith))
 
 module _ (n k : ℕ) (s : List ℕ) (i : ℕ) (t : List ℕ) (j : ℕ) (narrow : n ≤ k) (fs : Bytes s) (ft : Bytes t) (hs : i + k ≤ length s) (ht : j + k ≤ length t) where
   -- the part with the smaller front comes first

@@ -1,10 +1,9 @@
 -- The order of keys: bytes are compared one by one from the first, as the Rust's derived `Ord` compares them.
--- Definitions only; that it is a strict order is proved in `OrderLaws`, that fronts decide in `FrontLaws`.
+-- Definitions only; that it is a strict order is proved in `OrderLaws`, that fronts decide a comparison in `FrontLaws`.
 use mathlib.Core.Bool.{Bool, true, false}
 use mathlib.Core.List.{List, [], _∷_, _++_}
-use Prim.Native.Nat.{ℕ, zero, suc, _+_, _*_}
+use Prim.Native.Nat.{ℕ}
 use lib.Dec.{ltb}
-use lib.ListN.{getD}
 use Rattle.pubkey.specs.declared.Ordering.{Ordering}
 use Rattle.pubkey.specs.declared.Ordering.the-variants.{Less, Equal, Greater}
 use Rattle.pubkey.specs.declared.Pubkey.{Pubkey}
@@ -34,11 +33,6 @@ compareBytes [] [] = Equal
 compareBytes [] (b ∷ bs) = Less
 compareBytes (a ∷ more) [] = Greater
 compareBytes (a ∷ more) (b ∷ bs) = compareNumbers a b then compareBytes more bs
-
--- the n bytes at a place as one number, the first the highest: such numbers are ordered as the lists that have these bytes there
-unfoldable pub front : ℕ → List ℕ → ℕ → ℕ
-front zero s at = 0
-front (suc n) s at = 256 * front n s at + getD s (at + n) 0
 
 -- the byte of a side: false before true
 abbrev pub sideByte : Bool → ℕ

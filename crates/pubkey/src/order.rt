@@ -1,40 +1,10 @@
 // The comparison of two runs of bytes, once for every width: eight bytes at a time, and the last few one by one.
 ghost use mathlib.Core.Path.{_≡_};
-ghost use Prim.Native.Nat.{_+_, _≤_};
-ghost use lib.ListN.{length, drop};
-ghost use Rattle.pubkey.specs.Order.{compareBytes, front};
+ghost use Prim.Native.Nat.{_≤_};
+ghost use lib.ListN.{drop};
+ghost use Rattle.pubkey.specs.Order.{compareBytes};
 use super::Ordering;
-
-// The two bytes at the place as one number, the first the highest.
-fn quarter_at(s: &[u8], at: usize) -> u16
-    requires { ⌜ at + 2 ≤ length (now s) ⌝ }
-    ensures { λ r. ⌜ r ≡ front 2 (now (s .entry)) at ⌝ }
-{
-    let high = s[at];
-    let low = s[at + 1];
-    256 * (high as u16) + (low as u16)
-}
-
-// The four bytes at the place as one number, the first the highest.
-fn half_at(s: &[u8], at: usize) -> u32
-    requires { ⌜ at + 4 ≤ length (now s) ⌝ }
-    ensures { λ r. ⌜ r ≡ front 4 (now (s .entry)) at ⌝ }
-{
-    let high = quarter_at(s, at);
-    let low = quarter_at(s, at + 2);
-    0x1_0000 * (high as u32) + (low as u32)
-}
-
-// The eight bytes at the place as one number, the first the highest: where two runs differ there, one comparison of these decides.
-// It is read by its halves, which a compiler joins to one load and a byte swap.
-pub fn front_at(s: &[u8], at: usize) -> u64
-    requires { ⌜ at + 8 ≤ length (now s) ⌝ }
-    ensures { λ r. ⌜ r ≡ front 8 (now (s .entry)) at ⌝ }
-{
-    let high = half_at(s, at);
-    let low = half_at(s, at + 4);
-    0x1_0000_0000 * (high as u64) + (low as u64)
-}
+use lent_bytes::number::front_at;
 
 // Which of two runs of bytes comes first from the index on, byte by byte.
 fn compare_from(a: &[u8], b: &[u8], from: usize) -> Ordering

@@ -12,10 +12,10 @@ use borrow.Author.Tests.{ltb-true}
 use lib.Dec.{ltb}
 use lib.ListN.{length, drop, getD, drop-of-length-le}
 use lib.Seq.{take-take}
-use Rattle.lent_bytes.specs.LentBytes.{part, Bytes}
+use Rattle.lent_bytes.specs.LentBytes.{part, front, Bytes}
 use Rattle.lent_bytes.specs.LentBytesLaws.{part-all}
 use Rattle.pubkey.specs.declared.Ordering.the-variants.{Less, Equal, Greater}
-use Rattle.pubkey.specs.Order.{compareBytes, front}
+use Rattle.pubkey.specs.Order.{compareBytes}
 use Rattle.pubkey.specs.OrderLaws.{transitive, less-flip, greater-flip}
 use Rattle.pubkey.specs.FrontLaws.{front-less}
 use Rattle.table.specs.declared.seek.Seek.{Seek}

@@ -1,9 +1,9 @@
--- `pubkey::order::front_at` meets its contract: a front is read by its halves. Assumes nothing.
+-- `lent_bytes::number::front_at` meets its contract: a front is read by its halves. Assumes nothing.
 use native.Mathlib.Omega.{arith}
-use Rattle.pubkey.specs.FrontLaws.{front-append}
+use Rattle.lent_bytes.specs.FrontLaws.{front-append}
 use borrow.Author.Needs.{needs}
-use Rattle.pubkey.proofs.order.front_at.Statement.{statement}
-use Rattle.pubkey.proofs.order.front_at.Tie as tie
+use Rattle.lent_bytes.proofs.number.front_at.Statement.{statement}
+use Rattle.lent_bytes.proofs.number.front_at.Tie as tie
 
 half-at-requires : tie.Need-half-at-requires
 half-at-requires c κs = search needs

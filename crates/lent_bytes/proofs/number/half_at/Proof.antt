@@ -1,9 +1,9 @@
--- `pubkey::order::half_at` meets its contract: a front is read by its halves. Assumes nothing.
+-- `lent_bytes::number::half_at` meets its contract: a front is read by its halves. Assumes nothing.
 use native.Mathlib.Omega.{arith}
-use Rattle.pubkey.specs.FrontLaws.{front-append}
+use Rattle.lent_bytes.specs.FrontLaws.{front-append}
 use borrow.Author.Needs.{needs}
-use Rattle.pubkey.proofs.order.half_at.Statement.{statement}
-use Rattle.pubkey.proofs.order.half_at.Tie as tie
+use Rattle.lent_bytes.proofs.number.half_at.Statement.{statement}
+use Rattle.lent_bytes.proofs.number.half_at.Tie as tie
 
 quarter-at-requires : tie.Need-quarter-at-requires
 quarter-at-requires c κs = search needs

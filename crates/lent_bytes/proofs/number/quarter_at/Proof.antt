@@ -1,11 +1,11 @@
--- `pubkey::order::quarter_at` meets its contract: both bytes are below 256, so nothing wraps. Assumes nothing.
+-- `lent_bytes::number::quarter_at` meets its contract: both bytes are below 256, so nothing wraps. Assumes nothing.
 use Prim.Native.Nat.{_+_, _<_}
 use native.Mathlib.Omega.{arith}
 use lib.ListN.{getD}
-use Rattle.pubkey.specs.FrontLaws.{front-one, front-append}
+use Rattle.lent_bytes.specs.FrontLaws.{front-one, front-append}
 use borrow.Author.Needs.{needs}
-use Rattle.pubkey.proofs.order.quarter_at.Statement.{statement}
-use Rattle.pubkey.proofs.order.quarter_at.Tie as tie
+use Rattle.lent_bytes.proofs.number.quarter_at.Statement.{statement}
+use Rattle.lent_bytes.proofs.number.quarter_at.Tie as tie
 
 -- the two bytes that were read are below 256
 small : (c : tie.After-shared-slice-known2) → (getD (c .before .before .args .s .now) (c .before .before .args .at) 0 < 256) × (getD (c .before .before .args .s .now) (c .before .before .args .at + 1) 0 < 256)
