@@ -128,6 +128,7 @@ accepted-is s qs b h =
 
 -- ---- one layout
 
+-- the same bytes tell of one list of slots, where the number of slots is the same
 one-from : (s : List ℕ) (at from : ℕ) (qs rs : List Slot) → length qs ≡ length rs → saysFrom s at from qs ≡ true → saysFrom s at from rs ≡ true → qs ≡ rs
 unfolding saysFrom
 one-from s at from [] [] n f g = refl
