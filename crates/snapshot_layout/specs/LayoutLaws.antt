@@ -1,7 +1,7 @@
 -- Laws of the layout, for any list of parts: a snapshot is laid out as its parts say, its parts are cut out of it again, and bytes that
 -- are laid out are the snapshot of their parts. Assumes nothing.
 use mathlib.Core.Path.{_≡_, refl, sym, ap, _∙_}
-use mathlib.Core.Bool.{Bool, true, false, _&&_}
+use mathlib.Core.Bool.{Bool, true, false, _&&_, and-false}
 use mathlib.Core.List.{List, [], _∷_, _++_, append-assoc}
 use Prim.Native.Nat.{ℕ, _+_, _-_, _*_, _≤_, _<_}
 use native.Mathlib.Nat.{zero-add}
@@ -14,7 +14,7 @@ use Rattle.lent_bytes.specs.LentBytes.{part, le, bytes, put, Bytes}
 use Rattle.lent_bytes.specs.LentBytesLaws.{length-part, part-append, le-bytes-2, put-put-at}
 use Rattle.snapshot_layout.specs.Layout.{countSize, slotSize, contentsSize, Part, Slot, slotsOf, bodiesSize, snapshotSize}
 use Rattle.snapshot_layout.specs.Layout.{contentsFrom, contents, bodies, snapshotOf, slotSays, saysFrom, laidOut, cutFrom, cut, SlotsFit}
-use Rattle.snapshot_layout.specs.SlotLaws.{both, and-false, past-end, length-contentsFrom, length-contents, says-end, written-says-all, says-written-all, spelt, one-slot}
+use Rattle.snapshot_layout.specs.SlotLaws.{both, past-end, length-contentsFrom, length-contents, says-end, written-says-all, says-written-all, spelt, one-slot}
 
 -- ---- lengths
 
@@ -128,6 +128,7 @@ accepted-is s qs b h =
 
 -- ---- one layout
 
+-- the same bytes tell of one list of slots, where the number of slots is the same
 one-from : (s : List ℕ) (at from : ℕ) (qs rs : List Slot) → length qs ≡ length rs → saysFrom s at from qs ≡ true → saysFrom s at from rs ≡ true → qs ≡ rs
 unfolding saysFrom
 one-from s at from [] [] n f g = refl

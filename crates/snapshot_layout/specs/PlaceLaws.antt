@@ -19,6 +19,7 @@ first-or-later : (P : Place → Type 0) (b : Bool) (first later : Place) → P f
 first-or-later P true first later f l = f
 first-or-later P false first later f l = l
 
+-- a body that is found stands between where the bodies begin and where they end
 within-from : (kind from : ℕ) (qs : List Slot) (a e : ℕ) → placeFrom kind from qs ≡ Place.At a e → Between from a e (from + bodiesSize qs)
 unfolding placeFrom
 within-from kind from [] a e = λ h. let z : _≡_ {A = ℕ} 0 1 = cc in record { begins = omega arith; ends = omega arith; order = omega arith }

@@ -1,7 +1,7 @@
 -- Laws of the contents: their lengths, one slot written and read, and slots taken from the lists of kinds and lengths. Assumes nothing.
 use Prim.{tt}
 use mathlib.Core.Path.{_≡_, refl, sym, ap, _∙_}
-use mathlib.Core.Bool.{Bool, true, false, _&&_}
+use mathlib.Core.Bool.{Bool, true, false, _&&_, and-false}
 use mathlib.Core.List.{List, [], _∷_, _++_}
 use Prim.Native.Nat.{ℕ, zero, suc, _+_, _-_, _*_, _^_, _≤_, _<_}
 use native.Mathlib.Omega.{arith}
@@ -20,11 +20,6 @@ use Rattle.snapshot_layout.specs.Layout.{slotBytes, contentsFrom, conten
 pub both : (a b : Bool) → (a && b) ≡ true → (a ≡ true) × (b ≡ true)
 both true b h = (refl, h)
 both false b h = let z : false ≡ true = h in (z, cc)
-
--- a test whose second half fails
-pub and-false : (a : Bool) → (a && false) ≡ false
-and-false true = refl
-and-false false = refl
 
 -- ---- lengths
 
