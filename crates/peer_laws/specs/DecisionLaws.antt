@@ -1,9 +1,9 @@
 -- Laws of a decision on an entry, as runs of calls need them: whatever is decided, the entry was last used now; its buckets are charged
 -- by an Allow alone; and where both buckets pass, the ceiling decides. Assumes nothing.
 use mathlib.Core.Path.{_≡_, refl}
-use mathlib.Core.Bool.{false}
+use mathlib.Core.Bool.{true, false}
 use Prim.Native.Nat.{ℕ}
-use native.Mathlib.Omega.{arith}
+use Rattle.table.specs.TableLaws.{true-is-not-false}
 use Rattle.peer_settings.specs.declared.config.PeerMessagePolicyConfig.{PeerMessagePolicyConfig}
 use Rattle.peer_state.specs.declared.entry.Level.{Level}
 use Rattle.peer_state.specs.declared.entry.PeerMessagePolicyEntry.{PeerMessagePolicyEntry}
@@ -46,7 +46,7 @@ module _ (c : PeerMessagePolicyConfig) (i : FiberIngressBudget) (e : PeerMessage
   weighed-used size now h =
       weighed-ways (UsedAt now) c i e size now
       (λ m. violated-used now Cause.MessagesShort h)
-      (λ m b. violated-used now (Cause.BytesShort (takeBytes c (e .bytes) size now .short)) h)
+      (λ m b. violated-used now (Cause.BytesShort (takeBytes c (e .bytes) size now .missing)) h)
       (λ m b.
       roomed-used now (takeMessage c (e .messages) now .level) (takeBytes c (e .bytes) size now .level) (tryReserve c i size) h)
 
@@ -79,13 +79,13 @@ module _ (c : PeerMessagePolicyConfig) (i : FiberIngressBudget) (e : PeerMessage
   roomed-cause x m b (Room.BytesShort k) = refl
   roomed-cause x m b Room.Overflow = refl
 
-  pub judged-passes : (size now : ℕ) → takeMessage c (e .messages) now .short ≡ 0 → takeBytes c (e .bytes) size now .short ≡ 0
+  pub judged-passes : (size now : ℕ) → takeMessage c (e .messages) now .passes ≡ true → takeBytes c (e .bytes) size now .passes ≡ true
       → judged c i e size now .cause ≡ roomCause (tryReserve c i size)
   unfolding judged entryUsed
   judged-passes size now m b =
       let used : PeerMessagePolicyEntry = entryUsed e now (c .«ban_duration_ms») in
       weighed-ways (λ d. d .cause ≡ roomCause (tryReserve c i size)) c i used size now
-      (λ short. absurd (omega arith))
-      (λ n short. absurd (omega arith))
+      (λ no. absurd (true-is-not-false m no))
+      (λ n no. absurd (true-is-not-false b no))
       (λ n l.
       roomed-cause used (takeMessage c (e .messages) now .level) (takeBytes c (e .bytes) size now .level) (tryReserve c i size))

@@ -4,7 +4,7 @@ use mathlib.Core.Path.{_≡_}
 use mathlib.Core.Bool.{Bool, true, false, cond}
 use mathlib.Core.List.{List, [], _∷_}
 use Prim.Native.Nat.{ℕ}
-use lib.Dec.{ltb}
+use lib.Dec.{eqb, ltb}
 use lib.ListN.{length}
 use Rattle.pubkey.specs.declared.Pubkey.{Pubkey}
 use Rattle.refusal.specs.Refusal.{Said, gives, refused, tooShort, limitTooLarge, unsound, overflow}
@@ -40,11 +40,28 @@ abbrev pub madeSays : Made → Said
 madeSays (Made.Policy p) = gives []
 madeSays (Made.Refused n) = refused n
 
--- 0 for Allow, 1 for Disconnect, 2 for Ban
+-- what an Allow says
+abbrev pub allow : Said
+allow = gives (0 ∷ [])
+
+-- what a Disconnect says
+abbrev pub disconnect : Said
+disconnect = gives (1 ∷ [])
+
+-- what a Ban says
+abbrev pub ban : Said
+ban = gives (2 ∷ [])
+
+-- whether an answer says Allow: by its first value, whatever stands behind it
+abbrev pub isAllow : Said → Bool
+isAllow (gives []) = false
+isAllow (gives (n ∷ more)) = eqb n 0
+isAllow (refused n) = false
+
 abbrev pub admissionSays : PeerMessageAdmission → Said
-admissionSays (Admission.Allow p) = gives (0 ∷ [])
-admissionSays (Admission.Disconnect p) = gives (1 ∷ [])
-admissionSays (Admission.Ban p) = gives (2 ∷ [])
+admissionSays (Admission.Allow p) = allow
+admissionSays (Admission.Disconnect p) = disconnect
+admissionSays (Admission.Ban p) = ban
 admissionSays (Admission.Refused n) = refused n
 
 -- 1 for banned, 0 for noted

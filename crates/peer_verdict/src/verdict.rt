@@ -3,7 +3,7 @@ ghost use mathlib.Core.Path.{_≡_};
 ghost use mathlib.Core.Bool.{true};
 ghost use Prim.Native.Nat.{_≤_};
 ghost use Rattle.peer_state.specs.Entry.{entrySound};
-ghost use Rattle.peer_verdict.specs.Verdict.{shortOf, takeMessage, takeBytes, withRateWindow, withInvalidWindow, withLevels};
+ghost use Rattle.peer_verdict.specs.Verdict.{passes, missing, takeMessage, takeBytes, withRateWindow, withInvalidWindow, withLevels};
 ghost use Rattle.peer_verdict.specs.Verdict.{reachesBan, violated, roomed, weighed, judged, noted, judgedInvalid, overflows};
 use amount::Amount;
 use peer_settings::config::PeerMessagePolicyConfig;
@@ -17,9 +17,10 @@ use token_bucket::bytes::ByteRateLimitConfig;
 use token_bucket::bytes::ByteTokenBucket;
 use token_bucket::discrete::DiscreteTokenBucket;
 
-// A bucket's answer on a copy: by how much it falls short, 0 where it passes, and the level after.
+// A bucket's answer on a copy: whether it passes, by how much it falls short where it says no, and the level after.
 pub struct Take {
-    pub short: u64,
+    pub passes: bool,
+    pub missing: u64,
     pub level: Level,
 }
 
@@ -42,13 +43,23 @@ pub struct Decision {
     pub ingress: FiberIngressBudget,
 }
 
-fn short_of(answer: Consumed) -> u64
-    ensures { λ r. ⌜ r ≡ shortOf answer ⌝ }
+fn passes(answer: Consumed) -> bool
+    ensures { λ r. ⌜ r ≡ passes answer ⌝ }
+{
+    match answer {
+        Consumed::Yes => true,
+        Consumed::No(_) => false,
+        Consumed::Refused(_) => false,
+    }
+}
+
+fn missing(answer: Consumed) -> u64
+    ensures { λ r. ⌜ r ≡ missing answer ⌝ }
 {
     match answer {
         Consumed::Yes => 0,
         Consumed::No(short) => short,
-        Consumed::Refused(number) => number as u64,
+        Consumed::Refused(_) => 0,
     }
 }
 
@@ -58,7 +69,11 @@ pub fn take_message(config: PeerMessagePolicyConfig, level: Level, now_ms: u64) 
     ensures { λ r. ⌜ r ≡ takeMessage config level «now_ms» ⌝ }
 {
     if config.message_limit_disabled() {
-        return Take { short: 0, level };
+        return Take {
+            passes: true,
+            missing: 0,
+            level,
+        };
     }
     let bucket = DiscreteTokenBucket {
         interval_ms: config.peer_message_interval_ms,
@@ -70,7 +85,8 @@ pub fn take_message(config: PeerMessagePolicyConfig, level: Level, now_ms: u64) 
     let after = consumed.bucket;
     let answer = consumed.answer;
     Take {
-        short: short_of(answer),
+        passes: passes(answer),
+        missing: missing(answer),
         level: Level {
             available: after.available as u64,
             last_refill_ms: after.last_refill_ms,
@@ -96,7 +112,8 @@ pub fn take_bytes(config: PeerMessagePolicyConfig, level: Level, size: u64, now_
     let answer = consumed.answer;
     let available = after.available_bytes;
     Take {
-        short: short_of(answer),
+        passes: passes(answer),
+        missing: missing(answer),
         level: Level {
             available: available.to_u64(),
             last_refill_ms: after.last_refill_ms,
@@ -221,14 +238,14 @@ pub fn weighed(
 {
     let message_level = entry.messages;
     let messages = take_message(config, message_level, now_ms);
-    if messages.short >= 1 {
+    if !messages.passes {
         return violated(config, ingress, entry, now_ms, Cause::MessagesShort);
     }
     let byte_level = entry.bytes;
     let bytes = take_bytes(config, byte_level, size, now_ms);
     let charged = with_levels(entry, messages.level, bytes.level);
-    if bytes.short >= 1 {
-        let cause = Cause::BytesShort(bytes.short);
+    if !bytes.passes {
+        let cause = Cause::BytesShort(bytes.missing);
         return violated(config, ingress, entry, now_ms, cause);
     }
     roomed(ingress, entry, charged, ingress.try_reserve(config, size))

@@ -132,7 +132,7 @@ module _ (c : PeerMessagePolicyConfig) (config : ConfigFits c) (i : FiberIngress
       let b = takeBytes c (used .bytes) size now in
       weighed-ways DecisionFits c i used size now
       (λ short. violated-ways DecisionFits c i used now Cause.MessagesShort (λ h. load) (λ h. load))
-      (λ passed short. violated-ways DecisionFits c i used now (Cause.BytesShort (b .short)) (λ h. load) (λ h. load))
+      (λ passed short. violated-ways DecisionFits c i used now (Cause.BytesShort (b .missing)) (λ h. load) (λ h. load))
       (λ passed passes. roomed-fits used (m .level) (b .level) (tryReserve c i size) (room-fits size))
 
   invalid-fits : (e : PeerMessagePolicyEntry) (now : ℕ) → DecisionFits (judgedInvalid c i e now)
