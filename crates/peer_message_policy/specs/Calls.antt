@@ -15,6 +15,8 @@ use Rattle.peer_state.specs.declared.ingress.FiberIngressBudget.{FiberIngressBu
 use Rattle.peer_message_policy.specs.declared.policy.PeerMessagePolicy.{PeerMessagePolicy}
 use Rattle.peer_verdict.specs.declared.verdict.Cause.{Cause}
 use Rattle.peer_verdict.specs.declared.verdict.Cause.the-variants as Cause
+use Rattle.peer_verdict.specs.declared.verdict.InvalidCause.{InvalidCause}
+use Rattle.peer_verdict.specs.declared.verdict.InvalidCause.the-variants as InvalidCause
 use Rattle.peer_message_policy.specs.declared.answer.Made.{Made}
 use Rattle.peer_message_policy.specs.declared.answer.Made.the-variants as Made
 use Rattle.peer_message_policy.specs.declared.answer.PeerMessageAdmission.{PeerMessageAdmission}
@@ -150,7 +152,7 @@ admissionOf p Cause.LiveBan = Admission.Ban p
 admissionOf p Cause.BanBegun = Admission.Ban p
 admissionOf p Cause.Overflow = Admission.Refused overflow
 
-abbrev pub admissionTurn : PeerMessagePolicy → Turn → Outcome PeerMessageAdmission
+abbrev pub admissionTurn : PeerMessagePolicy → Turn Cause → Outcome PeerMessageAdmission
 admissionTurn p t = record { answer = admissionOf (policyAfter p (t .ingress) (t .change)) (t .cause); change = t .change }
 
 unfoldable pub admitOutcome : PeerMessagePolicy → List ℕ → Pubkey → ℕ → ℕ → Outcome PeerMessageAdmission
@@ -161,18 +163,13 @@ admitOutcome p s k size now =
 unfoldable pub AdmitMeets : PeerMessagePolicy → List ℕ → Pubkey → ℕ → ℕ → PeerMessageAdmission → List ℕ → Type 0
 AdmitMeets p before k size now r after = Meets r before after (p .rows) (admitOutcome p before k size now)
 
--- a ban, live or begun, is answered Banned; anything else is noted
-abbrev pub invalidOf : PeerMessagePolicy → Cause → Invalid
-invalidOf p Cause.Allowed = Invalid.Noted p
-invalidOf p Cause.MessagesShort = Invalid.Noted p
-invalidOf p (Cause.BytesShort k) = Invalid.Noted p
-invalidOf p Cause.NoSlot = Invalid.Noted p
-invalidOf p (Cause.CeilingShort k) = Invalid.Noted p
-invalidOf p Cause.LiveBan = Invalid.Banned p
-invalidOf p Cause.BanBegun = Invalid.Banned p
-invalidOf p Cause.Overflow = Invalid.Noted p
+-- a ban, live or begun, is answered Banned
+abbrev pub invalidOf : PeerMessagePolicy → InvalidCause → Invalid
+invalidOf p InvalidCause.Noted = Invalid.Noted p
+invalidOf p InvalidCause.LiveBan = Invalid.Banned p
+invalidOf p InvalidCause.BanBegun = Invalid.Banned p
 
-abbrev pub invalidTurn : PeerMessagePolicy → Turn → Outcome Invalid
+abbrev pub invalidTurn : PeerMessagePolicy → Turn InvalidCause → Outcome Invalid
 invalidTurn p t = record { answer = invalidOf (policyAfter p (t .ingress) (t .change)) (t .cause); change = t .change }
 
 unfoldable pub recordInvalidOutcome : PeerMessagePolicy → List ℕ → Pubkey → ℕ → Outcome Invalid
