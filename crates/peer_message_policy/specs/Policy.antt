@@ -1,5 +1,5 @@
 -- PeerMessagePolicy of peer_message_policy.rs, on settings, the load in flight and a list of rows. Definitions only.
-use mathlib.Core.Bool.{Bool, false, _&&_, _||_, cond}
+use mathlib.Core.Bool.{Bool, false, _&&_, cond}
 use mathlib.Core.List.{List}
 use mathlib.Core.Option.{Option, none, some}
 use Prim.Native.Nat.{ℕ, _*_, max}
@@ -16,8 +16,9 @@ use Rattle.peer_verdict.specs.declared.verdict.Decision.{Decision}
 use Rattle.peer_verdict.specs.declared.verdict.InvalidCause.{InvalidCause}
 use Rattle.peer_verdict.specs.declared.verdict.InvalidCause.the-variants as InvalidCause
 use Rattle.peer_verdict.specs.declared.verdict.InvalidDecision.{InvalidDecision}
-use Rattle.peer_settings.specs.Config.{unlimited, limit}
+use Rattle.peer_settings.specs.Config.{limit}
 use Rattle.peer_state.specs.Entry.{entrySound, entryNew, entryIsBanned, entryIsSpent, entryExpireWindows}
+use Rattle.peer_state.specs.Ingress.{ingressSound}
 use Rattle.peer_verdict.specs.Verdict.{judged, judgedInvalid, overflows}
 use Rattle.peer_rows.specs.Rows.{Peers, peerLayout}
 use Rattle.peer_table.specs.Room.{makeRoom}
@@ -33,10 +34,7 @@ rowsOf p s = rows peerLayout s (p .rows)
 unfoldable pub policySound : PeerMessagePolicy → Bool
 policySound p =
     leb (p .config .«max_tracked_peers») 1024
-    && (leb (p .rows) (limit (p .config))
-    && (unlimited (p .config)
-    || (leb (p .ingress .«in_flight_messages») (p .config .«max_in_flight_messages»)
-    && leb (p .ingress .«in_flight_bytes») (p .config .«max_in_flight_bytes»))))
+    && (leb (p .rows) (limit (p .config)) && ingressSound (p .config) (p .ingress))
 
 -- lent memory has room for as many rows as the limit says
 abbrev pub longEnough : PeerMessagePolicyConfig → List ℕ → Bool
