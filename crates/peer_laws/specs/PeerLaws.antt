@@ -10,7 +10,7 @@ use Prim.Native.Nat.{ℕ, _≤_, _<_}
 use native.Mathlib.Omega.{arith}
 use borrow.Author.Tests.{leb-true, ltb-true}
 use lib.Dec.{leb, ltb, eqb}
-use Rattle.table.specs.Table.{ascending, look, store}
+use Rattle.table.specs.Table.{ascending, look, store, erase}
 use Rattle.table.specs.TableLaws.{by-test, both-parts, Sub, sub-erase}
 use Rattle.table.specs.LookLaws.{look-store-same, look-store-other}
 use Rattle.peer_settings.specs.declared.config.PeerMessagePolicyConfig.{PeerMessagePolicyConfig}
@@ -25,7 +25,7 @@ use Rattle.peer_state.specs.Entry.{entryNew, entryIsBanned, entryIsSpent, entry
 use Rattle.peer_state.specs.EntryLaws.{chosen}
 use Rattle.peer_rows.specs.Rows.{Peers}
 use Rattle.peer_table.specs.Room.{makeRoom}
-use Rattle.peer_table.specs.RoomLaws.{sub-look, sub-makeRoom}
+use Rattle.peer_table.specs.RoomLaws.{sub-look, sub-trans, sub-makeRoom}
 use Rattle.peer_verdict.specs.Verdict.{judged, judgedInvalid, overflows}
 use Rattle.peer_message_policy.specs.Policy.{Change, become, Turn, unchanged, turnOf, carriedOut, notedDown, Update, banned, update, entryForUpdate, admit, recordInvalid, isBannedChange, disconnectedChange}
 use Rattle.peer_message_policy.specs.Calls.{changedRows}
@@ -78,12 +78,14 @@ module _ (j k : List ℕ) (other : j ≡ k → ⊥) (rs : Peers) (order : ascend
   UpdateFate banned = Unit {0}
   UpdateFate (update e xs) = Fate (look j rs) (look j xs)
 
-  update-fate : (c : PeerMessagePolicyConfig) (now : ℕ) (found : Option PeerMessagePolicyEntry) → UpdateFate (entryForUpdate c now rs found)
+  update-fate : (c : PeerMessagePolicyConfig) (now : ℕ) (found : Option PeerMessagePolicyEntry) → UpdateFate (entryForUpdate c now rs k found)
   unfolding entryForUpdate
   update-fate c now none = sub-fate j (sub-makeRoom c now rs) order
   update-fate c now (some e) =
       chosen UpdateFate (entryIsBanned e now) (λ t. tt)
-      (λ t. chosen UpdateFate (entryIsSpent e now) (λ u. stayed) (λ u. stayed))
+      (λ t.
+      chosen UpdateFate (entryIsSpent e now)
+      (λ u. sub-fate j (sub-trans (sub-makeRoom c now (erase k rs)) (sub-erase k rs)) order) (λ u. stayed))
 
   turn-fate : {C : Type 0} (i : FiberIngressBudget) (live : C) (goOn : PeerMessagePolicyEntry → Peers → Turn C)
       → ((e : PeerMessagePolicyEntry) (xs : Peers) → Fate (look j rs) (look j xs) → After j rs (goOn e xs .change))
@@ -100,7 +102,7 @@ module _ (j k : List ℕ) (other : j ≡ k → ⊥) (rs : Peers) (order : ascend
       let d = judged c i e size now in
       chosen (λ (t : Turn Cause). After j rs (t .change)) (overflows (d .cause)) (λ o. stayed)
       (λ o. rw (look-store-other k (d .entry) j other xs) h))
-      (entryForUpdate c now rs (look k rs)) (update-fate c now (look k rs))
+      (entryForUpdate c now rs k (look k rs)) (update-fate c now (look k rs))
 
   -- record_invalid
   pub record-invalid-fate : (c : PeerMessagePolicyConfig) (i : FiberIngressBudget) (now : ℕ) → After j rs (recordInvalid c i rs k now .change)
@@ -108,7 +110,7 @@ module _ (j k : List ℕ) (other : j ≡ k → ⊥) (rs : Peers) (order : ascend
   record-invalid-fate c i now =
       turn-fate i InvalidCause.LiveBan (λ e xs. notedDown i k xs (judgedInvalid c e now))
       (λ e xs h. rw (look-store-other k (judgedInvalid c e now .entry) j other xs) h)
-      (entryForUpdate c now rs (look k rs)) (update-fate c now (look k rs))
+      (entryForUpdate c now rs k (look k rs)) (update-fate c now (look k rs))
 
 -- ════ The peer's own turns ════════════════════════════════════════════════════════════════════════
 
@@ -123,17 +125,17 @@ module _ {C : Type 0} (k : List ℕ) (rs : Peers) (c : PeerMessagePolicyConfig) 
     (liveBan : C) (goOn : PeerMessagePolicyEntry → Peers → Turn C) (P : Turn C → Type 0)
     (under : (e : PeerMessagePolicyEntry) → look k rs ≡ some e → entryIsBanned e now ≡ true → P (unchanged i liveBan))
     (landed : (e : PeerMessagePolicyEntry) (xs : Peers) → Lands c now (look k rs) e → P (goOn e xs)) where
-  ways-by : (found : Option PeerMessagePolicyEntry) → look k rs ≡ found → P (turnOf i liveBan goOn (entryForUpdate c now rs found))
+  ways-by : (found : Option PeerMessagePolicyEntry) → look k rs ≡ found → P (turnOf i liveBan goOn (entryForUpdate c now rs k found))
   unfolding entryForUpdate
   ways-by none l = landed (entryNew c now) (makeRoom c now rs) (absent l refl)
   ways-by (some e) l =
       let Q : Update → Type 0 = λ u. P (turnOf i liveBan goOn u) in
       chosen Q (entryIsBanned e now) (λ t. under e l t)
       (λ t.
-      chosen Q (entryIsSpent e now) (λ u. landed (entryNew c now) rs (remade e l u refl))
+      chosen Q (entryIsSpent e now) (λ u. landed (entryNew c now) (makeRoom c now (erase k rs)) (remade e l u refl))
       (λ u. landed e rs (kept l u)))
 
-  turn-ways : P (turnOf i liveBan goOn (entryForUpdate c now rs (look k rs)))
+  turn-ways : P (turnOf i liveBan goOn (entryForUpdate c now rs k (look k rs)))
   turn-ways = ways-by (look k rs) refl
 
 -- an own admit: under a live ban nothing changes; refusal 4 undoes the decision; any other is carried out

@@ -54,6 +54,7 @@ use Rattle.peer_message_policy.specs.Policy.{
   disconnectedChange,
 }
 use Rattle.peer_message_policy.specs.Calls.{Memory, changedRows, policyAfter}
+use Rattle.peer_message_policy.specs.UpdateLaws.{spent-in-place}
 use Rattle.peer_laws.specs.KeyedLaws.{Key, Keyed, keyed-rows, keyed-sub, keyed-store, length-laid-keyed, bytes-laid-keyed}
 
 -- ════ Soundness, part by part ═════════════════════════════════════════════════════════════════════
@@ -210,7 +211,7 @@ module _ (c : PeerMessagePolicyConfig) where
 
   module _ (now : ℕ) (k : List ℕ) (rs : Peers) (key : Key k) (h : RowsHold c rs) where
     -- the same, by what is found
-    for-update-by : (found : Option PeerMessagePolicyEntry) → look k rs ≡ found → UpdateHolds k (entryForUpdate c now rs found)
+    for-update-by : (found : Option PeerMessagePolicyEntry) → look k rs ≡ found → UpdateHolds k (entryForUpdate c now rs k found)
     unfolding entryForUpdate
     for-update-by none l =
         let left : Peers = makeRoom c now rs in
@@ -227,10 +228,11 @@ module _ (c : PeerMessagePolicyConfig) where
         in
         chosen (UpdateHolds k) (entryIsBanned e now) (λ t. tt)
         (λ t.
-        chosen (UpdateHolds k) (entryIsSpent e now) (λ u. (new-sound c now, over))
+        chosen (UpdateHolds k) (entryIsSpent e now)
+        (λ u. (new-sound c now, λ x y. rw (spent-in-place c now k rs (h .few) (h .order) l x) (over x y)))
         (λ u. (look-rule (entrySound c) k rs (h .rules) l, over)))
 
-    for-update : UpdateHolds k (entryForUpdate c now rs (look k rs))
+    for-update : UpdateHolds k (entryForUpdate c now rs k (look k rs))
     for-update = for-update-by (look k rs) refl
 
   -- what holds of a turn: rows and load
@@ -261,14 +263,14 @@ module _ (c : PeerMessagePolicyConfig) where
           turn-holds Cause.LiveBan (λ e xs. carriedOut i k xs (judged c i e size now))
           (λ e xs u.
           carried-holds xs (judged c i e size now) (judged-sound c i e size now (u .0)) (judged-load c i e size now within) (u .1))
-          (entryForUpdate c now rs (look k rs)) (for-update now k rs key h)
+          (entryForUpdate c now rs k (look k rs)) (for-update now k rs key h)
 
       pub record-invalid-holds : (now : ℕ) → TurnHolds (recordInvalid c i rs k now)
       unfolding recordInvalid
       record-invalid-holds now =
           turn-holds InvalidCause.LiveBan (λ e xs. notedDown i k xs (judgedInvalid c e now))
           (λ e xs u. record { rows = u .1 (judgedInvalid c e now .entry) (judged-invalid-sound c e now (u .0)); load = within })
-          (entryForUpdate c now rs (look k rs)) (for-update now k rs key h)
+          (entryForUpdate c now rs k (look k rs)) (for-update now k rs key h)
 
   module _ (k : List ℕ) (rs : Peers) (key : Key k) (h : RowsHold c rs) (now : ℕ) where
     pub is-banned-holds : (found : Option PeerMessagePolicyEntry) → ChangeHolds c (isBannedChange rs k now found)
@@ -303,4 +305,4 @@ module _ (c : PeerMessagePolicyConfig) (i : FiberIngressBudget) (k : List ℕ) (
   -- refusal 4 undoes everything
   pub admit-undone : (rs : Peers) → Undone i (admit c i rs k size now)
   unfolding admit
-  admit-undone rs = undone-by (entryForUpdate c now rs (look k rs))
+  admit-undone rs = undone-by (entryForUpdate c now rs k (look k rs))

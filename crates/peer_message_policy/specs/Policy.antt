@@ -74,13 +74,15 @@ pub data Update : Type 0 where
   banned : Update
   update : PeerMessagePolicyEntry → Peers → Update
 
--- is_banned and entry_for_update: a spent ban drops the entry, which is made anew in its place, since the drop leaves room; a peer
--- without an entry gets room
-unfoldable pub entryForUpdate : PeerMessagePolicyConfig → ℕ → Peers → Option PeerMessagePolicyEntry → Update
-entryForUpdate c now rs none = update (entryNew c now) (makeRoom c now rs)
-entryForUpdate c now rs (some e) =
-    cond (entryIsBanned e now) banned
-    (cond (entryIsSpent e now) (update (entryNew c now) rs) (update e rs))
+-- entry_for_update of a peer that has no entry: room is made, and a new one is made
+abbrev pub newEntry : PeerMessagePolicyConfig → ℕ → Peers → Update
+newEntry c now rs = update (entryNew c now) (makeRoom c now rs)
+
+-- is_banned, and if it says no, entry_for_update: a spent ban drops the entry, so that the peer has none
+unfoldable pub entryForUpdate : PeerMessagePolicyConfig → ℕ → Peers → List ℕ → Option PeerMessagePolicyEntry → Update
+entryForUpdate c now rs k none = newEntry c now rs
+entryForUpdate c now rs k (some e) =
+    cond (entryIsBanned e now) banned (cond (entryIsSpent e now) (newEntry c now (erase k rs)) (update e rs))
 
 -- a live ban ends the call; else it goes on with the entry and the rows
 abbrev pub turnOf : {C : Type 0} → FiberIngressBudget → C → (PeerMessagePolicyEntry → Peers → Turn C) → Update → Turn C
@@ -95,7 +97,7 @@ carriedOut i k rs d =
 -- admit
 unfoldable pub admit : PeerMessagePolicyConfig → FiberIngressBudget → Peers → List ℕ → ℕ → ℕ → Turn Cause
 admit c i rs k size now =
-    turnOf i Cause.LiveBan (λ e xs. carriedOut i k xs (judged c i e size now)) (entryForUpdate c now rs (look k rs))
+    turnOf i Cause.LiveBan (λ e xs. carriedOut i k xs (judged c i e size now)) (entryForUpdate c now rs k (look k rs))
 
 -- an invalid message's decision is carried out; the load stays as it is
 abbrev pub notedDown : FiberIngressBudget → List ℕ → Peers → InvalidDecision → Turn InvalidCause
@@ -104,7 +106,7 @@ notedDown i k rs d = inserted i k rs (d .cause) (d .entry)
 -- record_invalid
 unfoldable pub recordInvalid : PeerMessagePolicyConfig → FiberIngressBudget → Peers → List ℕ → ℕ → Turn InvalidCause
 recordInvalid c i rs k now =
-    turnOf i InvalidCause.LiveBan (λ e xs. notedDown i k xs (judgedInvalid c e now)) (entryForUpdate c now rs (look k rs))
+    turnOf i InvalidCause.LiveBan (λ e xs. notedDown i k xs (judgedInvalid c e now)) (entryForUpdate c now rs k (look k rs))
 
 -- is_banned, the answer
 abbrev pub isBanned : Option PeerMessagePolicyEntry → ℕ → Bool

@@ -138,7 +138,7 @@ module _ (c : PeerMessagePolicyConfig) (config : ConfigFits c) (i : FiberIngress
 
   pub admit-fits : (rs : Peers) (k : List ℕ) (size now : ℕ) → LoadFits (admit c i rs k size now .ingress)
   unfolding admit carriedOut
-  admit-fits rs k size now = by (entryForUpdate c now rs (look k rs))
+  admit-fits rs k size now = by (entryForUpdate c now rs k (look k rs))
     where
       by : (u : Update) → LoadFits (turnOf i Cause.LiveBan (λ e xs. carriedOut i k xs (judged c i e size now)) u .ingress)
       by banned = load
@@ -148,7 +148,7 @@ module _ (c : PeerMessagePolicyConfig) (config : ConfigFits c) (i : FiberIngress
   -- an invalid message leaves the load as it is
   pub record-invalid-fits : (rs : Peers) (k : List ℕ) (now : ℕ) → LoadFits (recordInvalid c i rs k now .ingress)
   unfolding recordInvalid
-  record-invalid-fits rs k now = by (entryForUpdate c now rs (look k rs))
+  record-invalid-fits rs k now = by (entryForUpdate c now rs k (look k rs))
     where
       by : (u : Update) → LoadFits (turnOf i InvalidCause.LiveBan (λ e xs. notedDown i k xs (judgedInvalid c e now)) u .ingress)
       by banned = load

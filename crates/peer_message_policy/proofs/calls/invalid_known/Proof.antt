@@ -1,8 +1,8 @@
 -- `calls::invalid_known` meets its contract. Assumes nothing.
 use mathlib.Core.Path.{sym, _∙_}
 use Rattle.peer_message_policy.specs.Policy.{rowsOf}
-use Rattle.peer_message_policy.proofs.Judged.{known-fits, known-look}
-use Rattle.peer_message_policy.proofs.Turns.{update-known, invalid-live, invalid-carried}
+use Rattle.peer_message_policy.proofs.Judged.{few-read, in-order, known-fits, known-look}
+use Rattle.peer_message_policy.proofs.Turns.{update-known, left-same, invalid-live, invalid-carried}
 use borrow.Author.Needs.{needs}
 use Rattle.peer_message_policy.proofs.calls.invalid_known.Statement.{statement}
 use Rattle.peer_message_policy.proofs.calls.invalid_known.Tie as tie
@@ -44,7 +44,8 @@ returns-2 : tie.Need-returns-2
 returns-2 c = let a = c .before .before .before .before .before .before .before .before .before .before .before .before .before .before .before .args in
     let e = c .before .before .before .before .before .before .before .before .before .before .entry-at .result in
     let x = c .before .before .before .before .before .before .before .entry-to-judge .result in
-    invalid-carried (a .p) (a .table .now) (a .peer) (a .now-ms) (c .before .before .before .before .before .before .before .before .before .before .before .before .before .before .before .pre .is-sound) x (rowsOf (a .p) (a .table .now)) (update-known (a .p .config) (a .now-ms) (rowsOf (a .p) (a .table .now)) (a .peer .bytes) e (known-look (a .p) (a .table .now) (a .peer .bytes) (a .index) (c .before .before .before .before .before .before .before .before .before .before .before .before .before .before .before .pre) e (c .before .before .before .before .before .before .before .before .before .before .entry-at .ensures)) (sym (c .before .before .before .before .before .before .before .before .before .is-banned .ensures) ∙ c .before .before .before .before .before .before .before .before .if1 .left) x (c .before .before .before .before .before .before .before .entry-to-judge .ensures)) (c .before .before .before .before .before .before .judged-invalid .result) (c .before .before .before .before .before .before .judged-invalid .ensures) (c .before .before .before .store-known .result) _ (c .before .before .before .store-known .ensures) (c .invalid-of2 .result) (c .invalid-of2 .ensures)
+    let u = update-known (a .p .config) (a .now-ms) (rowsOf (a .p) (a .table .now)) (a .peer .bytes) (few-read (a .p) (a .table .now) (c .before .before .before .before .before .before .before .before .before .before .before .before .before .before .before .pre .is-sound)) (in-order (a .p) (a .table .now) (c .before .before .before .before .before .before .before .before .before .before .before .before .before .before .before .pre .is-sound)) e (known-look (a .p) (a .table .now) (a .peer .bytes) (a .index) (c .before .before .before .before .before .before .before .before .before .before .before .before .before .before .before .pre) e (c .before .before .before .before .before .before .before .before .before .before .entry-at .ensures)) (sym (c .before .before .before .before .before .before .before .before .before .is-banned .ensures) ∙ c .before .before .before .before .before .before .before .before .if1 .left) x (c .before .before .before .before .before .before .before .entry-to-judge .ensures) in
+    invalid-carried (a .p) (a .table .now) (a .peer) (a .now-ms) (c .before .before .before .before .before .before .before .before .before .before .before .before .before .before .before .pre .is-sound) x (u .among) (u .found) (c .before .before .before .before .before .before .judged-invalid .result) (c .before .before .before .before .before .before .judged-invalid .ensures) (c .before .before .before .store-known .result) _ (left-same (u .stores _) (c .before .before .before .store-known .ensures)) (c .invalid-of2 .result) (c .invalid-of2 .ensures)
 
 pub invalid-known-spec : {M : Type 1} → statement M
 invalid-known-spec =
