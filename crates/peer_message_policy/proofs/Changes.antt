@@ -9,10 +9,10 @@ use lib.Dec.{eqb, ltb, leb}
 use lib.ListN.{length, take, drop, take-append-drop}
 use Rattle.lent_bytes.specs.LentBytes.{part, put, zeros, Bytes}
 use Rattle.refusal.specs.Refusal.{tooShort, limitTooLarge}
-use Rattle.table.specs.Table.{Row, store, erase, removeAt}
+use Rattle.table.specs.Table.{Row, store, erase, insertAt, removeAt}
 use Rattle.table.specs.Memory.{rowOf, rows, laid, Holds}
 use Rattle.table.specs.TableLaws.{both-parts, Sub, done, keep, leave}
-use Rattle.table.specs.PlaceLaws.{at-key, at-store, at-erase, at-length-store, at-length-erase}
+use Rattle.table.specs.PlaceLaws.{at-key, gap-inside, gap-store, gap-length-store, at-store, at-erase, at-length-store, at-length-erase}
 use Rattle.table.specs.MemoryLaws.{AllFit, length-rows, key-rows, key-rowOf, fit-rows, rows-cons, holds, laid-rows, laid-laid, put-clear}
 use Rattle.peer_settings.specs.declared.config.PeerMessagePolicyConfig.{PeerMessagePolicyConfig}
 use Rattle.peer_state.specs.declared.entry.PeerMessagePolicyEntry.{PeerMessagePolicyEntry}
@@ -24,11 +24,11 @@ use Rattle.peer_rows.specs.Rows.{Peers, peerLayout}
 use Rattle.peer_rows.specs.Peer.{peerRow}
 use Rattle.peer_table.specs.Room.{makeRoom}
 use Rattle.peer_rows.specs.RowsLaws.{EntryFits, peer-faithful}
-use Rattle.peer_table.specs.RoomLaws.{room-for-one, length-makeRoom, sub-makeRoom}
+use Rattle.peer_table.specs.RoomLaws.{room-free, room-for-one, length-makeRoom, sub-makeRoom}
 use Rattle.peer_message_policy.specs.declared.policy.PeerMessagePolicy.{PeerMessagePolicy}
 use Rattle.peer_message_policy.specs.declared.answer.Made.the-variants as Made
 use Rattle.peer_message_policy.specs.Policy.{rowsOf}
-use Rattle.peer_message_policy.specs.Calls.{fresh, newOutcome, NewMeets}
+use Rattle.peer_message_policy.specs.Calls.{policyWith, fresh, newOutcome, NewMeets}
 use Rattle.peer_message_policy.specs.Carry.{Known, Unknown, Left}
 use Rattle.peer_message_policy.proofs.Judged.{anyRow, entryAt, known-inside, rows-fit, few-rows, limit-fits, long-enough, too-short}
 
@@ -54,20 +54,20 @@ module _ (p : PeerMessagePolicy) (s k : List ℕ) (i : ℕ) (h : Known p s k i) 
   count-store e = sym (at-length-store k (rowsOf p s) (h .place) e ∙ length-rows peerLayout s (p .rows))
 
   -- an entry written over the peer's row
-  pub left-over : (load : FiberIngressBudget) (t : List ℕ) (x e : PeerMessagePolicyEntry) → x ≡ e → Holds peerLayout s t (p .rows) (over s (p .rows) i x) → Left p load s (store k e (rowsOf p s)) (record { config = p .config; ingress = load; rows = p .rows }) t
+  pub left-over : (load : FiberIngressBudget) (t : List ℕ) (x e : PeerMessagePolicyEntry) → x ≡ e → Holds peerLayout s t (p .rows) (over s (p .rows) i x) → Left p load s (store k e (rowsOf p s)) (policyWith p load (p .rows)) t
   left-over load t x e same held =
       record {
-        policy = ap (λ (n : ℕ). record { config = p .config; ingress = load; rows = n }) (count-store e);
+        policy = ap (policyWith p load) (count-store e);
         memory = holds-same (over-store x ∙ ap (λ (y : PeerMessagePolicyEntry). store k y (rowsOf p s)) same) held;
       }
 
   -- the peer's row taken out
-  pub left-out : (t : List ℕ) → Holds peerLayout s t (p .rows) (removeAt i (rowsOf p s)) → Left p (p .ingress) s (erase k (rowsOf p s)) (record { config = p .config; ingress = p .ingress; rows = p .rows - 1 }) t
+  pub left-out : (t : List ℕ) → Holds peerLayout s t (p .rows) (removeAt i (rowsOf p s)) → Left p (p .ingress) s (erase k (rowsOf p s)) (policyWith p (p .ingress) (p .rows - 1)) t
   left-out t held =
       let fewer : p .rows - 1 ≡ length (erase k (rowsOf p s)) =
       omega (arith, at-length-erase k (rowsOf p s) (h .place), length-rows peerLayout s (p .rows)) in
       record {
-        policy = ap (λ (n : ℕ). record { config = p .config; ingress = p .ingress; rows = n }) fewer;
+        policy = ap (policyWith p (p .ingress)) fewer;
         memory = holds-same (sym (at-erase k (rowsOf p s) (h .place))) held;
       }
 
@@ -87,7 +87,7 @@ module _ (p : PeerMessagePolicy) (s k : List ℕ) (i : ℕ) (h : Known p s k i) 
   left-alone b e read =
       let fits : 121 * p .rows ≤ length s = rows-fit p s (h .is-sound) in
       record {
-        policy = ap (λ (n : ℕ). record { config = p .config; ingress = p .ingress; rows = n }) (count-store e);
+        policy = ap (policyWith p (p .ingress)) (count-store e);
         memory =
             holds-same (sym (store-again e read))
             (holds peer-faithful s s (p .rows) (rowsOf p s) (fit-rows peer-faithful s (p .rows) b fits) (sym (laid-rows peer-faithful s (p .rows) b fits)));
@@ -141,8 +141,25 @@ module _ (p : PeerMessagePolicy) (s k : List ℕ) (i : ℕ) (h : Unknown p s k i
   one-more-fits n e =
       omega (arith, room-for-one (p .config) now (rowsOf p s) (omega (arith, few-rows p s (h .is-sound), length-rows peerLayout s (p .rows))), limit-fits p s (h .is-sound))
 
+  -- the gap is inside, and where the table is not full there is room for a row
+  pub gap-fits : i ≤ p .rows
+  gap-fits = omega (arith, gap-inside k (rowsOf p s) (h .place), length-rows peerLayout s (p .rows))
+
+  pub row-fits : p .rows < limit (p .config) → 121 * (p .rows + 1) ≤ length s
+  row-fits free = omega (arith, free, limit-fits p s (h .is-sound))
+
+  -- an entry put in at the gap, where nothing had to go
+  pub left-gap : (load : FiberIngressBudget) (t : List ℕ) (e : PeerMessagePolicyEntry) → p .rows < limit (p .config) → Holds peerLayout s t (p .rows) (insertAt i (peerRow k e) (rowsOf p s)) → Left p load s (store k e roomed) (policyWith p load (p .rows + 1)) t
+  left-gap load t e free held =
+      let all : roomed ≡ rowsOf p s = room-free (p .config) now (rowsOf p s) (omega (arith, free, length-rows peerLayout s (p .rows))) in
+      let stored : store k e roomed ≡ insertAt i (peerRow k e) (rowsOf p s) =
+      ap (store k e) all ∙ gap-store k (rowsOf p s) (h .place) e in
+      let more : p .rows + 1 ≡ length (store k e roomed) =
+      omega (arith, ap (λ (l : Peers). length (store k e l)) all, gap-length-store k (rowsOf p s) (h .place) e, length-rows peerLayout s (p .rows)) in
+      record { policy = ap (policyWith p load) more; memory = holds-same (sym stored) held }
+
   -- an entry stored among the rows that were left
-  pub left-new : (load : FiberIngressBudget) → Bytes s → (t : List ℕ) (n : ℕ) → Holds peerLayout s t (p .rows) roomed × (n ≡ length roomed) → (u : List ℕ) (m : ℕ) (e : PeerMessagePolicyEntry) → Holds peerLayout t u n (store k e (rows peerLayout t n)) × (m ≡ length (store k e (rows peerLayout t n))) → Left p load s (store k e roomed) (record { config = p .config; ingress = load; rows = m }) u
+  pub left-new : (load : FiberIngressBudget) → Bytes s → (t : List ℕ) (n : ℕ) → Holds peerLayout s t (p .rows) roomed × (n ≡ length roomed) → (u : List ℕ) (m : ℕ) (e : PeerMessagePolicyEntry) → Holds peerLayout t u n (store k e (rows peerLayout t n)) × (m ≡ length (store k e (rows peerLayout t n))) → Left p load s (store k e roomed) (policyWith p load m) u
   left-new load b t n first u m e second =
       let fit : AllFit peerLayout EntryFits roomed =
       sub-fit (sub-makeRoom (p .config) now (rowsOf p s)) (fit-rows peer-faithful s (p .rows) b (rows-fit p s (h .is-sound))) in
@@ -153,7 +170,7 @@ module _ (p : PeerMessagePolicy) (s k : List ℕ) (i : ℕ) (h : Unknown p s k i
       subst (λ (c : ℕ). Holds peerLayout t u c stored) (first .1) (holds-same (ap (store k e) left) (second .0)) in
       record {
         policy =
-            ap (λ (c : ℕ). record { config = p .config; ingress = load; rows = c })
+            ap (policyWith p load)
             (second .1 ∙ ap (λ (l : Peers). length (store k e l)) left);
         memory =
             record {

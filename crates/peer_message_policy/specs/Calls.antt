@@ -102,9 +102,13 @@ abbrev pub rowsAfter : ℕ → Change → ℕ
 rowsAfter n same = n
 rowsAfter n (become rs) = length rs
 
+-- the policy with this load in flight and so many rows
+abbrev pub policyWith : PeerMessagePolicy → FiberIngressBudget → ℕ → PeerMessagePolicy
+policyWith p i n = record { config = p .config; ingress = i; rows = n }
+
 -- the policy with this load in flight, after a change of its rows
 abbrev pub policyAfter : PeerMessagePolicy → FiberIngressBudget → Change → PeerMessagePolicy
-policyAfter p i change = record { config = p .config; ingress = i; rows = rowsAfter (p .rows) change }
+policyAfter p i change = policyWith p i (rowsAfter (p .rows) change)
 
 -- lent memory that held n rows, after a change: every byte of it
 abbrev pub Memory : List ℕ → List ℕ → ℕ → Change → Type 0

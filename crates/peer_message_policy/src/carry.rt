@@ -58,16 +58,12 @@ pub(crate) fn store_known(
     requires { ⌜ Known p (now table) (peer .bytes) index ⌝ }
     ensures { λ r. ⌜ Left p ingress (now (table .entry)) (store (peer .bytes) entry (rowsOf p (now (table .entry)))) r (now (table .exit)) ⌝ }
 {
-    let config = p.config;
     peer_table::places::overwrite_at(table, p.rows as usize, index, entry);
-    PeerMessagePolicy {
-        config,
-        ingress,
-        rows: p.rows,
-    }
+    p.after(ingress, p.rows)
 }
 
-// Makes room for a peer that has no row, and stores its decided entry.
+// Stores the decided entry of a peer that has no row: at its gap, or where the table is full, in room that is made for it. Rows go
+// then, so that its place is sought again.
 pub(crate) fn store_new(
     p: PeerMessagePolicy,
     table: &mut [u8],
@@ -81,13 +77,13 @@ pub(crate) fn store_new(
     ensures { λ r. ⌜ Left p ingress (now (table .entry)) (store (peer .bytes) entry (makeRoom (p .config) «now_ms» (rowsOf p (now (table .entry))))) r (now (table .exit)) ⌝ }
 {
     let config = p.config;
+    if p.rows < config.limit() {
+        peer_table::places::insert_at(table, p.rows as usize, gap, peer, entry);
+        return p.after(ingress, p.rows + 1);
+    }
     let count = peer_table::room::make_room(config, table, p.rows as usize, now_ms);
     let rows = peer_table::places::store(table, count, peer, entry);
-    PeerMessagePolicy {
-        config,
-        ingress,
-        rows: rows as u64,
-    }
+    p.after(ingress, rows as u64)
 }
 
 // Takes a known peer's row out.
@@ -100,14 +96,9 @@ pub(crate) fn drop_known(
     requires { ⌜ Known p (now table) (peer .bytes) index ⌝ }
     ensures { λ r. ⌜ Left p (p .ingress) (now (table .entry)) (erase (peer .bytes) (rowsOf p (now (table .entry)))) r (now (table .exit)) ⌝ }
 {
-    let config = p.config;
     let ingress = p.ingress;
     peer_table::places::remove_at(table, p.rows as usize, index);
-    PeerMessagePolicy {
-        config,
-        ingress,
-        rows: p.rows - 1,
-    }
+    p.after(ingress, p.rows - 1)
 }
 
 // Lets the violation windows of a known peer's entry expire. A row that this leaves as it is, is not written: a window that
