@@ -10,7 +10,8 @@ use borrow.Author.Tests.{leb-true, le-leb}
 use lib.ListN.{length}
 use Rattle.lent_bytes.specs.LentBytes.{Bytes}
 use Rattle.pubkey.specs.Order.{compareBytes}
-use Rattle.table.specs.Table.{Row, every, ascending, look, store}
+use Rattle.pubkey.specs.OrderLaws.{compare-equal}
+use Rattle.table.specs.Table.{Row, rowUnder, every, ascending, look, store}
 use Rattle.table.specs.TableLaws.{by-answer, true-is-not-false, every-parts, every-store, ascending-store, Sub, sub-every, sub-ascending, sub-length, sub-erase}
 use Rattle.table.specs.LookLaws.{look-before, look-first, look-later, look-below, some-is-not-none}
 use Rattle.table.specs.PlaceLaws.{length-store-some, length-store-none}
@@ -29,7 +30,7 @@ use Rattle.peer_state.specs.EntryLaws.{chosen, new-sound, expire-sound}
 use Rattle.peer_state.specs.Ingress.{ingressSound}
 use Rattle.peer_verdict.specs.Verdict.{judged, judgedInvalid, overflows}
 use Rattle.peer_verdict.specs.VerdictLaws.{judged-sound, judged-invalid-sound, judged-load}
-use Rattle.peer_rows.specs.Rows.{Peers, peerLayout}
+use Rattle.peer_rows.specs.Rows.{Peers, peerLayout, peerSound}
 use Rattle.peer_table.specs.Room.{makeRoom}
 use Rattle.peer_table.specs.RoomLaws.{sub-makeRoom, room-for-one, look-makeRoom-none}
 use Rattle.peer_message_policy.specs.declared.policy.PeerMessagePolicy.{PeerMessagePolicy}
@@ -79,7 +80,7 @@ holds-record p h = rw (le-leb _ _ (h .tracked), le-leb _ _ (h .few)) (h .load)
 -- rules and order of rows, no more than the limit, each under a key of 33 bytes
 pub record RowsHold (c : PeerMessagePolicyConfig) (rs : Peers) : Type 0 where
   pub few : length rs ≤ limit c
-  pub rules : every (entrySound c) rs ≡ true
+  pub rules : every (peerSound c) rs ≡ true
   pub order : ascending rs ≡ true
   pub keyed : Keyed rs
 
@@ -87,7 +88,7 @@ pub record RowsHold (c : PeerMessagePolicyConfig) (rs : Peers) : Type 0 where
 pub record PolicyHolds (p : PeerMessagePolicy) (s : List ℕ) : Type 0 where
   pub own : RecordHolds p
   pub long : 121 * limit (p .config) ≤ length s
-  pub rules : every (entrySound (p .config)) (rowsOf p s) ≡ true
+  pub rules : every (peerSound (p .config)) (rowsOf p s) ≡ true
   pub order : ascending (rowsOf p s) ≡ true
 
 pub policy-holds : (p : PeerMessagePolicy) (s : List ℕ) → sound p s ≡ true → PolicyHolds p s
@@ -151,7 +152,7 @@ module _ (p : PeerMessagePolicy) (s t : List ℕ) (i : FiberIngressBudget) where
             holds-policy q t (record {
               own = own;
               long = omega (arith, h .long);
-              rules = ap (every (entrySound c)) (m .reads) ∙ r .rules;
+              rules = ap (every (peerSound c)) (m .reads) ∙ r .rules;
               order = ap ascending (m .reads) ∙ r .order;
             });
         same-length = same-length;
@@ -171,14 +172,14 @@ module _ (p : PeerMessagePolicy) (s t : List ℕ) (i : FiberIngressBudget) where
 -- ════ What each call's change keeps ═══════════════════════════════════════════════════════════════
 
 -- what is found keeps what rule all rows keep
-pub look-rule : {A : Type 0} (rule : A → Bool) (k : List ℕ) (rs : List (Row A)) {e : A} → every rule rs ≡ true → look k rs ≡ some e
-    → rule e ≡ true
+pub look-rule : {A : Type 0} (rule : Row A → Bool) (k : List ℕ) (rs : List (Row A)) {e : A} → every rule rs ≡ true → look k rs ≡ some e
+    → rule (rowUnder k e) ≡ true
 look-rule rule k [] h found = absurd (some-is-not-none found (look-below k [] refl))
 look-rule rule k (r ∷ rs) {e} h found =
     let parts = every-parts rule r rs h in
     by-answer (compareBytes k (r .key))
     (λ o. absurd (some-is-not-none found (look-before k r rs o)))
-    (λ o. let z : r .entry ≡ e = cc (look-first k r rs o) in rw (← z) (parts .0))
+    (λ o. let z : r .entry ≡ e = cc (look-first k r rs o) in rw (compare-equal k (r .key) o, ← z) (parts .0))
     (λ o. look-rule rule k rs (parts .1) (sym (look-later k r rs o) ∙ found))
 
 module _ (c : PeerMessagePolicyConfig) where
@@ -187,7 +188,7 @@ module _ (c : PeerMessagePolicyConfig) where
   sub-hold s h =
       record {
         few = omega (arith, sub-length s, h .few);
-        rules = sub-every (entrySound c) s (h .rules);
+        rules = sub-every (peerSound c) s (h .rules);
         order = sub-ascending s (h .order);
         keyed = keyed-sub s (h .keyed);
       }
@@ -198,7 +199,7 @@ module _ (c : PeerMessagePolicyConfig) where
   store-hold k e rs key sound-entry h room =
       record {
         few = room;
-        rules = every-store k e (entrySound c) rs sound-entry (h .rules);
+        rules = every-store k e (peerSound c) rs sound-entry (h .rules);
         order = ascending-store k e rs (h .order);
         keyed = keyed-store k e rs key (h .keyed);
       }
@@ -230,7 +231,7 @@ module _ (c : PeerMessagePolicyConfig) where
         (λ t.
         chosen (UpdateHolds k) (entryIsSpent e now)
         (λ u. (new-sound c now, λ x y. rw (spent-in-place c now k rs (h .few) (h .order) l x) (over x y)))
-        (λ u. (look-rule (entrySound c) k rs (h .rules) l, over)))
+        (λ u. (look-rule (peerSound c) k rs (h .rules) l, over)))
 
     for-update : UpdateHolds k (entryForUpdate c now rs k (look k rs))
     for-update = for-update-by (look k rs) refl
@@ -283,7 +284,7 @@ module _ (c : PeerMessagePolicyConfig) where
     disconnected-holds none l = tt
     disconnected-holds (some e) l =
         let x : PeerMessagePolicyEntry = entryExpireWindows e now (c .«ban_duration_ms») in
-        let y : entrySound c x ≡ true = expire-sound c e now (c .«ban_duration_ms») (look-rule (entrySound c) k rs (h .rules) l) in
+        let y : entrySound c x ≡ true = expire-sound c e now (c .«ban_duration_ms») (look-rule (peerSound c) k rs (h .rules) l) in
         chosen (ChangeHolds c) (entryIsBanned e now) (λ t. tt)
         (λ t.
         chosen (ChangeHolds c) (entryIsSpent e now) (λ u. sub-hold (sub-erase k rs) h)

@@ -17,10 +17,10 @@ use Rattle.peer_verdict.specs.declared.verdict.InvalidCause.{InvalidCause}
 use Rattle.peer_verdict.specs.declared.verdict.InvalidCause.the-variants as InvalidCause
 use Rattle.peer_verdict.specs.declared.verdict.InvalidDecision.{InvalidDecision}
 use Rattle.peer_settings.specs.Config.{limit}
-use Rattle.peer_state.specs.Entry.{entrySound, entryNew, entryIsBanned, entryIsSpent, entryExpireWindows}
+use Rattle.peer_state.specs.Entry.{entryNew, entryIsBanned, entryIsSpent, entryExpireWindows}
 use Rattle.peer_state.specs.Ingress.{ingressSound}
 use Rattle.peer_verdict.specs.Verdict.{judged, judgedInvalid, overflows}
-use Rattle.peer_rows.specs.Rows.{Peers, peerLayout}
+use Rattle.peer_rows.specs.Rows.{Peers, peerLayout, peerSound}
 use Rattle.peer_table.specs.Room.{makeRoom}
 use Rattle.peer_message_policy.specs.declared.policy.PeerMessagePolicy.{PeerMessagePolicy}
 
@@ -40,9 +40,9 @@ policySound p =
 abbrev pub longEnough : PeerMessagePolicyConfig → List ℕ → Bool
 longEnough c s = leb (121 * limit c) (length s)
 
--- every row keeps its rules, and the keys ascend
+-- every row keeps its rule, and the keys ascend
 abbrev pub rowsSound : PeerMessagePolicy → List ℕ → Bool
-rowsSound p s = every (entrySound (p .config)) (rowsOf p s) && ascending (rowsOf p s)
+rowsSound p s = every (peerSound (p .config)) (rowsOf p s) && ascending (rowsOf p s)
 
 -- a policy and the memory lent to it
 unfoldable pub sound : PeerMessagePolicy → List ℕ → Bool

@@ -22,10 +22,9 @@ use Rattle.table.specs.MemoryLaws.{AllFit}
 use Rattle.peer_settings.specs.declared.config.PeerMessagePolicyConfig.{PeerMessagePolicyConfig}
 use Rattle.peer_state.specs.declared.entry.PeerMessagePolicyEntry.{PeerMessagePolicyEntry}
 use Rattle.peer_settings.specs.Config.{limit}
-use Rattle.peer_state.specs.Entry.{entryIsSpent}
 use Rattle.peer_rows.specs.Rows.{Peers, peerLayout}
 use Rattle.peer_rows.specs.RowsLaws.{EntryFits}
-use Rattle.peer_table.specs.Room.{pruneExpiredBans, ordinaryLru, bannedExpirations, evict, makeRoom}
+use Rattle.peer_table.specs.Room.{unspent, pruneExpiredBans, ordinaryLru, bannedExpirations, evict, makeRoom}
 
 -- ---- rows taken out ----
 
@@ -74,14 +73,14 @@ module _ {A : Type 0} where
 module _ (now : ℕ) (rs : Peers) where
   -- the spent bans are taken out
   pub sub-prune : Sub (pruneExpiredBans now rs) rs
-  sub-prune = sub-retain (λ e. not (entryIsSpent e now)) rs
+  sub-prune = sub-retain (unspent now) rs
 
   -- ascending rows stay so
   pub ascending-prune : ascending rs ≡ true → ascending (pruneExpiredBans now rs) ≡ true
   ascending-prune = sub-ascending sub-prune
 
   -- rows that keep a rule keep it
-  pub every-prune : (rule : PeerMessagePolicyEntry → Bool) → every rule rs ≡ true → every rule (pruneExpiredBans now rs) ≡ true
+  pub every-prune : (rule : Row PeerMessagePolicyEntry → Bool) → every rule rs ≡ true → every rule (pruneExpiredBans now rs) ≡ true
   every-prune rule = sub-every rule sub-prune
 
   -- there are no more rows than before
@@ -111,11 +110,11 @@ module _ (rs : Peers) where
   unfolding evict
   evict-nobody h k = rw (h, k)
 
--- every entry is an ordinary one or a banned one
-ordinary-or-banned : (e : PeerMessagePolicyEntry) → ordinaryLru e ≡ none → bannedExpirations e ≡ none → ⊥
-ordinary-or-banned e h k = by-mark (eqb (e .ban .mark) 1) h k
+-- every row is an ordinary one or a banned one
+ordinary-or-banned : (r : Row PeerMessagePolicyEntry) → ordinaryLru r ≡ none → bannedExpirations r ≡ none → ⊥
+ordinary-or-banned r h k = by-mark (eqb (r .entry .ban .mark) 1) h k
   where
-    by-mark : (b : Bool) → _≡_ {A = Option ℕ} (cond b none (some (e .«last_used_ms»))) none → _≡_ {A = Option ℕ} (cond b (some (e .ban .«until_ms»)) none) none → ⊥
+    by-mark : (b : Bool) → _≡_ {A = Option ℕ} (cond b none (some (r .entry .«last_used_ms»))) none → _≡_ {A = Option ℕ} (cond b (some (r .entry .ban .«until_ms»)) none) none → ⊥
     by-mark true h k = some-is-not-none refl k
     by-mark false h k = some-is-not-none refl h
 
@@ -130,7 +129,7 @@ length-evict [] h = absurd (omega arith)
 length-evict (r ∷ rs) h =
     by-best (leastFrom ordinaryLru nothing 0 (r ∷ rs))
     (λ e. by-best (leastFrom bannedExpirations nothing 0 (r ∷ rs))
-    (λ f. absurd (ordinary-or-banned (r .entry) (least-nothing ordinaryLru (r ∷ rs) r e 0 h) (least-nothing bannedExpirations (r ∷ rs) r f 0 h)))
+    (λ f. absurd (ordinary-or-banned r (least-nothing ordinaryLru (r ∷ rs) r e 0 h) (least-nothing bannedExpirations (r ∷ rs) r f 0 h)))
     (λ j n f. rw (evict-banned (r ∷ rs) e f) (length-removeAt j (r ∷ rs) (least-found bannedExpirations (r ∷ rs) r f .inside))))
     (λ j n e. rw (evict-ordinary (r ∷ rs) e) (length-removeAt j (r ∷ rs) (least-found ordinaryLru (r ∷ rs) r e .inside)))
 
@@ -149,7 +148,7 @@ module _ (rs : Peers) where
   ascending-evict = sub-ascending sub-evict
 
   -- rows that keep a rule keep it
-  pub every-evict : (rule : PeerMessagePolicyEntry → Bool) → every rule rs ≡ true → every rule (evict rs) ≡ true
+  pub every-evict : (rule : Row PeerMessagePolicyEntry → Bool) → every rule rs ≡ true → every rule (evict rs) ≡ true
   every-evict rule = sub-every rule sub-evict
 
   -- what is found for a key is as before, or gone
@@ -211,7 +210,7 @@ module _ (c : PeerMessagePolicyConfig) (now : ℕ) (rs : Peers) where
   ascending-makeRoom = sub-ascending sub-makeRoom
 
   -- rows that keep a rule keep it
-  pub every-makeRoom : (rule : PeerMessagePolicyEntry → Bool) → every rule rs ≡ true → every rule (makeRoom c now rs) ≡ true
+  pub every-makeRoom : (rule : Row PeerMessagePolicyEntry → Bool) → every rule rs ≡ true → every rule (makeRoom c now rs) ≡ true
   every-makeRoom rule = sub-every rule sub-makeRoom
 
   -- the rows left can stand in the table

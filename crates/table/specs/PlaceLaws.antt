@@ -271,12 +271,12 @@ module _ {A : Type 0} where
   -- ---- judging and searching ----
 
   -- the rows are sound, and the search answered this
-  pub record Sought (rule : A → Bool) (k : List ℕ) (rs : List (Row A)) (answer : Seek) : Type 0 where
+  pub record Sought (rule : Row A → Bool) (k : List ℕ) (rs : List (Row A)) (answer : Seek) : Type 0 where
     pub rules : every rule rs ≡ true
     pub order : ascending rs ≡ true
     pub place : placeFrom 0 k rs ≡ answer
 
-  module _ (rule : A → Bool) (k : List ℕ) (rs : List (Row A)) where
+  module _ (rule : Row A → Bool) (k : List ℕ) (rs : List (Row A)) where
     -- in sound rows the key is searched for
     pub seek-sound : (every rule rs && ascending rs) ≡ true → seek rule k rs ≡ placeFrom 0 k rs
     unfolding seek
