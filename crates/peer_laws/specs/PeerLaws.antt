@@ -11,8 +11,8 @@ use native.Mathlib.Omega.{arith}
 use borrow.Author.Tests.{leb-true, ltb-true}
 use lib.Dec.{leb, ltb, eqb}
 use Rattle.table.specs.Table.{ascending, look, store, erase}
-use Rattle.table.specs.TableLaws.{by-test, both-parts, Sub, sub-erase}
-use Rattle.table.specs.LookLaws.{look-store-same, look-store-other}
+use Rattle.table.specs.TableLaws.{by-test, both-parts, Sub, sub-erase, sub-trans}
+use Rattle.table.specs.LookLaws.{look-store-same, look-store-other, sub-look}
 use Rattle.peer_settings.specs.declared.config.PeerMessagePolicyConfig.{PeerMessagePolicyConfig}
 use Rattle.peer_state.specs.declared.entry.PeerMessagePolicyEntry.{PeerMessagePolicyEntry}
 use Rattle.peer_state.specs.declared.ingress.FiberIngressBudget.{FiberIngressBudget}
@@ -25,7 +25,7 @@ use Rattle.peer_state.specs.Entry.{entryNew, entryIsBanned, entryIsSpent, entry
 use Rattle.peer_state.specs.EntryLaws.{chosen}
 use Rattle.peer_rows.specs.Rows.{Peers}
 use Rattle.peer_table.specs.Room.{makeRoom}
-use Rattle.peer_table.specs.RoomLaws.{sub-look, sub-trans, sub-makeRoom}
+use Rattle.peer_table.specs.RoomLaws.{sub-makeRoom}
 use Rattle.peer_verdict.specs.Verdict.{judged, judgedInvalid, overflows}
 use Rattle.peer_message_policy.specs.Policy.{Change, become, Turn, unchanged, turnOf, carriedOut, notedDown, Update, banned, update, entryForUpdate, admit, recordInvalid, isBannedChange, disconnectedChange}
 use Rattle.peer_message_policy.specs.Calls.{changedRows}

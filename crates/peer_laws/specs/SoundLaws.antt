@@ -1,7 +1,7 @@
 -- Laws of soundness, on settings, rows and changes: soundness part by part; what a change of the rows must keep, so that the policy after
 -- it is sound; that each call's change keeps it; and that refusal 4 undoes everything. The calls themselves are in `CallLaws`. Assumes nothing.
-use mathlib.Core.Path.{_≡_, refl, sym, ap, _∙_}
-use mathlib.Core.Bool.{Bool, true, and-eq-true-iff}
+use mathlib.Core.Path.{_≡_, refl, ap, _∙_}
+use mathlib.Core.Bool.{true, and-eq-true-iff}
 use mathlib.Core.List.{List, [], _∷_}
 use mathlib.Core.Option.{Option, none, some}
 use Prim.Native.Nat.{ℕ, _*_, _≤_}
@@ -9,11 +9,9 @@ use native.Mathlib.Omega.{arith}
 use borrow.Author.Tests.{leb-true, le-leb}
 use lib.ListN.{length}
 use Rattle.lent_bytes.specs.LentBytes.{Bytes}
-use Rattle.pubkey.specs.Order.{compareBytes}
-use Rattle.pubkey.specs.OrderLaws.{compare-equal}
-use Rattle.table.specs.Table.{Row, rowUnder, every, ascending, look, store}
-use Rattle.table.specs.TableLaws.{by-answer, true-is-not-false, every-parts, every-store, ascending-store, Sub, sub-every, sub-ascending, sub-length, sub-erase}
-use Rattle.table.specs.LookLaws.{look-before, look-first, look-later, look-below, some-is-not-none}
+use Rattle.table.specs.Table.{every, ascending, look, store}
+use Rattle.table.specs.TableLaws.{true-is-not-false, every-store, ascending-store, Sub, sub-every, sub-ascending, sub-length, sub-erase}
+use Rattle.table.specs.LookLaws.{look-rule}
 use Rattle.table.specs.PlaceLaws.{length-store-some, length-store-none}
 use Rattle.table.specs.Memory.{rows}
 use Rattle.table.specs.MemoryLaws.{length-rows}
@@ -170,17 +168,6 @@ module _ (p : PeerMessagePolicy) (s t : List ℕ) (i : FiberIngressBudget) where
   change-leaves change h b load rs m = record { kept = change-kept change h b load rs m; rows = change-rows change m }
 
 -- ════ What each call's change keeps ═══════════════════════════════════════════════════════════════
-
--- what is found keeps what rule all rows keep
-pub look-rule : {A : Type 0} (rule : Row A → Bool) (k : List ℕ) (rs : List (Row A)) {e : A} → every rule rs ≡ true → look k rs ≡ some e
-    → rule (rowUnder k e) ≡ true
-look-rule rule k [] h found = absurd (some-is-not-none found (look-below k [] refl))
-look-rule rule k (r ∷ rs) {e} h found =
-    let parts = every-parts rule r rs h in
-    by-answer (compareBytes k (r .key))
-    (λ o. absurd (some-is-not-none found (look-before k r rs o)))
-    (λ o. let z : r .entry ≡ e = cc (look-first k r rs o) in rw (compare-equal k (r .key) o, ← z) (parts .0))
-    (λ o. look-rule rule k rs (parts .1) (sym (look-later k r rs o) ∙ found))
 
 module _ (c : PeerMessagePolicyConfig) where
   -- rows left

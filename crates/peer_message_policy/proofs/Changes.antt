@@ -11,9 +11,9 @@ use Rattle.lent_bytes.specs.LentBytes.{part, put, zeros, Bytes}
 use Rattle.refusal.specs.Refusal.{tooShort, limitTooLarge}
 use Rattle.table.specs.Table.{Row, store, erase, insertAt, removeAt}
 use Rattle.table.specs.Memory.{rowOf, rows, laid, Holds}
-use Rattle.table.specs.TableLaws.{both-parts, Sub, done, keep, leave}
+use Rattle.table.specs.TableLaws.{both-parts}
 use Rattle.table.specs.PlaceLaws.{at-key, gap-inside, gap-store, gap-length-store, at-store, at-erase, at-length-store, at-length-erase}
-use Rattle.table.specs.MemoryLaws.{AllFit, length-rows, key-rows, key-rowOf, fit-rows, rows-cons, holds, laid-rows, laid-laid, put-clear}
+use Rattle.table.specs.MemoryLaws.{AllFit, sub-fit, length-rows, key-rows, key-rowOf, fit-rows, rows-cons, holds, laid-rows, laid-laid, put-clear}
 use Rattle.peer_settings.specs.declared.config.PeerMessagePolicyConfig.{PeerMessagePolicyConfig}
 use Rattle.peer_state.specs.declared.entry.PeerMessagePolicyEntry.{PeerMessagePolicyEntry}
 use Rattle.peer_state.specs.declared.entry.ViolationWindow.{ViolationWindow}
@@ -123,12 +123,6 @@ left-unexpired p s k i h b e read now duration x v same =
     expire-same e now duration (ap (λ (y : PeerMessagePolicyEntry). sameCounts y e) (sym v) ∙ same) in
     left-alone p s k i h b (entryExpireWindows e now duration) (kept ∙ read)
 
--- rows taken out of rows that can stand in the table can stand there
-sub-fit : {xs ys : Peers} → Sub xs ys → AllFit peerLayout EntryFits ys → AllFit peerLayout EntryFits xs
-sub-fit done f = tt
-sub-fit (keep s) f = (f .0, sub-fit s (f .1))
-sub-fit (leave s) f = sub-fit s (f .1)
-
 -- ════ A row more ══════════════════════════════════════════════════════════════════════════════════
 
 module _ (p : PeerMessagePolicy) (s k : List ℕ) (i : ℕ) (h : Unknown p s k i) (now : ℕ) where
@@ -162,7 +156,7 @@ module _ (p : PeerMessagePolicy) (s k : List ℕ) (i : ℕ) (h : Unknown p s k i
   pub left-new : (load : FiberIngressBudget) → Bytes s → (t : List ℕ) (n : ℕ) → Holds peerLayout s t (p .rows) roomed × (n ≡ length roomed) → (u : List ℕ) (m : ℕ) (e : PeerMessagePolicyEntry) → Holds peerLayout t u n (store k e (rows peerLayout t n)) × (m ≡ length (store k e (rows peerLayout t n))) → Left p load s (store k e roomed) (policyWith p load m) u
   left-new load b t n first u m e second =
       let fit : AllFit peerLayout EntryFits roomed =
-      sub-fit (sub-makeRoom (p .config) now (rowsOf p s)) (fit-rows peer-faithful s (p .rows) b (rows-fit p s (h .is-sound))) in
+      sub-fit peer-faithful (sub-makeRoom (p .config) now (rowsOf p s)) (fit-rows peer-faithful s (p .rows) b (rows-fit p s (h .is-sound))) in
       let fewer : length roomed ≤ p .rows = omega (arith, length-makeRoom (p .config) now (rowsOf p s), length-rows peerLayout s (p .rows)) in
       let left : rows peerLayout t n ≡ roomed = ap (rows peerLayout t) (first .1) ∙ first .0 .reads in
       let stored : Peers = store k e roomed in

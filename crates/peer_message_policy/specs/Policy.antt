@@ -7,6 +7,8 @@ use lib.Dec.{leb}
 use lib.ListN.{length}
 use Rattle.table.specs.Table.{Row, every, ascending, look, store, erase}
 use Rattle.table.specs.Memory.{rows}
+use Rattle.table.specs.Outcome as lent
+pub use Rattle.table.specs.Outcome.{same, become}
 use Rattle.peer_settings.specs.declared.config.PeerMessagePolicyConfig.{PeerMessagePolicyConfig}
 use Rattle.peer_state.specs.declared.entry.PeerMessagePolicyEntry.{PeerMessagePolicyEntry}
 use Rattle.peer_state.specs.declared.ingress.FiberIngressBudget.{FiberIngressBudget}
@@ -51,9 +53,8 @@ sound p s = policySound p && (longEnough (p .config) s && rowsSound p s)
 -- ════ The calls ═══════════════════════════════════════════════════════════════════════════════════
 
 -- what a call leaves of the rows: all as they were, or these
-pub data Change : Type 0 where
-  same : Change
-  become : Peers → Change
+abbrev pub Change : Type 0
+Change = lent.Change PeerMessagePolicyEntry
 
 -- what admit and record_invalid come to: why, the load in flight, and the rows
 pub record Turn (C : Type 0) : Type 0 where

@@ -2,7 +2,7 @@
 --
 -- In order: numbers and their eight bytes; what a layout must satisfy; rows; rows that fit their layout; the bytes of rows;
 -- memory after a call, `laid`; from a write, `put`, to `laid`. The width of a row is `L .width` throughout.
-use mathlib.Core.Bool.{Bool, true, false, cond}
+use mathlib.Core.Bool.{Bool}
 use mathlib.Core.Path.{_≡_, refl, sym, ap, _∙_, subst}
 use mathlib.Core.List.{List, [], _∷_, _++_, append-assoc, append-nil}
 use Prim.Native.Nat.{ℕ, zero, suc, _+_, _-_, _*_, _^_, _≤_, _<_, max}
@@ -16,7 +16,8 @@ use Rattle.lent_bytes.specs.LentBytesLaws.{Bytes-nil, Bytes-append, Bytes-take,
 use Rattle.pubkey.specs.declared.Ordering.{Ordering}
 use Rattle.pubkey.specs.declared.Ordering.the-variants.{Less, Equal, Greater}
 use Rattle.pubkey.specs.Order.{compareBytes}
-use Rattle.table.specs.Table.{Row, byOrder, store, erase, insertAt, removeAt, retain}
+use Rattle.table.specs.Table.{Row, byOrder, store, erase, insertAt, removeRun, removeAt, retain}
+use Rattle.table.specs.TableLaws.{Sub, done, keep, leave, sub-erase, sub-retain}
 use Rattle.table.specs.Memory.{Layout, wordBytes, wordOf, words, rowBytes, tableBytes, rowOf, rows, laid, Holds}
 use Rattle.table.specs.PutLaws.{put-earlier, put-later, put-front, put-whole, drop-take, zeros-append, drop-zeros}
 
@@ -202,7 +203,7 @@ places-used : (n r q : ℕ) → r ≤ max n q → max n r + ((q - r) - (n - r)) 
 places-used n r q h = omega arith
 
 -- the bytes of the places that n rows and then r have used: those of the n, and of what r has beyond them
-bytes-used : (w n r : ℕ) → w * max n r ≡ w * n + w * (r - n)
+pub bytes-used : (w n r : ℕ) → w * max n r ≡ w * n + w * (r - n)
 bytes-used w n r =
     let e : max n r ≡ n + (r - n) = omega arith in
     ap (λ (m : ℕ). w * m) e ∙ mul-add w n (r - n)
@@ -244,20 +245,15 @@ module _ {A : Type 0} {L : Layout A} {Good : A → Type 0} (ok : Faithful L Good
   unfolding insertAt
   fit-insertAt i r rs g f = fit-append (take i rs) (r ∷ drop i rs) (fit-take i rs f) (g, fit-drop i rs f)
 
-  -- rows with one less
-  pub fit-removeAt : (i : ℕ) (rs : List (Row A)) → AllFit L Good rs → AllFit L Good (removeAt i rs)
-  unfolding removeAt
-  fit-removeAt i rs f = fit-append (take i rs) (drop (i + 1) rs) (fit-take i rs f) (fit-drop (i + 1) rs f)
+  -- rows left
+  pub sub-fit : {xs ys : List (Row A)} → Sub xs ys → AllFit L Good ys → AllFit L Good xs
+  sub-fit done f = f
+  sub-fit (keep s) f = (f .0, sub-fit s (f .1))
+  sub-fit (leave s) f = sub-fit s (f .1)
 
   -- the rows that a test keeps
   pub fit-retain : (test : Row A → Bool) (rs : List (Row A)) → AllFit L Good rs → AllFit L Good (retain test rs)
-  unfolding retain
-  fit-retain test [] f = tt
-  fit-retain test (r ∷ rs) f = kept (test r) (retain test rs) (fit-retain test rs (f .1))
-    where
-      kept : (b : Bool) (rest : List (Row A)) → AllFit L Good rest → AllFit L Good (cond b (r ∷ rest) rest)
-      kept true rest more = (f .0, more)
-      kept false rest more = more
+  fit-retain test rs = sub-fit (sub-retain test rs)
 
   -- rows with a row stored
   pub fit-store : (k : List ℕ) (e : A) (rs : List (Row A)) → Fit L Good (record { key = k; entry = e }) → AllFit L Good rs → AllFit L Good (store k e rs)
@@ -273,14 +269,7 @@ module _ {A : Type 0} {L : Layout A} {Good : A → Type 0} (ok : Faithful L Good
 
   -- rows with a row erased
   pub fit-erase : (k : List ℕ) (rs : List (Row A)) → AllFit L Good rs → AllFit L Good (erase k rs)
-  unfolding erase
-  fit-erase k [] f = tt
-  fit-erase k (r ∷ rs) f = erased (compareBytes k (r .key)) (erase k rs) (fit-erase k rs (f .1))
-    where
-      erased : (o : Ordering) (rest : List (Row A)) → AllFit L Good rest → AllFit L Good (byOrder o (r ∷ rs) rs (r ∷ rest))
-      erased Less rest more = f
-      erased Equal rest more = f .1
-      erased Greater rest more = (f .0, more)
+  fit-erase k rs = sub-fit (sub-erase k rs)
 
   -- ---- the bytes of rows
 
@@ -527,15 +516,24 @@ module _ {A : Type 0} {L : Layout A} {Good : A → Type 0} (ok : Faithful L Good
       (sym (rw (none, append-nil (rowBytes L r), append-nil (part s (w * i) (w * (n - i))))))
       ∙ put-rows s n i i (r ∷ []) b h k k (f, tt)
 
+  -- m neighbouring rows taken out, and zeros in the places freed
+  pub put-remove-run : (s : List ℕ) (n i m : ℕ) → Bytes s → L .width * n ≤ length s → i + m ≤ n
+      → put s (L .width * i) (part s (L .width * (i + m)) (L .width * (n - (i + m))) ++ zeros (L .width * m)) ≡ laid L s n (removeRun i m (rows L s n))
+  unfolding removeRun tableBytes
+  put-remove-run s n i m b h k =
+      let w : ℕ = L .width in
+      let freed : w * (n - (i + (0 + (n - (i + m))))) ≡ w * m = ap (λ (j : ℕ). w * j) (omega arith) in
+      ap (λ (j : ℕ). put s (w * i) (part s (w * (i + m)) (w * (n - (i + m))) ++ zeros j)) (sym freed)
+      ∙ put-rows s n i (i + m) [] b h (omega arith) (omega arith) tt
+
   -- the row at an index taken out, and zeros in the place freed
   pub put-remove : (s : List ℕ) (n i : ℕ) → Bytes s → L .width * n ≤ length s → i < n
       → put s (L .width * i) (part s (L .width * (i + 1)) (L .width * (n - (i + 1))) ++ zeros (L .width)) ≡ laid L s n (removeAt i (rows L s n))
-  unfolding removeAt tableBytes
+  unfolding removeAt removeRun
   put-remove s n i b h k =
       let w : ℕ = L .width in
-      let one : w * (n - (i + (0 + (n - (i + 1))))) ≡ w = ap (λ (m : ℕ). w * m) (omega arith) ∙ mul-one w in
-      ap (λ (m : ℕ). put s (w * i) (part s (w * (i + 1)) (w * (n - (i + 1))) ++ zeros m)) (sym one)
-      ∙ put-rows s n i (i + 1) [] b h (omega arith) (omega arith) tt
+      ap (λ (m : ℕ). put s (w * i) (part s (w * (i + 1)) (w * (n - (i + 1))) ++ zeros m)) (sym (mul-one w))
+      ∙ put-remove-run s n i 1 b h (omega arith)
 
   -- the row at an index overwritten
   pub put-row : (s : List ℕ) (n i : ℕ) (r : Row A) → Bytes s → L .width * n ≤ length s → i < n → Fit L Good r

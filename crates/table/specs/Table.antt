@@ -75,6 +75,10 @@ module _ {A : Type 0} where
   retain test [] = []
   retain test (r ∷ rs) = cond (test r) (r ∷ retain test rs) (retain test rs)
 
+  -- the n neighbouring rows from an index on, taken out
+  unfoldable pub removeRun : ℕ → ℕ → List (Row A) → List (Row A)
+  removeRun i n rs = take i rs ++ drop (i + n) rs
+
   -- the row at an index, taken out
   unfoldable pub removeAt : ℕ → List (Row A) → List (Row A)
   removeAt i rs = take i rs ++ drop (i + 1) rs

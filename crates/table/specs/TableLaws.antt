@@ -5,6 +5,7 @@ use mathlib.Core.Bool.{Bool, true, false, _&&_}
 use mathlib.Core.Path.{_≡_, refl, _∙_}
 use mathlib.Core.List.{List, [], _∷_}
 use Prim.Native.Nat.{ℕ, zero, suc, _+_, _≤_, _<_}
+use native.Mathlib.Nat.{suc-add}
 use native.Mathlib.Numerals.{add-one}
 use native.Mathlib.Omega.{arith}
 use lib.ListN.{length, drop, getD, drop-of-length-le}
@@ -13,7 +14,7 @@ use Rattle.pubkey.specs.declared.Ordering.{Ordering}
 use Rattle.pubkey.specs.declared.Ordering.the-variants.{Less, Equal, Greater}
 use Rattle.pubkey.specs.Order.{compareBytes}
 use Rattle.pubkey.specs.OrderLaws.{compare-equal, transitive, greater-flip}
-use Rattle.table.specs.Table.{Row, rowUnder, byOrder, below, ascending, every, store, erase, retain, removeAt}
+use Rattle.table.specs.Table.{Row, rowUnder, byOrder, below, ascending, every, store, erase, retain, removeRun, removeAt}
 
 -- ---- tests ----
 
@@ -240,17 +241,30 @@ module _ {A : Type 0} where
   unfolding removeAt
   removeAt-later j r rs = rw (add-one (suc j), add-one j)
 
-  -- of no rows none is taken out
-  pub removeAt-empty : (j : ℕ) → _≡_ {A = List (Row A)} (removeAt j []) []
-  unfolding removeAt
-  removeAt-empty zero = refl
-  removeAt-empty (suc j) = rw (add-one (suc j))
+  -- the first rows, taken out
+  pub sub-drop : (n : ℕ) (rs : List (Row A)) → Sub (drop n rs) rs
+  sub-drop zero rs = sub-all rs
+  sub-drop (suc n) [] = done
+  sub-drop (suc n) (r ∷ rs) = leave (sub-drop n rs)
+
+  -- neighbouring rows, taken out
+  pub sub-removeRun : (i n : ℕ) (rs : List (Row A)) → Sub (removeRun i n rs) rs
+  unfolding removeRun
+  sub-removeRun zero n rs = sub-drop (0 + n) rs
+  sub-removeRun (suc i) n [] = rw (suc-add i n) done
+  sub-removeRun (suc i) n (r ∷ rs) = rw (suc-add i n) (keep (sub-removeRun i n rs))
 
   -- a row at an index, taken out
   pub sub-removeAt : (j : ℕ) (rs : List (Row A)) → Sub (removeAt j rs) rs
-  sub-removeAt j [] = rw (removeAt-empty j) done
-  sub-removeAt zero (r ∷ rs) = rw (removeAt-first r rs) (leave (sub-all rs))
-  sub-removeAt (suc j) (r ∷ rs) = rw (removeAt-later j r rs) (keep (sub-removeAt j rs))
+  unfolding removeAt removeRun
+  sub-removeAt j rs = sub-removeRun j 1 rs
+
+  -- rows taken out of rows taken out
+  pub sub-trans : {xs ys zs : List (Row A)} → Sub xs ys → Sub ys zs → Sub xs zs
+  sub-trans s done = s
+  sub-trans (keep s) (keep t) = keep (sub-trans s t)
+  sub-trans (leave s) (keep t) = leave (sub-trans s t)
+  sub-trans s (leave t) = leave (sub-trans s t)
 
   -- ---- soundness kept ----
 
