@@ -1,6 +1,2 @@
--- `Firsts` has the laws of finding the first to go as a loop, `Kept` those of the walk that keeps rows, `Changes` those of rows changed in
--- memory, `Making` those of making room.
-pub mod Firsts
-pub mod Kept
-pub mod Changes
+-- `Making` has the laws of making room in memory.
 pub mod Making

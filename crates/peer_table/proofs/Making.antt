@@ -1,25 +1,21 @@
 -- Making room in memory, over plain lists and numbers: which rows go, and that two calls are one. Assumes nothing.
-use mathlib.Core.Bool.{Bool}
 use mathlib.Core.Path.{_≡_, refl, sym, ap, _∙_, subst}
-use mathlib.Core.List.{List, []}
+use mathlib.Core.List.{List}
 use Prim.Native.Nat.{ℕ, _-_, _*_, _≤_, _<_}
 use native.Mathlib.Omega.{arith}
 use lib.ListN.{length}
 use Rattle.lent_bytes.specs.LentBytes.{Bytes}
-use Rattle.table.specs.Table.{nothing, best, leastFrom, removeAt}
-use Rattle.table.specs.Memory.{rowOf, rows, Holds}
-use Rattle.table.specs.LeastLaws.{least-found}
+use Rattle.table.specs.Table.{nothing, leastFrom, removeAt}
+use Rattle.table.specs.Memory.{rows, Holds}
 use Rattle.table.specs.PlaceLaws.{length-removeAt}
-use Rattle.table.specs.MemoryLaws.{length-rows}
+use Rattle.table.specs.MemoryLaws.{length-rows, fit-rows, sub-fit}
+use Rattle.table_laws.specs.ChangeLaws.{unchanged, holds-holds}
 use Rattle.peer_settings.specs.declared.config.PeerMessagePolicyConfig.{PeerMessagePolicyConfig}
 use Rattle.peer_settings.specs.Config.{limit}
 use Rattle.peer_rows.specs.Rows.{Peers, peerLayout}
-use Rattle.peer_table.specs.First.{measureBy}
 use Rattle.peer_table.specs.Room.{pruneExpiredBans, ordinaryLru, bannedExpirations, evict, makeRoom}
-use Rattle.peer_table.specs.RoomLaws.{length-prune, evict-nobody, room-free, room-pruned, room-evicted}
-use Rattle.peer_rows.specs.RowsLaws.{holds-holds}
-use Rattle.peer_table.proofs.Kept.{prune-fit}
-use Rattle.peer_table.proofs.Changes.{unchanged}
+use Rattle.peer_table.specs.RoomLaws.{sub-prune, length-prune, evict-nobody, room-free, room-pruned, room-evicted}
+use Rattle.peer_rows.specs.RowsLaws.{peer-faithful}
 
 -- memory holds these rows, and this is their number
 abbrev pub Left : List ℕ → List ℕ → ℕ → ℕ → Peers → Type 0
@@ -28,11 +24,6 @@ Left s t n k rs = Holds peerLayout s t n rs × (k ≡ length rs)
 -- the same, by an equation of the rows
 left-same : {s t : List ℕ} {n k : ℕ} {rs qs : Peers} → rs ≡ qs → Left s t n k rs → Left s t n k qs
 left-same {s} {t} {n} {k} e h = subst (λ (l : Peers). Left s t n k l) e h
-
--- the first to go is a row
-pub found-inside : (banned : Bool) (s : List ℕ) (n : ℕ) {j m : ℕ} → leastFrom (measureBy banned) nothing 0 (rows peerLayout s n) ≡ best j m → j < n
-found-inside banned s n h =
-    omega (arith, least-found (measureBy banned) (rows peerLayout s n) (rowOf peerLayout []) h .inside, length-rows peerLayout s n)
 
 -- the row that was found is taken out
 pub evicted-row : (s t : List ℕ) (n : ℕ) {j : ℕ} → j < n → evict (rows peerLayout s n) ≡ removeAt j (rows peerLayout s n)
@@ -46,14 +37,14 @@ evicted-row s t n {j} inside e held =
 pub evicted-nobody : (s : List ℕ) (n : ℕ) → Bytes s → 121 * n ≤ length s → leastFrom ordinaryLru nothing 0 (rows peerLayout s n) ≡ nothing
     → leastFrom bannedExpirations nothing 0 (rows peerLayout s n) ≡ nothing → Left s s n n (evict (rows peerLayout s n))
 evicted-nobody s n b h e f =
-    left-same (sym (evict-nobody (rows peerLayout s n) e f)) (unchanged s s n b h refl, sym (length-rows peerLayout s n))
+    left-same (sym (evict-nobody (rows peerLayout s n) e f)) (unchanged peer-faithful s s n b h refl, sym (length-rows peerLayout s n))
 
 module _ (c : PeerMessagePolicyConfig) (now : ℕ) (s : List ℕ) (n : ℕ) (b : Bytes s) (h : 121 * n ≤ length s) where
   -- the table is not full
   pub made-free : n < limit c → Left s s n n (makeRoom c now (rows peerLayout s n))
   made-free k =
       let count : length (rows peerLayout s n) ≡ n = length-rows peerLayout s n in
-      left-same (sym (room-free c now (rows peerLayout s n) (omega arith))) (unchanged s s n b h refl, sym count)
+      left-same (sym (room-free c now (rows peerLayout s n) (omega arith))) (unchanged peer-faithful s s n b h refl, sym count)
 
   module _ (full : limit c ≤ n) (t : List ℕ) (k : ℕ) where
     full-rows : limit c ≤ length (rows peerLayout s n)
@@ -74,4 +65,4 @@ module _ (c : PeerMessagePolicyConfig) (now : ℕ) (s : List ℕ) (n : ℕ) (b :
         let held : Holds peerLayout t u (length rs) (evict rs) = subst (λ (m : ℕ). Holds peerLayout t u m (evict rs)) (left .1) (after .0) in
         let fewer : length rs ≤ n = omega (arith, length-prune now (rows peerLayout s n), length-rows peerLayout s n) in
         left-same (sym (room-evicted c now (rows peerLayout s n) full-rows (omega (arith, left .1))))
-        (holds-holds s t u n rs (evict rs) (prune-fit now s n b h) (omega arith) (left .0) held, after .1)
+        (holds-holds peer-faithful s t u n rs (evict rs) (sub-fit peer-faithful (sub-prune now (rows peerLayout s n)) (fit-rows peer-faithful s n b h)) (omega arith) (left .0) held, after .1)

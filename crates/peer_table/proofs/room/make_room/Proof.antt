@@ -9,8 +9,8 @@ use borrow.Author.Needs.{needs}
 use Rattle.peer_table.proofs.room.make_room.Statement.{statement}
 use Rattle.peer_table.proofs.room.make_room.Tie as tie
 
-limit-of-requires : tie.Need-limit-of-requires
-limit-of-requires c κs = search needs
+limit-requires : tie.Need-limit-requires
+limit-requires c κs = search needs
 
 returns : tie.Need-returns
 returns c = let a = c .before .before .before .args in
@@ -43,7 +43,7 @@ pub make-room-spec : {M : Type 1} → statement M
 make-room-spec =
     tie.close
     (tie.spec
-    limit-of-requires
+    limit-requires
     returns
     remove-spent-requires
     same-length
