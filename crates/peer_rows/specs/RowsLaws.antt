@@ -9,7 +9,7 @@ use lib.Dec.{leb, eqb}
 use lib.ListN.{length, getD}
 use Rattle.lent_bytes.specs.LentBytes.{part, le, Bytes}
 use Rattle.table.specs.Memory.{rowOf}
-use Rattle.table.specs.MemoryLaws.{Faithful, Fit}
+use Rattle.table.specs.MemoryLaws.{Faithful}
 use Rattle.table_laws.specs.Words.{Numbers, NumbersFit}
 use Rattle.table_laws.specs.WordsLaws.{OfNumbers, numbers-faithful, word-place}
 use Rattle.peer_settings.specs.declared.config.PeerMessagePolicyConfig.{PeerMessagePolicyConfig}
@@ -82,10 +82,6 @@ entry-fits e f = omega (arith, f)
 -- entries stand in their rows and are read back
 pub peer-faithful : Faithful peerLayout EntryFits
 peer-faithful = numbers-faithful peer-numbers EntryFits numbers-fit entry-fits
-
--- a peer's row can stand in the table
-pub fit-peerRow : (k : List ℕ) (e : PeerMessagePolicyEntry) → length k ≡ 33 → Bytes k → EntryFits e → Fit peerLayout EntryFits (peerRow k e)
-fit-peerRow k e h b f = record { key-length = h; key-bytes = b; entry-good = f }
 
 -- ---- the numbers of a row by their places ----
 

@@ -1,2 +1,0 @@
--- `Making` has the laws of making room in memory.
-pub mod Making
