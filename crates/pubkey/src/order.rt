@@ -5,28 +5,23 @@ ghost use lib.ListN.{length, drop};
 ghost use Rattle.pubkey.specs.Order.{compareBytes, front};
 use super::Ordering;
 
-// The two bytes at the place as one number, the first the highest.
-fn quarter_at(s: &[u8], at: usize) -> u16
-    requires { ⌜ at + 2 ≤ length (now s) ⌝ }
-    ensures { λ r. ⌜ r ≡ front 2 (now (s .entry)) at ⌝ }
-{
-    let high = s[at];
-    let low = s[at + 1];
-    256 * (high as u16) + (low as u16)
-}
-
 // The four bytes at the place as one number, the first the highest.
 fn half_at(s: &[u8], at: usize) -> u32
     requires { ⌜ at + 4 ≤ length (now s) ⌝ }
     ensures { λ r. ⌜ r ≡ front 4 (now (s .entry)) at ⌝ }
 {
-    let high = quarter_at(s, at);
-    let low = quarter_at(s, at + 2);
-    0x1_0000 * (high as u32) + (low as u32)
+    let first = s[at];
+    let second = s[at + 1];
+    let third = s[at + 2];
+    let fourth = s[at + 3];
+    0x100_0000 * (first as u32)
+        + 0x1_0000 * (second as u32)
+        + 0x100 * (third as u32)
+        + (fourth as u32)
 }
 
 // The eight bytes at the place as one number, the first the highest: where two runs differ there, one comparison of these decides.
-// It is read by its halves, which a compiler joins to one load and a byte swap.
+// It is read by halves of four bytes, which a compiler joins to one load and a byte swap; halved once more, they were not joined.
 pub fn front_at(s: &[u8], at: usize) -> u64
     requires { ⌜ at + 8 ≤ length (now s) ⌝ }
     ensures { λ r. ⌜ r ≡ front 8 (now (s .entry)) at ⌝ }

@@ -1,17 +1,16 @@
 -- Laws of places in a table: what a search answers, and what a store, an erase, a row taken out or put in do there. The i-th row is
--- `getD rs i d`, with any row d. In order: answers; the search as a loop; a key's place as a derivation, and what follows from it;
+-- `getD rs i d`, with any row d. In order: answers; the first row; a key's place as a derivation, and what follows from it;
 -- lengths; the laws of `At`; the laws of `Gap`; judging and searching; the row at an index; found or not. Assumes nothing.
 use mathlib.Core.Bool.{Bool, true, false, _&&_}
 use mathlib.Core.Logic.{_⊎_, inl, inr, ⊎-elim, _↔_}
 use mathlib.Core.Path.{_≡_, refl, sym, ap, _∙_}
 use mathlib.Core.List.{List, [], _∷_, _++_}
-use mathlib.Core.Option.{Option, none, some}
+use mathlib.Core.Option.{none, some}
 use Prim.Native.Nat.{ℕ, zero, suc, _+_, _≤_, _<_}
 use native.Mathlib.Numerals.{add-one}
 use native.Mathlib.Omega.{arith}
-use lib.ListN.{length, take, drop, getD, set, length-append, length-take, length-drop, length-set, drop-of-length-le}
-use lib.Seq.{drop-cons, set-split}
-use Rattle.pubkey.specs.declared.Ordering.{Ordering}
+use lib.ListN.{length, take, drop, getD, set, length-append, length-take, length-drop, length-set}
+use lib.Seq.{set-split}
 use Rattle.pubkey.specs.declared.Ordering.the-variants.{Less, Equal, Greater}
 use Rattle.pubkey.specs.Order.{compareBytes}
 use Rattle.pubkey.specs.OrderLaws.{compare-self, compare-equal, less-flip}
@@ -36,7 +35,7 @@ pub gap-is-not-unsound : {s : Seek} {i : ℕ} → s ≡ Gap i → s ≡ Unsound 
 gap-is-not-unsound h k = let z : _≡_ {A = ℕ} 0 1 = cc in omega arith
 
 module _ {A : Type 0} where
-  -- ---- the search as a loop, whose invariant says that the answer is that of the rows from the i-th on ----
+  -- ---- the first row ----
 
   module _ (i : ℕ) (k : List ℕ) (r : Row A) (rs : List (Row A)) where
     -- a key that comes before the first row misses there
@@ -53,25 +52,6 @@ module _ {A : Type 0} where
     pub place-later : compareBytes k (r .key) ≡ Greater → placeFrom i k (r ∷ rs) ≡ placeFrom (i + 1) k rs
     unfolding placeFrom
     place-later h = rw h
-
-  module _ (k : List ℕ) (rs : List (Row A)) (i : ℕ) where
-    -- the loop ends: no row is left
-    pub search-ends : length rs ≤ i → placeFrom 0 k rs ≡ placeFrom i k (drop i rs) → placeFrom 0 k rs ≡ Gap i
-    unfolding placeFrom
-    search-ends h from = from ∙ rw (drop-of-length-le rs h)
-
-    module _ (d : Row A) (inside : i < length rs) (from : placeFrom 0 k rs ≡ placeFrom i k (drop i rs)) where
-      -- the key comes before the i-th row
-      pub search-before : compareBytes k (getD rs i d .key) ≡ Less → placeFrom 0 k rs ≡ Gap i
-      search-before h = from ∙ rw (drop-cons rs i d) (place-before i k (getD rs i d) (drop (suc i) rs) h)
-
-      -- the key is that of the i-th row
-      pub search-finds : compareBytes k (getD rs i d .key) ≡ Equal → placeFrom 0 k rs ≡ At i
-      search-finds h = from ∙ rw (drop-cons rs i d) (place-first i k (getD rs i d) (drop (suc i) rs) h)
-
-      -- the key comes after the i-th row: the invariant at the next
-      pub search-goes-on : compareBytes k (getD rs i d .key) ≡ Greater → placeFrom 0 k rs ≡ placeFrom (i + 1) k (drop (i + 1) rs)
-      search-goes-on h = from ∙ rw (drop-cons rs i d) (place-later i k (getD rs i d) (drop (suc i) rs) h ∙ rw (add-one i))
 
   -- ---- a key's place, as a derivation ----
 

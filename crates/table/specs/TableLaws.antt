@@ -1,20 +1,19 @@
 -- Laws of a table's rows: when they are sound, and that they stay so. What is found after a change is in `LookLaws`, what a retain
 -- leaves in `RetainLaws`, places in `PlaceLaws`, the least row in `LeastLaws`. In all of them the i-th row is `getD rs i d`, with any
--- row d. In order: tests; the first row; the row at an index; judging as a loop; rows taken out; soundness kept. Assumes nothing.
+-- row d. In order: tests; the first row; the row at an index; rows taken out; soundness kept. Assumes nothing.
 use mathlib.Core.Bool.{Bool, true, false, _&&_}
-use mathlib.Core.Path.{_≡_, refl, _∙_}
+use mathlib.Core.Path.{_≡_, refl}
 use mathlib.Core.List.{List, [], _∷_}
 use Prim.Native.Nat.{ℕ, zero, suc, _+_, _≤_, _<_}
 use native.Mathlib.Nat.{suc-add}
 use native.Mathlib.Numerals.{add-one}
 use native.Mathlib.Omega.{arith}
-use lib.ListN.{length, drop, getD, drop-of-length-le}
-use lib.Seq.{drop-cons}
+use lib.ListN.{length, drop, getD}
 use Rattle.pubkey.specs.declared.Ordering.{Ordering}
 use Rattle.pubkey.specs.declared.Ordering.the-variants.{Less, Equal, Greater}
 use Rattle.pubkey.specs.Order.{compareBytes}
 use Rattle.pubkey.specs.OrderLaws.{compare-equal, transitive, greater-flip}
-use Rattle.table.specs.Table.{Row, rowUnder, byOrder, below, ascending, every, store, erase, retain, removeRun, removeAt}
+use Rattle.table.specs.Table.{Row, rowUnder, below, ascending, every, store, erase, retain, removeRun, removeAt}
 
 -- ---- tests ----
 
@@ -112,15 +111,6 @@ module _ {A : Type 0} where
 
   -- ---- the row at an index ----
 
-  -- a key is below the rows from an index on just where it comes before the row there
-  pub below-inside : (k : List ℕ) (rs : List (Row A)) (i : ℕ) (d : Row A) → i < length rs
-      → below k (drop i rs) ≡ byOrder (compareBytes k (getD rs i d .key)) true false false
-  below-inside k rs i d inside = rw (drop-cons rs i d)
-
-  -- a key is below what follows the last row
-  pub below-end : (k : List ℕ) (rs : List (Row A)) (i : ℕ) → length rs ≤ i → below k (drop i rs) ≡ true
-  below-end k rs i h = rw (drop-of-length-le rs h)
-
   -- a key below ascending rows comes before the key of each
   pub below-each : (k : List ℕ) (rs : List (Row A)) (i : ℕ) (d : Row A) → below k rs ≡ true → ascending rs ≡ true → i < length rs
       → compareBytes k (getD rs i d .key) ≡ Less
@@ -141,34 +131,6 @@ module _ {A : Type 0} where
       → every rule rs ≡ false
   every-fails rule rs i d inside h =
       by-test (every rule rs) (λ e. absurd (true-is-not-false (every-at rule rs i d e inside) h)) (λ e. e)
-
-  -- ---- judging as a loop, whose invariant says that the rows are sound just where those from the i-th on are ----
-
-  module _ (rule : Row A → Bool) (rs : List (Row A)) (i : ℕ) where
-    -- the loop ends: no row is left
-    pub judge-ends : length rs ≤ i → (every rule rs && ascending rs) ≡ (every rule (drop i rs) && ascending (drop i rs))
-        → (every rule rs && ascending rs) ≡ true
-    unfolding every ascending
-    judge-ends h from = from ∙ rw (drop-of-length-le rs h)
-
-    module _ (d : Row A) (inside : i < length rs) (from : (every rule rs && ascending rs) ≡ (every rule (drop i rs) && ascending (drop i rs))) where
-      judge-step : (every rule rs && ascending rs)
-          ≡ (rule (getD rs i d)
-          && (below (getD rs i d .key) (drop (i + 1) rs) && (every rule (drop (i + 1) rs) && ascending (drop (i + 1) rs))))
-      judge-step = from ∙ rw (add-one, drop-cons rs i d) (sound-cons rule (getD rs i d) (drop (suc i) rs))
-
-      -- the i-th row breaks the rule
-      pub judge-breaks-rule : rule (getD rs i d) ≡ false → (every rule rs && ascending rs) ≡ false
-      judge-breaks-rule h = judge-step ∙ rw h
-
-      -- the i-th row is not below the next one
-      pub judge-breaks-order : below (getD rs i d .key) (drop (i + 1) rs) ≡ false → (every rule rs && ascending rs) ≡ false
-      judge-breaks-order h = judge-step ∙ second-fails (rule (getD rs i d)) (rw h)
-
-      -- the i-th row is sound: the invariant at the next
-      pub judge-goes-on : rule (getD rs i d) ≡ true → below (getD rs i d .key) (drop (i + 1) rs) ≡ true
-          → (every rule rs && ascending rs) ≡ (every rule (drop (i + 1) rs) && ascending (drop (i + 1) rs))
-      judge-goes-on h k = judge-step ∙ rw (h, k)
 
   -- ---- rows taken out ----
 

@@ -1,5 +1,6 @@
 -- Laws of a walk over the rows in lent memory, which the proofs of such loops cite: for any layout, rule and width of a key. In order:
--- places; keys; judging; finding from a row on; rows skipped; the walk that does both. Assumes nothing.
+-- places; keys; judging; the rule alone, for a table that judges it in a loop of its own; finding from a row on; rows skipped; the walk
+-- that does both. Assumes nothing.
 use mathlib.Core.Bool.{Bool, true, false, _&&_, cond}
 use mathlib.Core.Path.{_≡_, refl, sym, ap, _∙_}
 use mathlib.Core.List.{List, [], _∷_}
@@ -122,6 +123,33 @@ module _ {A : Type 0} (L : Layout A) where
         pub sound-goes-on : rule (rowAt L s i) ≡ true → rises (L .width) (L .keyWidth) s i ≡ true
             → soundFrom L rule s n i ≡ soundFrom L rule s n (i + 1)
         sound-goes-on h k = sound-step ∙ rw (k, h)
+
+  -- ---- the rule alone: the invariant says that every row keeps it just where those from the i-th on do ----
+
+  module _ (rule : Row A → Bool) (s : List ℕ) (n i : ℕ) (from : every rule (rows L s n) ≡ every rule (drop i (rows L s n))) where
+    -- no row is left
+    pub rules-end : n ≤ i → every rule (rows L s n) ≡ true
+    unfolding every
+    rules-end h =
+        let most : length (rows L s n) ≤ i = omega (arith, length-rows L s n) in
+        from ∙ ap (every rule) (drop-of-length-le (rows L s n) most)
+
+    module _ (inside : i < n) where
+      rules-step : every rule (rows L s n) ≡ (rule (rowAt L s i) && every rule (drop (i + 1) (rows L s n)))
+      unfolding every
+      rules-step = from ∙ ap (every rule) (rows-cons L s n i inside)
+
+      -- the i-th row breaks the rule
+      pub rules-break : rule (rowAt L s i) ≡ false → every rule (rows L s n) ≡ false
+      rules-break h = rules-step ∙ rw h
+
+      -- the i-th row keeps the rule
+      pub rules-go-on : rule (rowAt L s i) ≡ true → every rule (rows L s n) ≡ every rule (drop (i + 1) (rows L s n))
+      rules-go-on h = rules-step ∙ rw h
+
+  -- rows that do not all keep the rule are unsound
+  pub rules-fail : (rule : Row A → Bool) (s : List ℕ) (n : ℕ) (k : List ℕ) → every rule (rows L s n) ≡ false → Unsound ≡ seek rule k (rows L s n)
+  rules-fail rule s n k h = sym (seek-unsound rule k (rows L s n) .1 (rw h))
 
   -- ---- finding from a row on: the invariant says that the answer is the key's place among the rows from the i-th on ----
 
