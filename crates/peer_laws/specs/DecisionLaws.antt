@@ -1,9 +1,9 @@
 -- Laws of a decision on an entry, as runs of calls need them: whatever is decided, the entry was last used now; its buckets are charged
 -- by an Allow alone; and where both buckets pass, the ceiling decides. Assumes nothing.
 use mathlib.Core.Path.{_≡_, refl}
-use mathlib.Core.Bool.{false}
+use mathlib.Core.Bool.{true}
 use Prim.Native.Nat.{ℕ}
-use native.Mathlib.Omega.{arith}
+use Rattle.table.specs.TableLaws.{true-is-not-false}
 use Rattle.peer_settings.specs.declared.config.PeerMessagePolicyConfig.{PeerMessagePolicyConfig}
 use Rattle.peer_state.specs.declared.entry.Level.{Level}
 use Rattle.peer_state.specs.declared.entry.PeerMessagePolicyEntry.{PeerMessagePolicyEntry}
@@ -13,9 +13,10 @@ use Rattle.peer_state.specs.declared.ingress.Room.the-variants as Room
 use Rattle.peer_verdict.specs.declared.verdict.Cause.{Cause}
 use Rattle.peer_verdict.specs.declared.verdict.Cause.the-variants as Cause
 use Rattle.peer_verdict.specs.declared.verdict.Decision.{Decision}
+use Rattle.peer_verdict.specs.declared.verdict.InvalidDecision.{InvalidDecision}
 use Rattle.peer_state.specs.Entry.{entryBan, entryUsed}
 use Rattle.peer_state.specs.Ingress.{tryReserve}
-use Rattle.peer_verdict.specs.Verdict.{takeMessage, takeBytes, roomed, violated, weighed, judged, judgedInvalid, overflows}
+use Rattle.peer_verdict.specs.Verdict.{takeMessage, takeBytes, roomed, violated, weighed, judged, judgedInvalid}
 use Rattle.peer_verdict.specs.VerdictLaws.{violated-ways, noted-ways, weighed-ways}
 
 -- the cause that the ceiling gives
@@ -46,30 +47,30 @@ module _ (c : PeerMessagePolicyConfig) (i : FiberIngressBudget) (e : PeerMessage
   weighed-used size now h =
       weighed-ways (UsedAt now) c i e size now
       (λ m. violated-used now Cause.MessagesShort h)
-      (λ m b. violated-used now (Cause.BytesShort (takeBytes c (e .bytes) size now .short)) h)
+      (λ m b. violated-used now (Cause.BytesShort (takeBytes c (e .bytes) size now .missing)) h)
       (λ m b.
       roomed-used now (takeMessage c (e .messages) now .level) (takeBytes c (e .bytes) size now .level) (tryReserve c i size) h)
+
+-- ════ An invalid message ══════════════════════════════════════════════════════════════════════════
+
+module _ (c : PeerMessagePolicyConfig) (e : PeerMessagePolicyEntry) (now : ℕ) where
+  -- it charges no bucket, and is a use
+  pub record Noted (d : InvalidDecision) : Type 0 where
+    pub messages : d .entry .messages ≡ e .messages
+    pub bytes : d .entry .bytes ≡ e .bytes
+    pub used : d .entry .«last_used_ms» ≡ now
+
+  pub judged-invalid-noted : Noted (judgedInvalid c e now)
+  unfolding judgedInvalid entryUsed entryBan
+  judged-invalid-noted =
+      noted-ways Noted c (entryUsed e now (c .«ban_duration_ms»)) now
+      (λ t. record { messages = refl; bytes = refl; used = refl })
+      (λ t. record { messages = refl; bytes = refl; used = refl })
 
 module _ (c : PeerMessagePolicyConfig) (i : FiberIngressBudget) (e : PeerMessagePolicyEntry) where
   pub judged-used : (size now : ℕ) → judged c i e size now .entry .«last_used_ms» ≡ now
   unfolding judged entryUsed
   judged-used size now = weighed-used c i (entryUsed e now (c .«ban_duration_ms»)) size now refl
-
-  -- ════ An invalid message ══════════════════════════════════════════════════════════════════════════
-
-  -- it charges no bucket, is never refused, and is a use
-  pub record Noted (now : ℕ) (d : Decision) : Type 0 where
-    pub messages : d .entry .messages ≡ e .messages
-    pub bytes : d .entry .bytes ≡ e .bytes
-    pub used : d .entry .«last_used_ms» ≡ now
-    pub stands : overflows (d .cause) ≡ false
-
-  pub judged-invalid-noted : (now : ℕ) → Noted now (judgedInvalid c i e now)
-  unfolding judgedInvalid entryUsed entryBan
-  judged-invalid-noted now =
-      noted-ways (Noted now) c i (entryUsed e now (c .«ban_duration_ms»)) now
-      (λ t. record { messages = refl; bytes = refl; used = refl; stands = refl })
-      (λ t. record { messages = refl; bytes = refl; used = refl; stands = refl })
 
   -- ════ Where both buckets pass ═════════════════════════════════════════════════════════════════════
 
@@ -79,13 +80,13 @@ module _ (c : PeerMessagePolicyConfig) (i : FiberIngressBudget) (e : PeerMessage
   roomed-cause x m b (Room.BytesShort k) = refl
   roomed-cause x m b Room.Overflow = refl
 
-  pub judged-passes : (size now : ℕ) → takeMessage c (e .messages) now .short ≡ 0 → takeBytes c (e .bytes) size now .short ≡ 0
+  pub judged-passes : (size now : ℕ) → takeMessage c (e .messages) now .passes ≡ true → takeBytes c (e .bytes) size now .passes ≡ true
       → judged c i e size now .cause ≡ roomCause (tryReserve c i size)
   unfolding judged entryUsed
   judged-passes size now m b =
       let used : PeerMessagePolicyEntry = entryUsed e now (c .«ban_duration_ms») in
       weighed-ways (λ d. d .cause ≡ roomCause (tryReserve c i size)) c i used size now
-      (λ short. absurd (omega arith))
-      (λ n short. absurd (omega arith))
+      (λ no. absurd (true-is-not-false m no))
+      (λ n no. absurd (true-is-not-false b no))
       (λ n l.
       roomed-cause used (takeMessage c (e .messages) now .level) (takeBytes c (e .bytes) size now .level) (tryReserve c i size))

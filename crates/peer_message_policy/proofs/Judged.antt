@@ -129,6 +129,16 @@ module _ (p : PeerMessagePolicy) (s : List ℕ) (h : sound p s ≡ true) where
   pub rows-fit : 121 * p .rows ≤ length s
   rows-fit = omega (arith, few-rows, limit-fits)
 
+  -- no more rows than the limit, as a list
+  pub few-read : length (rowsOf p s) ≤ limit (p .config)
+  few-read = omega (arith, few-rows, length-rows peerLayout s (p .rows))
+
+  -- the keys ascend
+  pub in-order : ascending (rowsOf p s) ≡ true
+  in-order =
+      both-parts (every (peerSound (p .config)) (rowsOf p s)) (ascending (rowsOf p s))
+      (both-parts (longEnough (p .config) s) _ memory-sound .1) .1
+
   -- every row keeps its rules
   pub rules-kept : every (peerSound (p .config)) (rowsOf p s) ≡ true
   rules-kept =

@@ -4,7 +4,7 @@ use mathlib.Core.Path.{_≡_}
 use mathlib.Core.Bool.{Bool, true, false, cond}
 use mathlib.Core.List.{List, [], _∷_}
 use Prim.Native.Nat.{ℕ}
-use lib.Dec.{ltb}
+use lib.Dec.{eqb, ltb}
 use Rattle.pubkey.specs.declared.Pubkey.{Pubkey}
 use Rattle.refusal.specs.Refusal.{Said, gives, refused, tooShort, limitTooLarge, unsound, overflow}
 use Rattle.table.specs.Table.{look}
@@ -16,6 +16,8 @@ use Rattle.peer_state.specs.declared.ingress.FiberIngressBudget.{FiberIngressBu
 use Rattle.peer_message_policy.specs.declared.policy.PeerMessagePolicy.{PeerMessagePolicy}
 use Rattle.peer_verdict.specs.declared.verdict.Cause.{Cause}
 use Rattle.peer_verdict.specs.declared.verdict.Cause.the-variants as Cause
+use Rattle.peer_verdict.specs.declared.verdict.InvalidCause.{InvalidCause}
+use Rattle.peer_verdict.specs.declared.verdict.InvalidCause.the-variants as InvalidCause
 use Rattle.peer_message_policy.specs.declared.answer.Made.{Made}
 use Rattle.peer_message_policy.specs.declared.answer.Made.the-variants as Made
 use Rattle.peer_message_policy.specs.declared.answer.PeerMessageAdmission.{PeerMessageAdmission}
@@ -41,11 +43,28 @@ abbrev pub madeSays : Made → Said
 madeSays (Made.Policy p) = gives []
 madeSays (Made.Refused n) = refused n
 
--- 0 for Allow, 1 for Disconnect, 2 for Ban
+-- what an Allow says
+abbrev pub allow : Said
+allow = gives (0 ∷ [])
+
+-- what a Disconnect says
+abbrev pub disconnect : Said
+disconnect = gives (1 ∷ [])
+
+-- what a Ban says
+abbrev pub ban : Said
+ban = gives (2 ∷ [])
+
+-- whether an answer says Allow: by its first value, whatever stands behind it
+abbrev pub isAllow : Said → Bool
+isAllow (gives []) = false
+isAllow (gives (n ∷ more)) = eqb n 0
+isAllow (refused n) = false
+
 abbrev pub admissionSays : PeerMessageAdmission → Said
-admissionSays (Admission.Allow p) = gives (0 ∷ [])
-admissionSays (Admission.Disconnect p) = gives (1 ∷ [])
-admissionSays (Admission.Ban p) = gives (2 ∷ [])
+admissionSays (Admission.Allow p) = allow
+admissionSays (Admission.Disconnect p) = disconnect
+admissionSays (Admission.Ban p) = ban
 admissionSays (Admission.Refused n) = refused n
 
 -- 1 for banned, 0 for noted
@@ -74,9 +93,13 @@ heldTimeSays (HeldTime.Refused n) = refused n
 
 -- ════ Answers and memory ══════════════════════════════════════════════════════════════════════════
 
+-- the policy with this load in flight and so many rows
+abbrev pub policyWith : PeerMessagePolicy → FiberIngressBudget → ℕ → PeerMessagePolicy
+policyWith p i n = record { config = p .config; ingress = i; rows = n }
+
 -- the policy with this load in flight, after a change of its rows
 abbrev pub policyAfter : PeerMessagePolicy → FiberIngressBudget → Change → PeerMessagePolicy
-policyAfter p i change = record { config = p .config; ingress = i; rows = rowsAfter (p .rows) change }
+policyAfter p i change = policyWith p i (rowsAfter (p .rows) change)
 
 -- lent memory that held n rows, after a change: every byte of it
 abbrev pub Memory : List ℕ → List ℕ → ℕ → Change → Type 0
@@ -121,7 +144,7 @@ admissionOf p Cause.LiveBan = Admission.Ban p
 admissionOf p Cause.BanBegun = Admission.Ban p
 admissionOf p Cause.Overflow = Admission.Refused overflow
 
-abbrev pub admissionTurn : PeerMessagePolicy → Turn → Outcome PeerMessageAdmission
+abbrev pub admissionTurn : PeerMessagePolicy → Turn Cause → Outcome PeerMessageAdmission
 admissionTurn p t = record { answer = admissionOf (policyAfter p (t .ingress) (t .change)) (t .cause); change = t .change }
 
 unfoldable pub admitOutcome : PeerMessagePolicy → List ℕ → Pubkey → ℕ → ℕ → Outcome PeerMessageAdmission
@@ -132,18 +155,13 @@ admitOutcome p s k size now =
 unfoldable pub AdmitMeets : PeerMessagePolicy → List ℕ → Pubkey → ℕ → ℕ → PeerMessageAdmission → List ℕ → Type 0
 AdmitMeets p before k size now r after = Meets r before after (p .rows) (admitOutcome p before k size now)
 
--- a ban, live or begun, is answered Banned; anything else is noted
-abbrev pub invalidOf : PeerMessagePolicy → Cause → Invalid
-invalidOf p Cause.Allowed = Invalid.Noted p
-invalidOf p Cause.MessagesShort = Invalid.Noted p
-invalidOf p (Cause.BytesShort k) = Invalid.Noted p
-invalidOf p Cause.NoSlot = Invalid.Noted p
-invalidOf p (Cause.CeilingShort k) = Invalid.Noted p
-invalidOf p Cause.LiveBan = Invalid.Banned p
-invalidOf p Cause.BanBegun = Invalid.Banned p
-invalidOf p Cause.Overflow = Invalid.Noted p
+-- a ban, live or begun, is answered Banned
+abbrev pub invalidOf : PeerMessagePolicy → InvalidCause → Invalid
+invalidOf p InvalidCause.Noted = Invalid.Noted p
+invalidOf p InvalidCause.LiveBan = Invalid.Banned p
+invalidOf p InvalidCause.BanBegun = Invalid.Banned p
 
-abbrev pub invalidTurn : PeerMessagePolicy → Turn → Outcome Invalid
+abbrev pub invalidTurn : PeerMessagePolicy → Turn InvalidCause → Outcome Invalid
 invalidTurn p t = record { answer = invalidOf (policyAfter p (t .ingress) (t .change)) (t .cause); change = t .change }
 
 unfoldable pub recordInvalidOutcome : PeerMessagePolicy → List ℕ → Pubkey → ℕ → Outcome Invalid

@@ -1,7 +1,7 @@
--- Laws of a take out of a bucket: no level passes its capacity, and what is short says whether the bucket passes. They ask for
--- no range of the numbers. Assumes nothing.
-use mathlib.Core.Path.{_≡_, refl, ap}
-use mathlib.Core.Bool.{true, _||_}
+-- Laws of a take out of a bucket: no level passes its capacity, and a byte bucket that does not pass falls short by something. They
+-- ask for no range of the numbers. Assumes nothing.
+use mathlib.Core.Path.{_≡_, refl}
+use mathlib.Core.Bool.{true, false, _||_, true≢false}
 use Prim.Native.Nat.{ℕ, zero, suc, _+_, _-_, _*_, _/_, _%_, _^_, _≤_, _<_, min}
 use native.Mathlib.Nat.{min-le-left, min-le-right, le-trans, le-of-lt}
 use native.Mathlib.Omega.{arith}
@@ -12,8 +12,6 @@ use lib.Signed.{ltZ}
 use Rattle.amount_limbs.specs.Limbs.{digits}
 use Rattle.amount.specs.Amount.{limbs, value, amountOf, Is, isI128, saturated, natural, lesser}
 use Rattle.amount.specs.AmountOfLaws.{amountOf-is}
-use Rattle.bucket_terms.specs.declared.answer.Consumed.{Consumed}
-use Rattle.bucket_terms.specs.declared.answer.Consumed.the-variants as Consumed
 use Rattle.bucket_discrete.specs.declared.discrete.DiscreteTokenBucket.{DiscreteTokenBucket}
 use Rattle.bucket_discrete.specs.declared.discrete.DiscreteConsumed.{DiscreteConsumed}
 use Rattle.bucket_bytes.specs.declared.bytes.ByteTokenBucket.{ByteTokenBucket}
@@ -25,7 +23,7 @@ use Rattle.peer_settings.specs.declared.config.PeerMessagePolicyConfig.{PeerMes
 use Rattle.peer_state.specs.declared.entry.Level.{Level}
 use Rattle.peer_verdict.specs.declared.verdict.Take.{Take}
 use Rattle.peer_settings.specs.Config.{messageLimitDisabled, bytesOf}
-use Rattle.peer_verdict.specs.Verdict.{shortOf, messageBucket, takeMessage, takeBytes}
+use Rattle.peer_verdict.specs.Verdict.{passes, missing, messageBucket, takeMessage, takeBytes}
 use Rattle.peer_state.specs.EntryLaws.{chosen}
 
 -- ════ The message bucket ══════════════════════════════════════════════════════════════════════════
@@ -153,31 +151,18 @@ deficit-positive (pos (suc m)) n h =
     (λ t. min-positive (omega (arith, ltb-true (suc m) n h)) (lit≤ tt))
 deficit-positive (negsuc m) n h = min-positive (omega arith) (lit≤ tt)
 
-byte-take-passes : (b : ByteTokenBucket) (bytes : ℕ) → shortOf (byteTake b bytes .answer) ≡ 0 → byteTake b bytes .answer ≡ Consumed.Yes
+byte-take-missing : (b : ByteTokenBucket) (bytes : ℕ) → passes (byteTake b bytes .answer) ≡ false → 1 ≤ missing (byteTake b bytes .answer)
 unfolding byteTake
-byte-take-passes b bytes =
-    chosen (λ (r : ByteConsumed). shortOf (r .answer) ≡ 0 → r .answer ≡ Consumed.Yes)
+byte-take-missing b bytes =
+    chosen (λ (r : ByteConsumed). passes (r .answer) ≡ false → 1 ≤ missing (r .answer))
     (ltZ (value (b .«available_bytes»)) (pos bytes))
-    (λ t s.
-    let short : 1 ≤ min (byteDeficit b bytes) 18446744073709551615 =
-    min-positive (deficit-positive (value (b .«available_bytes»)) bytes t) (lit≤ tt)
-    in
-    absurd (omega (arith, short, s)))
-    (λ t s. refl)
+    (λ t no. min-positive (deficit-positive (value (b .«available_bytes»)) bytes t) (lit≤ tt))
+    (λ t no. absurd (true≢false no))
 
--- what the byte bucket answers to a take
-abbrev pub bytesAnswer : PeerMessagePolicyConfig → Level → ℕ → ℕ → Consumed
-bytesAnswer c l size now =
-    byteTryConsume (byteLevel (bytesOf c) (pos (l .available)) (l .«last_refill_ms»)) size now .answer
-
--- nothing is short exactly where the bucket says yes
-pub bytes-pass : (c : PeerMessagePolicyConfig) (l : Level) (size now : ℕ) → takeBytes c l size now .short ≡ 0 → bytesAnswer c l size now ≡ Consumed.Yes
+-- a byte bucket that does not pass falls short by something
+pub bytes-missing : (c : PeerMessagePolicyConfig) (l : Level) (size now : ℕ) → takeBytes c l size now .passes ≡ false → 1 ≤ takeBytes c l size now .missing
 unfolding takeBytes byteTryConsume
-bytes-pass c l size now =
-    chosen (λ (r : ByteConsumed). shortOf (r .answer) ≡ 0 → r .answer ≡ Consumed.Yes) (byteDisabled (bytesOf c))
-    (λ off s. refl)
-    (λ on. byte-take-passes (byteRefill (byteLevel (bytesOf c) (pos (l .available)) (l .«last_refill_ms»)) now) size)
-
-pub bytes-passed : (c : PeerMessagePolicyConfig) (l : Level) (size now : ℕ) → bytesAnswer c l size now ≡ Consumed.Yes → takeBytes c l size now .short ≡ 0
-unfolding takeBytes
-bytes-passed c l size now h = ap shortOf h
+bytes-missing c l size now =
+    chosen (λ (r : ByteConsumed). passes (r .answer) ≡ false → 1 ≤ missing (r .answer)) (byteDisabled (bytesOf c))
+    (λ off no. absurd (true≢false no))
+    (λ on. byte-take-missing (byteRefill (byteLevel (bytesOf c) (pos (l .available)) (l .«last_refill_ms»)) now) size)

@@ -20,7 +20,9 @@ use Rattle.peer_state.specs.declared.ingress.Room.{Room}
 use Rattle.peer_state.specs.declared.ingress.Room.the-variants as Room
 use Rattle.peer_verdict.specs.declared.verdict.Cause.{Cause}
 use Rattle.peer_verdict.specs.declared.verdict.Cause.the-variants as Cause
+use Rattle.peer_verdict.specs.declared.verdict.InvalidCause.the-variants as InvalidCause
 use Rattle.peer_verdict.specs.declared.verdict.Decision.{Decision}
+use Rattle.peer_verdict.specs.declared.verdict.InvalidDecision.{InvalidDecision}
 use Rattle.peer_verdict.specs.declared.verdict.Take.{Take}
 use Rattle.peer_settings.specs.Config.{messageLimitDisabled, banDisabled, bytesOf}
 use Rattle.peer_state.specs.Entry.{level, windowRecord, entryBan, entryUsed}
@@ -28,11 +30,17 @@ use Rattle.peer_state.specs.Ingress.{tryReserve}
 
 -- ════ The two buckets, on copies ══════════════════════════════════════════════════════════════════
 
--- by how much a bucket's answer falls short: 0 for yes
-abbrev pub shortOf : Consumed → ℕ
-shortOf Consumed.Yes = 0
-shortOf (Consumed.No k) = k
-shortOf (Consumed.Refused n) = n
+-- try_consume, as the Rust's bool: whether the bucket passes
+abbrev pub passes : Consumed → Bool
+passes Consumed.Yes = true
+passes (Consumed.No k) = false
+passes (Consumed.Refused n) = false
+
+-- by how much the bucket falls short, where it says no
+abbrev pub missing : Consumed → ℕ
+missing Consumed.Yes = 0
+missing (Consumed.No k) = k
+missing (Consumed.Refused n) = 0
 
 -- the message bucket of an entry
 abbrev pub messageBucket : PeerMessagePolicyConfig → Level → DiscreteTokenBucket
@@ -46,19 +54,24 @@ messageBucket c l =
 
 abbrev pub messagesTaken : DiscreteConsumed → Take
 messagesTaken r =
-    record { short = shortOf (r .answer); level = level (r .bucket .available) (r .bucket .«last_refill_ms») }
+    record {
+      passes = passes (r .answer);
+      missing = missing (r .answer);
+      level = level (r .bucket .available) (r .bucket .«last_refill_ms»);
+    }
 
 abbrev pub bytesTaken : ByteConsumed → Take
 bytesTaken r =
     record {
-      short = shortOf (r .answer);
+      passes = passes (r .answer);
+      missing = missing (r .answer);
       level = level (natural (value (r .bucket .«available_bytes»))) (r .bucket .«last_refill_ms»);
     }
 
 -- one message out of the message bucket, which is passed by where the limit is off
 unfoldable pub takeMessage : PeerMessagePolicyConfig → Level → ℕ → Take
 takeMessage c l now =
-    cond (messageLimitDisabled c) (record { short = 0; level = l })
+    cond (messageLimitDisabled c) (record { passes = true; missing = 0; level = l })
     (messagesTaken (discreteTryConsume (messageBucket c l) now))
 
 -- the message's bytes out of the byte bucket
@@ -123,30 +136,35 @@ roomed i e m b Room.NoSlot = record { cause = Cause.NoSlot; entry = e; ingress =
 roomed i e m b (Room.BytesShort k) = record { cause = Cause.CeilingShort k; entry = e; ingress = i }
 roomed i e m b Room.Overflow = record { cause = Cause.Overflow; entry = e; ingress = i }
 
--- an entry whose windows are expired and whose last use is now: the message bucket, the byte bucket, the ceiling, in this order
-unfoldable pub weighed : PeerMessagePolicyConfig → FiberIngressBudget → PeerMessagePolicyEntry → ℕ → ℕ → Decision
-weighed c i e size now =
+-- an entry whose windows are expired and whose last use is now: the message bucket, the byte bucket, the ceiling, in this order; the
+-- room that the ceiling has is given
+abbrev pub weighedIn : PeerMessagePolicyConfig → FiberIngressBudget → PeerMessagePolicyEntry → ℕ → ℕ → Room → Decision
+weighedIn c i e size now room =
     let m = takeMessage c (e .messages) now
     in let b = takeBytes c (e .bytes) size now
-    in cond (leb 1 (m .short)) (violated c i e now Cause.MessagesShort)
-    (cond (leb 1 (b .short)) (violated c i e now (Cause.BytesShort (b .short)))
-    (roomed i e (m .level) (b .level) (tryReserve c i size)))
+    in cond (m .passes)
+    (cond (b .passes) (roomed i e (m .level) (b .level) room) (violated c i e now (Cause.BytesShort (b .missing))))
+    (violated c i e now Cause.MessagesShort)
+
+-- the same, with the room that the load in flight leaves
+unfoldable pub weighed : PeerMessagePolicyConfig → FiberIngressBudget → PeerMessagePolicyEntry → ℕ → ℕ → Decision
+weighed c i e size now = weighedIn c i e size now (tryReserve c i size)
 
 -- admit on an entry that is not banned
 unfoldable pub judged : PeerMessagePolicyConfig → FiberIngressBudget → PeerMessagePolicyEntry → ℕ → ℕ → Decision
 judged c i e size now = weighed c i (entryUsed e now (c .«ban_duration_ms»)) size now
 
 -- an invalid message counted on an entry whose windows are expired and whose last use is now
-unfoldable pub noted : PeerMessagePolicyConfig → FiberIngressBudget → PeerMessagePolicyEntry → ℕ → Decision
-noted c i e now =
+unfoldable pub noted : PeerMessagePolicyConfig → PeerMessagePolicyEntry → ℕ → InvalidDecision
+noted c e now =
     let w = windowRecord (e .«invalid_messages») now (c .«ban_duration_ms»)
     in cond (reachesBan c w)
-    (record { cause = Cause.BanBegun; entry = entryBan (withInvalidWindow e w) now (c .«ban_duration_ms»); ingress = i })
-    (record { cause = Cause.Allowed; entry = withInvalidWindow e w; ingress = i })
+    (record { cause = InvalidCause.BanBegun; entry = entryBan (withInvalidWindow e w) now (c .«ban_duration_ms») })
+    (record { cause = InvalidCause.Noted; entry = withInvalidWindow e w })
 
 -- record_invalid on an entry that is not banned
-unfoldable pub judgedInvalid : PeerMessagePolicyConfig → FiberIngressBudget → PeerMessagePolicyEntry → ℕ → Decision
-judgedInvalid c i e now = noted c i (entryUsed e now (c .«ban_duration_ms»)) now
+unfoldable pub judgedInvalid : PeerMessagePolicyConfig → PeerMessagePolicyEntry → ℕ → InvalidDecision
+judgedInvalid c e now = noted c (entryUsed e now (c .«ban_duration_ms»)) now
 
 -- whether the decision is refusal 4: it would be an Allow, and the numbers in flight have no room
 abbrev pub overflows : Cause → Bool

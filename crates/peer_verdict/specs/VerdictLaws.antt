@@ -2,9 +2,7 @@
 use mathlib.Core.Path.{_≡_, refl, subst}
 use mathlib.Core.Bool.{true, false, and-eq-true-iff}
 use Prim.Native.Nat.{ℕ, _≤_}
-use native.Mathlib.Omega.{arith}
-use borrow.Author.Tests.{leb-true, leb-false, not-true}
-use lib.Dec.{leb}
+use borrow.Author.Tests.{not-true}
 use Rattle.peer_settings.specs.declared.config.PeerMessagePolicyConfig.{PeerMessagePolicyConfig}
 use Rattle.peer_state.specs.declared.entry.Level.{Level}
 use Rattle.peer_state.specs.declared.entry.ViolationWindow.{ViolationWindow}
@@ -14,7 +12,9 @@ use Rattle.peer_state.specs.declared.ingress.Room.{Room}
 use Rattle.peer_state.specs.declared.ingress.Room.the-variants as Room
 use Rattle.peer_verdict.specs.declared.verdict.Cause.{Cause}
 use Rattle.peer_verdict.specs.declared.verdict.Cause.the-variants as Cause
+use Rattle.peer_verdict.specs.declared.verdict.InvalidCause.the-variants as InvalidCause
 use Rattle.peer_verdict.specs.declared.verdict.Decision.{Decision}
+use Rattle.peer_verdict.specs.declared.verdict.InvalidDecision.{InvalidDecision}
 use Rattle.peer_settings.specs.Config.{banDisabled, unlimited}
 use Rattle.peer_state.specs.Entry.{windowRecord, entryBan, entryUsed, entrySound}
 use Rattle.peer_state.specs.Ingress.{ingressReserved, tryReserve, ingressSound}
@@ -27,6 +27,7 @@ use Rattle.peer_verdict.specs.Verdict.{
   reachesBan,
   violated,
   roomed,
+  weighedIn,
   weighed,
   judged,
   noted,
@@ -34,7 +35,7 @@ use Rattle.peer_verdict.specs.Verdict.{
 }
 use Rattle.peer_state.specs.EntryLaws.{chosen, EntryHolds, sound-holds, holds-sound, ban-holds, used-holds, count-record}
 use Rattle.peer_state.specs.IngressLaws.{RoomHolds, room-holds}
-use Rattle.peer_verdict.specs.TakeLaws.{message-level, bytes-level}
+use Rattle.peer_verdict.specs.TakeLaws.{message-level, bytes-level, bytes-missing}
 
 -- ════ The ways it goes ════════════════════════════════════════════════════════════════════════════
 
@@ -55,22 +56,38 @@ module _ (P : Decision → Type 0) (c : PeerMessagePolicyConfig) (i : FiberIngre
   unfolding violated
   violated-ways now cause begun counted = chosen P (reachesBan c (rateCounted c e now)) begun counted
 
-  pub noted-ways : (now : ℕ) → (reachesBan c (invalidCounted c e now) ≡ true → P (banBegun c i (withInvalidWindow e (invalidCounted c e now)) now)) → (reachesBan c (invalidCounted c e now) ≡ false → P (record { cause = Cause.Allowed; entry = withInvalidWindow e (invalidCounted c e now); ingress = i })) → P (noted c i e now)
-  unfolding noted
-  noted-ways now begun counted = chosen P (reachesBan c (invalidCounted c e now)) begun counted
+  pub weighed-in-ways : (size now : ℕ) (room : Room)
+      → (takeMessage c (e .messages) now .passes ≡ false → P (violated c i e now Cause.MessagesShort))
+      → (takeMessage c (e .messages) now .passes ≡ true → takeBytes c (e .bytes) size now .passes ≡ false
+      → P (violated c i e now (Cause.BytesShort (takeBytes c (e .bytes) size now .missing))))
+      → (takeMessage c (e .messages) now .passes ≡ true → takeBytes c (e .bytes) size now .passes ≡ true
+      → P (roomed i e (takeMessage c (e .messages) now .level) (takeBytes c (e .bytes) size now .level) room))
+      → P (weighedIn c i e size now room)
+  weighed-in-ways size now room messages bytes passed =
+      chosen P (takeMessage c (e .messages) now .passes)
+      (λ m. chosen P (takeBytes c (e .bytes) size now .passes) (λ b. passed m b) (λ b. bytes m b))
+      messages
 
-  pub weighed-ways : (size now : ℕ) → (1 ≤ takeMessage c (e .messages) now .short → P (violated c i e now Cause.MessagesShort)) → (takeMessage c (e .messages) now .short ≡ 0 → 1 ≤ takeBytes c (e .bytes) size now .short → P (violated c i e now (Cause.BytesShort (takeBytes c (e .bytes) size now .short)))) → (takeMessage c (e .messages) now .short ≡ 0 → takeBytes c (e .bytes) size now .short ≡ 0 → P (roomed i e (takeMessage c (e .messages) now .level) (takeBytes c (e .bytes) size now .level) (tryReserve c i size))) → P (weighed c i e size now)
+  -- with the room that the load in flight leaves
+  pub weighed-ways : (size now : ℕ)
+      → (takeMessage c (e .messages) now .passes ≡ false → P (violated c i e now Cause.MessagesShort))
+      → (takeMessage c (e .messages) now .passes ≡ true → takeBytes c (e .bytes) size now .passes ≡ false
+      → P (violated c i e now (Cause.BytesShort (takeBytes c (e .bytes) size now .missing))))
+      → (takeMessage c (e .messages) now .passes ≡ true → takeBytes c (e .bytes) size now .passes ≡ true
+      → P (roomed i e (takeMessage c (e .messages) now .level) (takeBytes c (e .bytes) size now .level) (tryReserve c i size)))
+      → P (weighed c i e size now)
   unfolding weighed
-  weighed-ways size now messages bytes passed =
-      let m = takeMessage c (e .messages) now .short in
-      let b = takeBytes c (e .bytes) size now .short in
-      chosen P (leb 1 m)
-      (λ t. messages (leb-true 1 m t))
-      (λ t.
-      let none : m ≡ 0 = omega (arith, leb-false 1 m t) in
-      chosen P (leb 1 b)
-      (λ s. bytes none (leb-true 1 b s))
-      (λ s. passed none (omega (arith, leb-false 1 b s))))
+  weighed-ways size now messages bytes passed = weighed-in-ways size now (tryReserve c i size) messages bytes passed
+
+-- the same of an invalid message
+pub noted-ways : (P : InvalidDecision → Type 0) (c : PeerMessagePolicyConfig) (e : PeerMessagePolicyEntry) (now : ℕ)
+    → (reachesBan c (invalidCounted c e now) ≡ true
+    → P (record { cause = InvalidCause.BanBegun; entry = entryBan (withInvalidWindow e (invalidCounted c e now)) now (c .«ban_duration_ms») }))
+    → (reachesBan c (invalidCounted c e now) ≡ false
+    → P (record { cause = InvalidCause.Noted; entry = withInvalidWindow e (invalidCounted c e now) }))
+    → P (noted c e now)
+unfolding noted
+noted-ways P c e now begun counted = chosen P (reachesBan c (invalidCounted c e now)) begun counted
 
 -- ════ The entry stays sound ═══════════════════════════════════════════════════════════════════════
 
@@ -92,12 +109,12 @@ violated-holds c i e now cause h =
     in
     violated-ways (Keeps c) c i e now cause (λ t. ban-holds now (c .«ban_duration_ms») counted) (λ t. counted)
 
-noted-holds : (c : PeerMessagePolicyConfig) (i : FiberIngressBudget) (e : PeerMessagePolicyEntry) (now : ℕ) → EntryHolds c e → Keeps c (noted c i e now)
-noted-holds c i e now h =
+noted-holds : (c : PeerMessagePolicyConfig) (e : PeerMessagePolicyEntry) (now : ℕ) → EntryHolds c e → EntryHolds c (noted c e now .entry)
+noted-holds c e now h =
     let counted : EntryHolds c (withInvalidWindow e (invalidCounted c e now)) =
     invalid-holds h (count-record (e .«invalid_messages») now (c .«ban_duration_ms»))
     in
-    noted-ways (Keeps c) c i e now (λ t. ban-holds now (c .«ban_duration_ms») counted) (λ t. counted)
+    noted-ways (λ d. EntryHolds c (d .entry)) c e now (λ t. ban-holds now (c .«ban_duration_ms») counted) (λ t. counted)
 
 roomed-holds : {c : PeerMessagePolicyConfig} (i : FiberIngressBudget) {e : PeerMessagePolicyEntry} {m b : Level} (r : Room) → EntryHolds c e → EntryHolds c (withLevels e m b) → Keeps c (roomed i e m b r)
 roomed-holds i (Room.Left after) h charged = charged
@@ -109,7 +126,7 @@ weighed-holds : (c : PeerMessagePolicyConfig) (i : FiberIngressBudget) (e : Peer
 weighed-holds c i e size now h =
     weighed-ways (Keeps c) c i e size now
     (λ m. violated-holds c i e now Cause.MessagesShort h)
-    (λ m b. violated-holds c i e now (Cause.BytesShort (takeBytes c (e .bytes) size now .short)) h)
+    (λ m b. violated-holds c i e now (Cause.BytesShort (takeBytes c (e .bytes) size now .missing)) h)
     (λ m b.
     roomed-holds i (tryReserve c i size) h
     (record {
@@ -126,11 +143,11 @@ judged-sound c i e size now h =
     let used = entryUsed e now (c .«ban_duration_ms») in
     holds-sound (weighed-holds c i used size now (used-holds now (c .«ban_duration_ms») (sound-holds h)))
 
-pub judged-invalid-sound : (c : PeerMessagePolicyConfig) (i : FiberIngressBudget) (e : PeerMessagePolicyEntry) (now : ℕ) → entrySound c e ≡ true → entrySound c (judgedInvalid c i e now .entry) ≡ true
+pub judged-invalid-sound : (c : PeerMessagePolicyConfig) (e : PeerMessagePolicyEntry) (now : ℕ) → entrySound c e ≡ true → entrySound c (judgedInvalid c e now .entry) ≡ true
 unfolding judgedInvalid
-judged-invalid-sound c i e now h =
+judged-invalid-sound c e now h =
     let used = entryUsed e now (c .«ban_duration_ms») in
-    holds-sound (noted-holds c i used now (used-holds now (c .«ban_duration_ms») (sound-holds h)))
+    holds-sound (noted-holds c used now (used-holds now (c .«ban_duration_ms») (sound-holds h)))
 
 -- ════ The causes, and what each leaves ════════════════════════════════════════════════════════════
 
@@ -157,8 +174,8 @@ NotAllowed Cause.Overflow = Unit {0}
 
 -- an admitted message: both buckets passed, are charged, and the load is one message more
 pub record Admitted (c : PeerMessagePolicyConfig) (i : FiberIngressBudget) (e : PeerMessagePolicyEntry) (size now : ℕ) (d : Decision) : Type 0 where
-  pub messages : takeMessage c (e .messages) now .short ≡ 0
-  pub bytes : takeBytes c (e .bytes) size now .short ≡ 0
+  pub messages : takeMessage c (e .messages) now .passes ≡ true
+  pub bytes : takeBytes c (e .bytes) size now .passes ≡ true
   pub entry : d .entry ≡ withLevels e (takeMessage c (e .messages) now .level) (takeBytes c (e .bytes) size now .level)
   pub ingress : d .ingress ≡ ingressReserved i size
 
@@ -198,7 +215,7 @@ violated-orderly c i e size now cause holds n =
     kept-orderly (banning c (rateCounted c e now) t) tt (record { messages = refl; bytes = refl; ingress = refl }))
     (λ t. kept-orderly holds n (record { messages = refl; bytes = refl; ingress = refl }))
 
-roomed-orderly : (c : PeerMessagePolicyConfig) (i : FiberIngressBudget) (e : PeerMessagePolicyEntry) (size now : ℕ) → takeMessage c (e .messages) now .short ≡ 0 → takeBytes c (e .bytes) size now .short ≡ 0 → (r : Room) → RoomHolds c i size r → Orderly c i e size now (roomed i e (takeMessage c (e .messages) now .level) (takeBytes c (e .bytes) size now .level) r)
+roomed-orderly : (c : PeerMessagePolicyConfig) (i : FiberIngressBudget) (e : PeerMessagePolicyEntry) (size now : ℕ) → takeMessage c (e .messages) now .passes ≡ true → takeBytes c (e .bytes) size now .passes ≡ true → (r : Room) → RoomHolds c i size r → Orderly c i e size now (roomed i e (takeMessage c (e .messages) now .level) (takeBytes c (e .bytes) size now .level) r)
 roomed-orderly c i e size now m b (Room.Left after) h =
     record {
       cause = tt;
@@ -217,7 +234,7 @@ weighed-orderly : (c : PeerMessagePolicyConfig) (i : FiberIngressBudget) (e : Pe
 weighed-orderly c i e size now =
     weighed-ways (Orderly c i e size now) c i e size now
     (λ m. violated-orderly c i e size now Cause.MessagesShort tt tt)
-    (λ m b. violated-orderly c i e size now (Cause.BytesShort (takeBytes c (e .bytes) size now .short)) b tt)
+    (λ m b. violated-orderly c i e size now (Cause.BytesShort (takeBytes c (e .bytes) size now .missing)) (bytes-missing c (e .bytes) size now b) tt)
     (λ m b. roomed-orderly c i e size now m b (tryReserve c i size) (room-holds c i size))
 
 -- of a verdict on a message, with the entry as it finds it

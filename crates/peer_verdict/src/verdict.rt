@@ -3,7 +3,7 @@ ghost use mathlib.Core.Path.{_≡_};
 ghost use mathlib.Core.Bool.{true};
 ghost use Prim.Native.Nat.{_≤_};
 ghost use Rattle.peer_state.specs.Entry.{entrySound};
-ghost use Rattle.peer_verdict.specs.Verdict.{shortOf, takeMessage, takeBytes, withRateWindow, withInvalidWindow, withLevels};
+ghost use Rattle.peer_verdict.specs.Verdict.{passes, missing, takeMessage, takeBytes, withRateWindow, withInvalidWindow, withLevels};
 ghost use Rattle.peer_verdict.specs.Verdict.{reachesBan, violated, roomed, weighed, judged, noted, judgedInvalid, overflows};
 use amount::Amount;
 use peer_settings::config::PeerMessagePolicyConfig;
@@ -17,9 +17,10 @@ use token_bucket::bytes::ByteRateLimitConfig;
 use token_bucket::bytes::ByteTokenBucket;
 use token_bucket::discrete::DiscreteTokenBucket;
 
-// A bucket's answer on a copy: by how much it falls short, 0 where it passes, and the level after.
+// A bucket's answer on a copy: whether it passes, by how much it falls short where it says no, and the level after.
 pub struct Take {
-    pub short: u64,
+    pub passes: bool,
+    pub missing: u64,
     pub level: Level,
 }
 
@@ -35,6 +36,13 @@ pub enum Cause {
     Overflow,
 }
 
+// Whether an invalid message is only noted, or its sender is banned: since an earlier call, or from now on.
+pub enum InvalidCause {
+    Noted,
+    LiveBan,
+    BanBegun,
+}
+
 // The cause, the entry as it is to be stored, and the load in flight.
 pub struct Decision {
     pub cause: Cause,
@@ -42,13 +50,29 @@ pub struct Decision {
     pub ingress: FiberIngressBudget,
 }
 
-fn short_of(answer: Consumed) -> u64
-    ensures { λ r. ⌜ r ≡ shortOf answer ⌝ }
+// Of an invalid message: the cause, and the entry as it is to be stored. It leaves the load in flight.
+pub struct InvalidDecision {
+    pub cause: InvalidCause,
+    pub entry: PeerMessagePolicyEntry,
+}
+
+fn passes(answer: Consumed) -> bool
+    ensures { λ r. ⌜ r ≡ passes answer ⌝ }
+{
+    match answer {
+        Consumed::Yes => true,
+        Consumed::No(_) => false,
+        Consumed::Refused(_) => false,
+    }
+}
+
+fn missing(answer: Consumed) -> u64
+    ensures { λ r. ⌜ r ≡ missing answer ⌝ }
 {
     match answer {
         Consumed::Yes => 0,
         Consumed::No(short) => short,
-        Consumed::Refused(number) => number as u64,
+        Consumed::Refused(_) => 0,
     }
 }
 
@@ -58,7 +82,11 @@ pub fn take_message(config: PeerMessagePolicyConfig, level: Level, now_ms: u64) 
     ensures { λ r. ⌜ r ≡ takeMessage config level «now_ms» ⌝ }
 {
     if config.message_limit_disabled() {
-        return Take { short: 0, level };
+        return Take {
+            passes: true,
+            missing: 0,
+            level,
+        };
     }
     let bucket = DiscreteTokenBucket {
         interval_ms: config.peer_message_interval_ms,
@@ -70,7 +98,8 @@ pub fn take_message(config: PeerMessagePolicyConfig, level: Level, now_ms: u64) 
     let after = consumed.bucket;
     let answer = consumed.answer;
     Take {
-        short: short_of(answer),
+        passes: passes(answer),
+        missing: missing(answer),
         level: Level {
             available: after.available as u64,
             last_refill_ms: after.last_refill_ms,
@@ -96,7 +125,8 @@ pub fn take_bytes(config: PeerMessagePolicyConfig, level: Level, size: u64, now_
     let answer = consumed.answer;
     let available = after.available_bytes;
     Take {
-        short: short_of(answer),
+        passes: passes(answer),
+        missing: missing(answer),
         level: Level {
             available: available.to_u64(),
             last_refill_ms: after.last_refill_ms,
@@ -221,14 +251,14 @@ pub fn weighed(
 {
     let message_level = entry.messages;
     let messages = take_message(config, message_level, now_ms);
-    if messages.short >= 1 {
+    if !messages.passes {
         return violated(config, ingress, entry, now_ms, Cause::MessagesShort);
     }
     let byte_level = entry.bytes;
     let bytes = take_bytes(config, byte_level, size, now_ms);
     let charged = with_levels(entry, messages.level, bytes.level);
-    if bytes.short >= 1 {
-        let cause = Cause::BytesShort(bytes.short);
+    if !bytes.passes {
+        let cause = Cause::BytesShort(bytes.missing);
         return violated(config, ingress, entry, now_ms, cause);
     }
     roomed(ingress, entry, charged, ingress.try_reserve(config, size))
@@ -257,37 +287,36 @@ pub fn judged(
 // An invalid message is counted in a window of its own, and may begin a ban too.
 pub fn noted(
     config: PeerMessagePolicyConfig,
-    ingress: FiberIngressBudget,
     entry: PeerMessagePolicyEntry,
     now_ms: u64,
-) -> Decision
-    ensures { λ r. ⌜ r ≡ noted config ingress entry «now_ms» ⌝ }
+) -> InvalidDecision
+    ensures { λ r. ⌜ r ≡ noted config entry «now_ms» ⌝ }
 {
     let window = entry.invalid_messages;
     let counted = window.record(now_ms, config.ban_duration_ms);
     let noticed = with_invalid_window(entry, counted);
     if reaches_ban(config, counted) {
         let banned = noticed.ban(now_ms, config.ban_duration_ms);
-        return decided(Cause::BanBegun, banned, ingress);
+        return InvalidDecision {
+            cause: InvalidCause::BanBegun,
+            entry: banned,
+        };
     }
-    decided(Cause::Allowed, noticed, ingress)
+    InvalidDecision {
+        cause: InvalidCause::Noted,
+        entry: noticed,
+    }
 }
 
 // An invalid message on an entry that is not banned.
 pub fn judged_invalid(
     config: PeerMessagePolicyConfig,
-    ingress: FiberIngressBudget,
     entry: PeerMessagePolicyEntry,
     now_ms: u64,
-) -> Decision
-    ensures { λ r. ⌜ r ≡ judgedInvalid config ingress entry «now_ms» ⌝ }
+) -> InvalidDecision
+    ensures { λ r. ⌜ r ≡ judgedInvalid config entry «now_ms» ⌝ }
 {
-    noted(
-        config,
-        ingress,
-        entry.used(now_ms, config.ban_duration_ms),
-        now_ms,
-    )
+    noted(config, entry.used(now_ms, config.ban_duration_ms), now_ms)
 }
 
 // Whether the decision is refusal 4.

@@ -1,7 +1,7 @@
 -- The law of the byte bucket: `rate` parts of a thousandth of a byte each millisecond, of which one refill loses up to 999. In order:
 -- what a take gives; the bucket and its log. Assumes nothing.
 use mathlib.Core.Path.{_≡_, refl, _∙_}
-use mathlib.Core.Bool.{true, false}
+use mathlib.Core.Bool.{Bool, true, false, false≢true}
 use mathlib.Core.List.{List, [], _∷_}
 use Prim.Native.Nat.{ℕ, _+_, _-_, _*_, _/_, _^_, _<_, _≤_, min}
 use native.Mathlib.Nat.{mul-comm, mul-sub, mul-le-mul-left}
@@ -56,22 +56,20 @@ module _ (c : PeerMessagePolicyConfig) (config : ConfigFits c) (on : byteDisable
       ∙ rw (refilled-same (c .«peer_message_rate_bytes_per_sec») (c .«peer_message_burst_bytes») (b .available) (b .«last_refill_ms») now fits, refilled-when (b .«last_refill_ms») now later)
 
   -- enough is there: so much is left
-  pub takes : size ≤ refilled c b now → takeBytes c b size now ≡ record { short = 0; level = level (refilled c b now - size) now }
+  pub takes : size ≤ refilled c b now → takeBytes c b size now ≡ record { passes = true; missing = 0; level = level (refilled c b now - size) now }
   unfolding takeBytes
   takes enough = rw (consumed, le-ltb (refilled c b now) size enough, value-of (refilled c b now - size) (let f = config .burstBytes in omega arith))
 
   -- the bytes were there if the take is not short
-  pub enough : takeBytes c b size now .short ≡ 0 → size ≤ refilled c b now
+  pub enough : takeBytes c b size now .passes ≡ true → size ≤ refilled c b now
   unfolding takeBytes
   enough allowed =
       by-test (ltb (refilled c b now) size)
-      (λ t. let none : size - refilled c b now ≡ 0 = rw (consumed, t) at allowed in
-      let k = ltb-true (refilled c b now) size t in
-      absurd (omega arith))
+      (λ t. let no : _≡_ {A = Bool} false true = rw (consumed, t) at allowed in absurd (false≢true no))
       (λ t. ltb-false (refilled c b now) size t)
 
 -- a bucket that is off never falls short
-pub bytes-off : (c : PeerMessagePolicyConfig) (b : Level) (size now : ℕ) → byteDisabled (bytesOf c) ≡ true → takeBytes c b size now .short ≡ 0
+pub bytes-off : (c : PeerMessagePolicyConfig) (b : Level) (size now : ℕ) → byteDisabled (bytesOf c) ≡ true → takeBytes c b size now .passes ≡ true
 unfolding takeBytes byteTryConsume
 bytes-off c b size now off = rw off
 
@@ -110,7 +108,7 @@ module _ (c : PeerMessagePolicyConfig) (config : ConfigFits c) (on : byteDisable
   after-last : b .«last_refill_ms» ≤ z .time
   after-last = rw (fair .last) later
 
-  takes-it : z .size ≤ refilled c b (z .time) → takeBytes c b (z .size) (z .time) ≡ record { short = 0; level = level (refilled c b (z .time) - z .size) (z .time) }
+  takes-it : z .size ≤ refilled c b (z .time) → takeBytes c b (z .size) (z .time) ≡ record { passes = true; missing = 0; level = level (refilled c b (z .time) - z .size) (z .time) }
   takes-it = takes c config on b (z .size) (z .time) (fair .bounded .within-capacity) size-fits after-last
 
   turn-more : NotMore (byteTerms c) (newest log) (z .time) 0 0 (gained c b (z .time))
@@ -124,7 +122,7 @@ module _ (c : PeerMessagePolicyConfig) (config : ConfigFits c) (on : byteDisable
       by-log (y ∷ l) = not-less (c .«peer_message_rate_bytes_per_sec») (y .time) (z .time)
 
   -- an Allow
-  pub bytes-next : takeBytes c b (z .size) (z .time) .short ≡ 0 → FairBytes c (takeBytes c b (z .size) (z .time) .level) (z ∷ log)
+  pub bytes-next : takeBytes c b (z .size) (z .time) .passes ≡ true → FairBytes c (takeBytes c b (z .size) (z .time) .level) (z ∷ log)
   bytes-next allowed =
       let there = enough c config on b (z .size) (z .time) (fair .bounded .within-capacity) size-fits after-last allowed in
       rw (takes-it there)
@@ -135,7 +133,7 @@ module _ (c : PeerMessagePolicyConfig) (config : ConfigFits c) (on : byteDisable
       })
 
   -- a call within the smaller allowance
-  pub bytes-enough : WithinParts (byteTerms c) (1000 * c .«peer_message_burst_bytes» + c .«peer_message_rate_bytes_per_sec» * z .time) 0 0 (z ∷ log) → takeBytes c b (z .size) (z .time) .short ≡ 0
+  pub bytes-enough : WithinParts (byteTerms c) (1000 * c .«peer_message_burst_bytes» + c .«peer_message_rate_bytes_per_sec» * z .time) 0 0 (z ∷ log) → takeBytes c b (z .size) (z .time) .passes ≡ true
   bytes-enough parts =
       rw (takes-it (backed-enough (byteTerms c) (b .available) 0 z 0 (gained c b (z .time)) log (fair .backed) turn-less (omega arith) parts))
 

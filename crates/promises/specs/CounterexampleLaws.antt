@@ -1,6 +1,6 @@
 -- Readings of the smaller allowance that are false, each with a small run that shows it, by computation. Assumes nothing.
 use mathlib.Core.Path.{_≡_, refl}
-use mathlib.Core.Bool.{false}
+use mathlib.Core.Bool.{true, false}
 use mathlib.Core.List.{List, [], _∷_}
 use Prim.Native.Nat.{ℕ, _-_, _/_, _≤_}
 use native.Mathlib.Omega.{arith}
@@ -43,9 +43,9 @@ oneInTwo =
 -- an Allow at 1, and a call at 8,589,934,592: 2^32 intervals have passed since the last refill, at 0, which
 -- the cut to 32 bits makes 0; with `Near` the call lies one millisecond too late
 pub gap-rule : (messageLimitDisabled oneInTwo ≡ false)
-    × (takeMessage oneInTwo (level 1 0) 1 .short ≡ 0)
+    × (takeMessage oneInTwo (level 1 0) 1 .passes ≡ true)
     × WithinRounded oneInTwo 8589934592 0 (record { time = 1; size = 0 } ∷ [])
-    × (takeMessage oneInTwo (takeMessage oneInTwo (level 1 0) 1 .level) 8589934592 .short ≡ 1)
+    × (takeMessage oneInTwo (takeMessage oneInTwo (level 1 0) 1 .level) 8589934592 .passes ≡ false)
 unfolding takeMessage discreteTryConsume discreteRefill discreteTake FromEvery
 gap-rule = (
   refl,

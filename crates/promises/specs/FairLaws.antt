@@ -2,7 +2,7 @@
 -- bound, and a call within the smaller allowance finds enough in both buckets. Needs no more of times than that the life's own Allows
 -- are in order. Assumes nothing.
 use mathlib.Core.Path.{_≡_, refl}
-use mathlib.Core.Bool.{false}
+use mathlib.Core.Bool.{true, false}
 use mathlib.Core.List.{List, [], _∷_}
 use Prim.Native.Nat.{ℕ, _+_, _-_, _*_, _/_, _^_, _<_, _≤_}
 use native.Mathlib.Nat.{le-refl, mul-add, mul-sub, mul-le-mul-left, mul-div-le}
@@ -43,8 +43,8 @@ pub fair-allow : (c : PeerMessagePolicyConfig) → ConfigFits c → (m b : Level
     → now < 2 ^ 64
     → Fair c m b log
     → NotAfter log now
-    → takeMessage c m now .short ≡ 0
-    → takeBytes c b size now .short ≡ 0
+    → takeMessage c m now .passes ≡ true
+    → takeBytes c b size now .passes ≡ true
     → Fair c (takeMessage c m now .level) (takeBytes c b size now .level) (record { time = now; size = size } ∷ log)
 fair-allow c config m b log size now size-fits now-fits fair after message-there bytes-there =
     let z : Allow = record { time = now; size = size } in
@@ -77,7 +77,7 @@ pub fair-least : (c : PeerMessagePolicyConfig) → ConfigFits c → (m b : Level
     → Fair c m b log
     → NotAfter log now
     → Within c now size log
-    → (takeMessage c m now .short ≡ 0) × (takeBytes c b size now .short ≡ 0)
+    → (takeMessage c m now .passes ≡ true) × (takeBytes c b size now .passes ≡ true)
 unfolding Within
 fair-least c config m b log size now size-fits now-fits fair after allowed =
     let z : Allow = record { time = now; size = size } in

@@ -20,10 +20,11 @@ use Rattle.peer_state.specs.declared.ingress.Room.{Room}
 use Rattle.peer_state.specs.declared.ingress.Room.the-variants as Room
 use Rattle.peer_verdict.specs.declared.verdict.Cause.{Cause}
 use Rattle.peer_verdict.specs.declared.verdict.Cause.the-variants as Cause
+use Rattle.peer_verdict.specs.declared.verdict.InvalidCause.{InvalidCause}
 use Rattle.peer_settings.specs.Fits.{ConfigFits}
 use Rattle.peer_state.specs.Entry.{level, entryNew, entryIsBanned, entryExpireWindows, entryUsed}
 use Rattle.peer_state.specs.Ingress.{tryReserve}
-use Rattle.peer_verdict.specs.Verdict.{judged, judgedInvalid, overflows}
+use Rattle.peer_verdict.specs.Verdict.{judged, overflows}
 use Rattle.peer_verdict.specs.VerdictLaws.{NotAllowed, judged-orderly}
 use Rattle.peer_message_policy.specs.declared.policy.PeerMessagePolicy.{PeerMessagePolicy}
 use Rattle.peer_message_policy.specs.declared.answer.Made.the-variants as Made
@@ -32,7 +33,7 @@ use Rattle.peer_message_policy.specs.Policy
 use Rattle.peer_message_policy.specs.Policy.{rowsOf}
 use Rattle.peer_laws.specs.CallLaws.{new-fresh}
 use Rattle.peer_laws.specs.DecisionLaws.{judged-used, judged-invalid-noted, roomCause, judged-passes}
-use Rattle.peer_laws.specs.PeerLaws.{Fate, stayed, gone, expired, Lands, kept, absent, remade, Own, live, undone, carried, live-not-spent}
+use Rattle.peer_laws.specs.PeerLaws.{Fate, stayed, gone, expired, Lands, kept, absent, remade, Own, live, undone, carried, OwnInvalid, barred, counted, live-not-spent}
 use Rattle.promises.specs.Runs.{Call, admit, recordInvalid, isBanned, onDisconnected, releaseIngress, inFlight, heldTime, State, Step, Fits, Run, made, then}
 use Rattle.promises.specs.Lives.{Allow, entryIn, logFor, logged, unlessRefused, keptLog, logAfter, logOf, lastUsed, notBeforeOwn, Shielded, AtMost, Within, ceilingSays}
 use Rattle.promises.specs.FairLaws.{NotAfter, Fair, fair-new, fair-allow, fair-most, fair-least}
@@ -144,14 +145,12 @@ module _ (c : PeerMessagePolicyConfig) (fits : ConfigFits c) where
         (carried-fair e (logFor found now log) log (lands-ready now found e log lands h used) cause (sym why) (ap overflows why ∙ o))
 
   -- the peer's own record_invalid
-  record-invalid-fair : (i : FiberIngressBudget) (now : ℕ) {found after : Option PeerMessagePolicyEntry} {cause : Cause} (log : List Allow)
-      → Own c now (λ e. judgedInvalid c i e now) found after cause → EntryFair c found log → lastUsed found ≤ now
+  record-invalid-fair : (now : ℕ) {found after : Option PeerMessagePolicyEntry} {cause : InvalidCause} (log : List Allow)
+      → OwnInvalid c now found after cause → EntryFair c found log → lastUsed found ≤ now
       → EntryFair c after (keptLog after (logFor found now log))
-  record-invalid-fair i now {found} {after} log (live e q ban why same-entry) h used = live-fair now found after e log q ban same-entry h
-  record-invalid-fair i now log (undone e lands o why same-entry) h used =
-      absurd (true-is-not-false o (judged-invalid-noted c i e now .stands))
-  record-invalid-fair i now {found} log (carried e lands o why now-entry) h used =
-      let noted = judged-invalid-noted c i e now in
+  record-invalid-fair now {found} {after} log (barred e q ban why same-entry) h used = live-fair now found after e log q ban same-entry h
+  record-invalid-fair now {found} log (counted e lands why now-entry) h used =
+      let noted = judged-invalid-noted c e now in
       rw (now-entry, noted .messages, noted .bytes, noted .used) (lands-ready now found e log lands h used)
 
   -- any call, from a state to a state
@@ -168,7 +167,7 @@ module _ (c : PeerMessagePolicyConfig) (fits : ConfigFits c) where
         (admit-any k s here said t peer size now (call-fits .0) step)
     step-fair (recordInvalid peer now) call-fits step before log fair =
         ⊎-elim
-        (λ own. rw (own .0, own .1 .2 .1) (record-invalid-fair (s .policy .ingress) now log (own .1 .1) fair (before (own .0))))
+        (λ own. rw (own .0, own .1 .2 .1) (record-invalid-fair now log (own .1 .1) fair (before (own .0))))
         (λ other. rw (other .0) (fate-fair log (other .1) fair))
         (record-invalid-any k s here said t peer now (call-fits .0) step)
     step-fair (isBanned peer now) call-fits step before log fair =

@@ -2,7 +2,7 @@
 -- are whole laps of 2^32 intervals, by which the last refill lags behind. In order: what a take gives; the phase; the bucket and its
 -- log. Assumes nothing.
 use mathlib.Core.Path.{_≡_, refl, ap, _∙_}
-use mathlib.Core.Bool.{Bool, true, false, cond}
+use mathlib.Core.Bool.{Bool, true, false, cond, false≢true}
 use mathlib.Core.List.{List, [], _∷_}
 use Prim.Native.Nat.{ℕ, _+_, _-_, _*_, _/_, _%_, _<_, _≤_, min}
 use native.Mathlib.Nat.{add-mul, mul-assoc, mul-comm, mul-le-mul-right, div-add-mod', mod-lt, zero-div, zero-mul, mul-sub, le-div-iff-mul-le}
@@ -40,7 +40,7 @@ refilledWhen c m now = m .«last_refill_ms» + passed c m now * c .«peer_messag
 -- one token out of so many
 abbrev pub taken : ℕ → ℕ → Take
 taken left last =
-    cond (eqb left 0) (record { short = 1; level = level left last }) (record { short = 0; level = level (left - 1) last })
+    cond (eqb left 0) (record { passes = false; missing = 1; level = level left last }) (record { passes = true; missing = 0; level = level (left - 1) last })
 
 -- a test that leaves a value as it is, or changes nothing
 same-by : {A : Type 0} {x y : A} (s t : Bool) → (s ≡ true → x ≡ y) → (t ≡ true → x ≡ y) → cond s x (cond t x y) ≡ y
@@ -91,17 +91,17 @@ module _ (c : PeerMessagePolicyConfig) (on : messageLimitDisabled c ≡ false) w
         (record { bucket = discreteTaken (discreteTopped (messageBucket c m) (passed c m now)); answer = Consumed.Yes }))
 
 -- a token was there if the take is not short
-taken-yes : (left last : ℕ) → taken left last .short ≡ 0 → 1 ≤ left
+taken-yes : (left last : ℕ) → taken left last .passes ≡ true → 1 ≤ left
 taken-yes left last h =
-    by-test (eqb left 0) (λ t. let z : _≡_ {A = ℕ} 1 0 = rw t at h in absurd (omega arith))
+    by-test (eqb left 0) (λ t. let no : _≡_ {A = Bool} false true = rw t at h in absurd (false≢true no))
     (λ t. let ne = eqb-false left 0 t in omega arith)
 
 -- a token that is there is taken
-taken-is : (left last : ℕ) → 1 ≤ left → taken left last ≡ record { short = 0; level = level (left - 1) last }
+taken-is : (left last : ℕ) → 1 ≤ left → taken left last ≡ record { passes = true; missing = 0; level = level (left - 1) last }
 taken-is left last h = rw (ne-eqb left 0 (λ e. omega arith))
 
 -- a limit that is off never falls short
-pub message-off : (c : PeerMessagePolicyConfig) (m : Level) (now : ℕ) → messageLimitDisabled c ≡ true → takeMessage c m now .short ≡ 0
+pub message-off : (c : PeerMessagePolicyConfig) (m : Level) (now : ℕ) → messageLimitDisabled c ≡ true → takeMessage c m now .passes ≡ true
 unfolding takeMessage
 message-off c m now off = rw off
 
@@ -236,7 +236,7 @@ module _ (c : PeerMessagePolicyConfig) (on : messageLimitDisabled c ≡ false) w
             not-less (c .«peer_message_interval_ms») (m .«last_refill_ms») (z .time) (some-interval c on) (y .time) laps rest phase k (near .0)
 
     -- an Allow
-    pub messages-next : takeMessage c m (z .time) .short ≡ 0 → FairMessages c (takeMessage c m (z .time) .level) (z ∷ log)
+    pub messages-next : takeMessage c m (z .time) .passes ≡ true → FairMessages c (takeMessage c m (z .time) .level) (z ∷ log)
     messages-next allowed =
         let enough = taken-yes (refilled c m (z .time)) (refilledWhen c m (z .time)) (rw take-is at allowed) in
         rw (take-is, taken-is (refilled c m (z .time)) (refilledWhen c m (z .time)) enough)
@@ -256,7 +256,7 @@ module _ (c : PeerMessagePolicyConfig) (on : messageLimitDisabled c ≡ false) w
     -- a call within the smaller allowance
     pub messages-enough : Near (c .«peer_message_interval_ms») (z .time) log
         → WithinParts (messageTerms c) (c .«peer_message_interval_ms» * c .«peer_message_burst» + 1 * z .time) 0 0 (z ∷ log)
-        → takeMessage c m (z .time) .short ≡ 0
+        → takeMessage c m (z .time) .passes ≡ true
     messages-enough near parts =
         let enough : 1 ≤ refilled c m (z .time) =
         backed-enough (messageTerms c) (m .available) (fair .rest) z rest′ (passed c m (z .time)) log (fair .backed (near-each (c .«peer_message_interval_ms») (z .time) log near)) (turn-less near) (next-phase .less) parts

@@ -12,13 +12,14 @@ use Rattle.refusal.specs.Refusal.{Said, gives}
 use Rattle.peer_settings.specs.declared.config.PeerMessagePolicyConfig.{PeerMessagePolicyConfig}
 use Rattle.peer_state.specs.declared.entry.PeerMessagePolicyEntry.{PeerMessagePolicyEntry}
 use Rattle.peer_verdict.specs.declared.verdict.Cause.{Cause}
+use Rattle.peer_verdict.specs.declared.verdict.InvalidCause.{InvalidCause}
 use Rattle.peer_verdict.specs.declared.verdict.Decision.{Decision}
 use Rattle.peer_settings.specs.Fits.{ConfigFits}
 use Rattle.peer_state.specs.Entry.{entryExpireWindows}
 use Rattle.peer_state.specs.Ingress.{tryReserve}
 use Rattle.peer_message_policy.specs.Policy
 use Rattle.peer_laws.specs.DecisionLaws.{judged-used, judged-invalid-noted}
-use Rattle.peer_laws.specs.PeerLaws.{Fate, stayed, gone, expired, Own, live, undone, carried}
+use Rattle.peer_laws.specs.PeerLaws.{Fate, stayed, gone, expired, Own, live, undone, carried, OwnInvalid, barred, counted}
 use Rattle.promises.specs.Runs.{Call, admit, recordInvalid, isBanned, onDisconnected, releaseIngress, inFlight, heldTime, State, Step, Fits, Run, made, then}
 use Rattle.promises.specs.Lives.{entryIn, logFor, logOf, timeOf, latestOf, latest, notBefore, Ordered, lastUsed, notBeforeOwn, Shielded, AtMost, Within, ceilingSays}
 use Rattle.promises.specs.SoundRunLaws.{StateHolds, run-holds}
@@ -42,6 +43,11 @@ own-used used (live e q ban why same-entry) h = rw same-entry h
 own-used used (undone e lands o why same-entry) h = rw same-entry h
 own-used used (carried e lands o why now-entry) h = rw now-entry (omega (arith, used e))
 
+invalid-used : {c : PeerMessagePolicyConfig} {now : ℕ} {found after : Option PeerMessagePolicyEntry} {cause : InvalidCause}
+    → OwnInvalid c now found after cause → lastUsed found ≤ now → lastUsed after ≤ now
+invalid-used (barred e q ban why same-entry) h = rw same-entry h
+invalid-used {c} {now} (counted e lands why now-entry) h = rw now-entry (omega (arith, judged-invalid-noted c e now .used))
+
 module _ {c : PeerMessagePolicyConfig} (k : Pubkey) (s : State) (here : StateHolds c s) (said : Said) (t : State) where
   -- no call uses an entry after its own time
   step-used : (call : Call) → Fits call → Step s call said t → (n : ℕ) → notBefore (timeOf call) n → lastUsed (entryIn s k) ≤ n
@@ -53,7 +59,7 @@ module _ {c : PeerMessagePolicyConfig} (k : Pubkey) (s : State) (here : StateHol
       (admit-any k s here said t peer size now (call-fits .0) step)
   step-used (recordInvalid peer now) call-fits step n later used =
       let before : lastUsed (entryIn s k) ≤ now = omega arith in
-      ⊎-elim (λ own. own-used (λ e. judged-invalid-noted c (s .policy .ingress) e now .used) (own .1 .1) before)
+      ⊎-elim (λ own. invalid-used (own .1 .1) before)
       (λ other. fate-used now (other .1) before)
       (record-invalid-any k s here said t peer now (call-fits .0) step)
   step-used (isBanned peer now) call-fits step n later used =

@@ -3,6 +3,7 @@ use mathlib.Core.Path.{_≡_, refl, sym, ap, subst, _∙_}
 use mathlib.Core.Bool.{true, false}
 use mathlib.Core.List.{[], _∷_}
 use mathlib.Core.Logic.{_⊎_, inl, inr}
+use mathlib.Core.Option.{Option}
 use Prim.Native.Nat.{ℕ}
 use Rattle.pubkey.specs.declared.Pubkey.{Pubkey}
 use Rattle.pubkey.specs.Order.{compareBytes}
@@ -16,15 +17,17 @@ use Rattle.peer_state.specs.declared.entry.PeerMessagePolicyEntry.{PeerMessageP
 use Rattle.peer_state.specs.declared.ingress.FiberIngressBudget.{FiberIngressBudget}
 use Rattle.peer_verdict.specs.declared.verdict.Cause.{Cause}
 use Rattle.peer_verdict.specs.declared.verdict.Cause.the-variants as Cause
-use Rattle.peer_verdict.specs.declared.verdict.Decision.{Decision}
-use Rattle.peer_verdict.specs.Verdict.{judged, judgedInvalid}
+use Rattle.peer_verdict.specs.declared.verdict.InvalidCause.{InvalidCause}
+use Rattle.peer_verdict.specs.declared.verdict.InvalidCause.the-variants as InvalidCause
+use Rattle.peer_verdict.specs.Verdict.{judged}
 use Rattle.peer_message_policy.specs.declared.policy.PeerMessagePolicy.{PeerMessagePolicy}
 use Rattle.peer_message_policy.specs.Policy
 use Rattle.peer_message_policy.specs.Policy.{Change, Turn}
 use Rattle.peer_message_policy.specs.Calls.{changedRows, policyAfter, admissionSays, admissionOf, invalidSays, invalidOf}
-use Rattle.peer_laws.specs.SoundLaws.{turnOf, admit-turn, record-invalid-turn, policy-holds}
+use Rattle.peer_laws.specs.SoundLaws.{policy-holds}
 use Rattle.peer_laws.specs.CallLaws.{admit-answer, record-invalid-answer}
-use Rattle.peer_laws.specs.PeerLaws.{Fate, is-banned-fate, disconnected-fate, turn-fate, Own, own-turn}
+use Rattle.peer_laws.specs.PeerLaws
+use Rattle.peer_laws.specs.PeerLaws.{Fate, is-banned-fate, disconnected-fate, admit-fate, record-invalid-fate, Own, own-admit, own-invalid}
 use Rattle.promises.specs.Runs.{admit, recordInvalid, isBanned, onDisconnected, releaseIngress, State, Step, KeyFits}
 use Rattle.promises.specs.Lives.{entryIn, sameKey}
 use Rattle.promises.specs.SoundRunLaws.{StateLeaves, StateHolds, rowsIn, admit-left, record-invalid-left, is-banned-left, on-disconnected-left, release-ingress-left}
@@ -66,17 +69,10 @@ admission-says q Cause.BanBegun = refl
 admission-says q Cause.Overflow = refl
 
 -- record_invalid is not refused
-invalid-gives : (q : PeerMessagePolicy) (cause : Cause) → (n : ℕ) × (invalidSays (invalidOf q cause) ≡ gives (n ∷ []))
-invalid-gives q Cause.Allowed = (0, refl)
-invalid-gives q Cause.MessagesShort = (0, refl)
-invalid-gives q (Cause.BytesShort k) = (0, refl)
-invalid-gives q Cause.NoSlot = (0, refl)
-invalid-gives q (Cause.CeilingShort k) = (0, refl)
-invalid-gives q Cause.LiveBan = (1, refl)
-invalid-gives q Cause.BanBegun = (1, refl)
-invalid-gives q Cause.Overflow = (0, refl)
-
--- ════ The peer's entry after a call ═══════════════════════════════════════════════════════════════
+invalid-gives : (q : PeerMessagePolicy) (cause : InvalidCause) → (n : ℕ) × (invalidSays (invalidOf q cause) ≡ gives (n ∷ []))
+invalid-gives q InvalidCause.Noted = (0, refl)
+invalid-gives q InvalidCause.LiveBan = (1, refl)
+invalid-gives q InvalidCause.BanBegun = (1, refl)
 
 module _ {c : PeerMessagePolicyConfig} (k : Pubkey) (s : State) (here : StateHolds c s) (said : Said) (t : State) where
   in-order : ascending (rowsIn s) ≡ true
@@ -87,17 +83,12 @@ module _ {c : PeerMessagePolicyConfig} (k : Pubkey) (s : State) (here : StateHol
       → Fate (entryIn s k) (entryIn t k)
   fate-by left = subst (λ xs. Fate (entryIn s k) (look (k .bytes) xs)) (sym (left .rows))
 
-  -- an own turn that left these rows, under the run's settings
-  own-by : (now : ℕ) (decide : PeerMessagePolicyConfig → PeerMessagePolicyEntry → Decision) (turn : Turn) → StateLeaves s (turn .change) t
-      → turn ≡ turnOf (s .policy .ingress) (k .bytes) (decide (s .policy .config)) (Policy.entryForUpdate (s .policy .config) now (rowsIn s) (entryIn s k))
-      → Own c now (decide c) (entryIn s k) (entryIn t k) (turn .cause)
-  own-by now decide turn left e =
-      let config : PeerMessagePolicyConfig = s .policy .config in
-      let i : FiberIngressBudget = s .policy .ingress in
-      subst (λ x. Own x now (decide x) (entryIn s k) (entryIn t k) (turn .cause)) (here .settings)
-      (subst (λ xs. Own config now (decide config) (entryIn s k) (look (k .bytes) xs) (turn .cause)) (sym (left .rows))
-      (subst (λ x. Own config now (decide config) (entryIn s k) (look (k .bytes) (changedRows (rowsIn s) (x .change))) (x .cause)) (sym e)
-      (own-turn (k .bytes) (rowsIn s) config i (decide config) now)))
+  -- what holds of the rows that a change left, under the run's settings
+  own-by : (P : PeerMessagePolicyConfig → Option PeerMessagePolicyEntry → Type 0) {change : Change} → StateLeaves s change t
+      → P (s .policy .config) (look (k .bytes) (changedRows (rowsIn s) change)) → P c (entryIn t k)
+  own-by P left h =
+      subst (λ x. P x (entryIn t k)) (here .settings)
+      (subst (λ xs. P (s .policy .config) (look (k .bytes) xs)) (sym (left .rows)) h)
 
   -- an own admit: its turn, and what it says
   abbrev pub OwnAdmit : ℕ → ℕ → Type 0
@@ -109,10 +100,10 @@ module _ {c : PeerMessagePolicyConfig} (k : Pubkey) (s : State) (here : StateHol
   pub admit-own : (size now : ℕ) → KeyFits k → Step s (admit k size now) said t → OwnAdmit size now
   admit-own size now key step =
       let p : PeerMessagePolicy = s .policy in
-      let turn : Turn = Policy.admit (p .config) (p .ingress) (rowsIn s) (k .bytes) size now in (
+      let turn : Turn Cause = Policy.admit (p .config) (p .ingress) (rowsIn s) (k .bytes) size now in (
         turn .cause,
-        own-by now (λ x e. judged x (p .ingress) e size now) turn (admit-left s here said t k key size now step)
-            (admit-turn (p .config) (p .ingress) (k .bytes) (rowsIn s) size now),
+        own-by (λ x after. Own x now (λ e. judged x (p .ingress) e size now) (entryIn s k) after (turn .cause)) (admit-left s here said t k key size now step)
+            (own-admit (k .bytes) (rowsIn s) (p .config) (p .ingress) size now),
         step .2
             ∙ ap admissionSays (admit-answer p (s .memory) (here .is-sound) k size now (step .0) (t .memory) (step .1))
             ∙ admission-says (policyAfter p (turn .ingress) (turn .change)) (turn .cause),
@@ -132,26 +123,24 @@ module _ {c : PeerMessagePolicyConfig} (k : Pubkey) (s : State) (here : StateHol
       inr (
         other,
         fate-by (admit-left s here said t peer key size now step)
-            (subst (λ x. Fate (entryIn s k) (look (k .bytes) (changedRows (rowsIn s) (x .change))))
-            (sym (admit-turn config i (peer .bytes) (rowsIn s) size now))
-            (turn-fate (k .bytes) (peer .bytes) (other-key k peer other) (rowsIn s) in-order config i (λ e. judged config i e size now) now)),
+            (admit-fate (k .bytes) (peer .bytes) (other-key k peer other) (rowsIn s) in-order config i size now),
       ))
 
   -- an own record_invalid: its turn; it is not refused
   abbrev pub OwnInvalid : ℕ → Type 0
   OwnInvalid now =
-      (cause : Cause)
-      × Own c now (λ e. judgedInvalid c (s .policy .ingress) e now) (entryIn s k) (entryIn t k) cause
+      (cause : InvalidCause)
+      × PeerLaws.OwnInvalid c now (entryIn s k) (entryIn t k) cause
       × ((n : ℕ) × (said ≡ gives (n ∷ [])))
 
   record-invalid-own : (now : ℕ) → KeyFits k → Step s (recordInvalid k now) said t → OwnInvalid now
   record-invalid-own now key step =
       let p : PeerMessagePolicy = s .policy in
-      let turn : Turn = Policy.recordInvalid (p .config) (p .ingress) (rowsIn s) (k .bytes) now in
+      let turn : Turn InvalidCause = Policy.recordInvalid (p .config) (p .ingress) (rowsIn s) (k .bytes) now in
       let given = invalid-gives (policyAfter p (turn .ingress) (turn .change)) (turn .cause) in (
         turn .cause,
-        own-by now (λ x e. judgedInvalid x (p .ingress) e now) turn (record-invalid-left s here said t k key now step)
-            (record-invalid-turn (p .config) (p .ingress) (k .bytes) (rowsIn s) now),
+        own-by (λ x after. PeerLaws.OwnInvalid x now (entryIn s k) after (turn .cause)) (record-invalid-left s here said t k key now step)
+            (own-invalid (k .bytes) (rowsIn s) (p .config) (p .ingress) now),
         (
           given .0,
           step .2
@@ -174,9 +163,7 @@ module _ {c : PeerMessagePolicyConfig} (k : Pubkey) (s : State) (here : StateHol
       inr (
         other,
         fate-by (record-invalid-left s here said t peer key now step)
-            (subst (λ x. Fate (entryIn s k) (look (k .bytes) (changedRows (rowsIn s) (x .change))))
-            (sym (record-invalid-turn config i (peer .bytes) (rowsIn s) now))
-            (turn-fate (k .bytes) (peer .bytes) (other-key k peer other) (rowsIn s) in-order config i (λ e. judgedInvalid config i e now) now)),
+            (record-invalid-fate (k .bytes) (peer .bytes) (other-key k peer other) (rowsIn s) in-order config i now),
       ))
 
   -- is_banned of any peer

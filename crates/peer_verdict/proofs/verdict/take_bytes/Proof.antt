@@ -22,19 +22,22 @@ from-u64-requires c κs = search needs
 try-consume-requires : tie.Need-try-consume-requires
 try-consume-requires c κs = search needs
 
-short-of-requires : tie.Need-short-of-requires
-short-of-requires c κs = search needs
+passes-requires : tie.Need-passes-requires
+passes-requires c κs = search needs
+
+missing-requires : tie.Need-missing-requires
+missing-requires c κs = search needs
 
 to-u64-requires : tie.Need-to-u64-requires
 to-u64-requires c κs = search needs
 
 returns : tie.Need-returns
 returns c =
-    let a = c .before .before .before .before .before .before .before .args in
-    let r = c .before .before .before .before .try-consume .result in
-    let w : Whole (c .before .before .before .before .before .from-u64 .result) = record { four = search needs; fit = λ i. let h : Fits w32 (getD (c .before .before .before .before .before .from-u64 .result .limbs) i 0) = search needs in omega arith } in
-    let met : ByteTryConsumeMeets (byteLevel (bytesOf (a .config)) (pos (a .level .available)) (a .level .«last_refill_ms»)) (a .size) (a .now-ms) r = rw (c .before .before .before .before .before .before .new .ensures, is-amountOf w (c .before .before .before .before .before .from-u64 .ensures)) at (c .before .before .before .before .try-consume .ensures) in
-    rw (c .before .short-of .ensures, c .to-u64 .ensures, call-fits (a .config) (a .level) (a .size) (a .now-ms) r (omega arith) (c .before .before .before .before .before .before .before .pre) met) (call-takes (a .config) (a .level) (a .size) (a .now-ms) r (omega arith) (c .before .before .before .before .before .before .before .pre) met)
+    let a = c .before .before .before .before .before .before .before .before .args in
+    let r = c .before .before .before .before .before .try-consume .result in
+    let w : Whole (c .before .before .before .before .before .before .from-u64 .result) = record { four = search needs; fit = λ i. let h : Fits w32 (getD (c .before .before .before .before .before .before .from-u64 .result .limbs) i 0) = search needs in omega arith } in
+    let met : ByteTryConsumeMeets (byteLevel (bytesOf (a .config)) (pos (a .level .available)) (a .level .«last_refill_ms»)) (a .size) (a .now-ms) r = rw (c .before .before .before .before .before .before .before .new .ensures, is-amountOf w (c .before .before .before .before .before .before .from-u64 .ensures)) at (c .before .before .before .before .before .try-consume .ensures) in
+    rw (c .before .missing .ensures, c .before .before .passes .ensures, c .to-u64 .ensures, call-fits (a .config) (a .level) (a .size) (a .now-ms) r (omega arith) (c .before .before .before .before .before .before .before .before .pre) met) (call-takes (a .config) (a .level) (a .size) (a .now-ms) r (omega arith) (c .before .before .before .before .before .before .before .before .pre) met)
 
 pub take-bytes-spec : {M : Type 1} → statement M
 take-bytes-spec =
@@ -43,6 +46,7 @@ take-bytes-spec =
     new-requires
     from-u64-requires
     try-consume-requires
-    short-of-requires
+    passes-requires
+    missing-requires
     to-u64-requires
     returns)

@@ -21,16 +21,19 @@ cast-t9 c = search needs
 try-consume-requires : tie.Need-try-consume-requires
 try-consume-requires c κs = search needs
 
-short-of-requires : tie.Need-short-of-requires
-short-of-requires c κs = search needs
+passes-requires : tie.Need-passes-requires
+passes-requires c κs = search needs
 
-cast-t11 : tie.Need-cast-t11
-cast-t11 c = search needs
+missing-requires : tie.Need-missing-requires
+missing-requires c κs = search needs
+
+cast-t12 : tie.Need-cast-t12
+cast-t12 c = search needs
 
 returns-2 : tie.Need-returns-2
 unfolding takeMessage DiscreteTryConsumeMeets
 returns-2 c =
-    rw (sym (c .before .before .before .before .before .before .message-limit-disabled .ensures) ∙ c .before .before .before .before .before .if1 .left, c .before .short-of .ensures, c .before .before .before .try-consume .ensures, le-leb _ _ (c .before .before .before .before .before .before .before .pre))
+    rw (sym (c .before .before .before .before .before .before .before .message-limit-disabled .ensures) ∙ c .before .before .before .before .before .before .if1 .left, c .before .missing .ensures, c .before .before .passes .ensures, c .before .before .before .before .try-consume .ensures, le-leb _ _ (c .before .before .before .before .before .before .before .before .pre))
 
 pub take-message-spec : {M : Type 1} → statement M
 take-message-spec =
@@ -40,6 +43,7 @@ take-message-spec =
     returns
     cast-t9
     try-consume-requires
-    short-of-requires
-    cast-t11
+    passes-requires
+    missing-requires
+    cast-t12
     returns-2)
