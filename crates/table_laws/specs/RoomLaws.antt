@@ -14,7 +14,7 @@ use Rattle.table.specs.Memory.{Layout, rows, Holds}
 use Rattle.table.specs.TableLaws.{by-test, Sub, sub-all, sub-retain, sub-removeAt, sub-trans}
 use Rattle.table.specs.RetainLaws.{length-retain}
 use Rattle.table.specs.PlaceLaws.{length-removeAt}
-use Rattle.table.specs.MemoryLaws.{Faithful, length-rows, fit-rows, sub-fit}
+use Rattle.table.specs.MemoryLaws.{Faithful, AllFit, length-rows, fit-rows, sub-fit}
 use Rattle.table_laws.specs.ChangeLaws.{unchanged, holds-holds}
 use Rattle.table_laws.specs.Room.{removeFound, roomMade}
 
@@ -90,6 +90,15 @@ pub left-same : {A : Type 0} (L : Layout A) {s t : List ℕ} {n k : ℕ} {rs qs 
 left-same {A} L {s} {t} {n} {k} e h = subst (λ (l : List (Row A)). Left L s t n k l) e h
 
 module _ {A : Type 0} {L : Layout A} {Good : A → Type 0} (ok : Faithful L Good) (s : List ℕ) (n : ℕ) where
+  -- a change, and then another of the rows that it left
+  pub changed-again : (change : List (Row A) → List (Row A)) {t u : List ℕ} {k m : ℕ} {rs : List (Row A)} → AllFit L Good rs → length rs ≤ n
+      → Left L s t n k rs → Left L t u k m (change (rows L t k)) → Left L s u n m (change rs)
+  changed-again change {t} {u} {k} {m} {rs} fit fewer left then =
+      let reads : rows L t k ≡ rs = ap (λ (j : ℕ). rows L t j) (left .1) ∙ left .0 .reads in
+      let after : Left L t u k m (change rs) = left-same L (ap change reads) then in
+      let held : Holds L t u (length rs) (change rs) = subst (λ (j : ℕ). Holds L t u j (change rs)) (left .1) (after .0) in
+      (holds-holds ok s t u n rs (change rs) fit (omega arith) (left .0) held, after .1)
+
   -- the row that was found is taken out
   pub evicted-row : (t : List ℕ) {j : ℕ} {rs : List (Row A)} → j < n → rs ≡ removeAt j (rows L s n) → Holds L s t n (removeAt j (rows L s n))
       → Left L s t n (n - 1) rs
@@ -119,10 +128,6 @@ module _ {A : Type 0} {L : Layout A} {Good : A → Type 0} (ok : Faithful L Good
         pub made-evicted : limit ≤ k → (u : List ℕ) (r : ℕ) → Left L t u k r (evict (rows L t k))
             → Left L s u n r (roomMade limit test evict (rows L s n))
         made-evicted l u r gone =
-            let rs : List (Row A) = retain test (rows L s n) in
-            let reads : rows L t k ≡ rs = ap (λ (m : ℕ). rows L t m) (left .1) ∙ left .0 .reads in
-            let after : Left L t u k r (evict rs) = left-same L (ap evict reads) gone in
-            let held : Holds L t u (length rs) (evict rs) = subst (λ (m : ℕ). Holds L t u m (evict rs)) (left .1) (after .0) in
-            let fewer : length rs ≤ n = omega (arith, length-retain test (rows L s n), length-rows L s n) in
             left-same L (sym (room-evicted limit test evict (rows L s n) full-rows (omega (arith, left .1))))
-            (holds-holds ok s t u n rs (evict rs) (sub-fit ok (sub-retain test (rows L s n)) (fit-rows ok s n b h)) (omega arith) (left .0) held, after .1)
+            (changed-again evict (sub-fit ok (sub-retain test (rows L s n)) (fit-rows ok s n b h))
+            (omega (arith, length-retain test (rows L s n), length-rows L s n)) left gone)
