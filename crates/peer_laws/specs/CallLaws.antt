@@ -12,6 +12,8 @@ use lib.ListN.{length}
 use Rattle.lent_bytes.specs.LentBytes.{Bytes}
 use Rattle.pubkey.specs.declared.Pubkey.{Pubkey}
 use Rattle.refusal.specs.Refusal.{limitTooLarge, tooShort}
+use Rattle.table_laws.specs.KeptLaws.{numbers-encode, length-laid-keyed, bytes-laid-keyed}
+use Rattle.peer_rows.specs.RowsLaws.{peer-numbers}
 use Rattle.table.specs.Table.{every, ascending, look}
 use Rattle.table.specs.TableLaws.{by-test}
 use Rattle.table.specs.Memory.{rows}
@@ -85,11 +87,11 @@ use Rattle.peer_message_policy.specs.Calls.{
   InFlightMeets,
   HeldTimeMeets,
 }
-use Rattle.peer_laws.specs.KeyedLaws.{Key, length-laid-keyed, bytes-laid-keyed}
 use Rattle.peer_laws.specs.SoundLaws.{
   RecordHolds,
   record-holds,
   holds-record,
+  Key,
   RowsHold,
   PolicyHolds,
   policy-holds,
@@ -308,14 +310,14 @@ fresh-by : (c : PeerMessagePolicyConfig) (s t : List ℕ) → c .«max_tracked_p
     → Memory s t (limit c) (become []) → Fresh c s (fresh c) t
 unfolding every ascending rows
 fresh-by c s t tracked long m =
-    let same-length : length t ≡ length s = ap length (m .memory) ∙ length-laid-keyed s (limit c) [] tt long (omega arith) in
+    let same-length : length t ≡ length s = ap length (m .memory) ∙ length-laid-keyed (numbers-encode peer-numbers) s (limit c) [] tt long (omega arith) in
     let load : ingressSound c (inFlight 0 0) ≡ true = within-sound c (inFlight 0 0) (λ u. record { messages = omega arith; bytes = omega arith }) in
     let own : RecordHolds (fresh c) = record { tracked = tracked; few = omega arith; load = load } in
     record {
       is-fresh = refl;
       is-sound = holds-policy (fresh c) t (record { own = own; long = omega arith; rules = refl; order = refl });
       same-length = same-length;
-      holds-bytes = λ b. rw (m .memory) (bytes-laid-keyed s (limit c) [] tt b);
+      holds-bytes = λ b. rw (m .memory) (bytes-laid-keyed (numbers-encode peer-numbers) s (limit c) [] tt b);
     }
 
 -- a limit above 1,024, and memory that is too short, are refused

@@ -1,6 +1,5 @@
 pub mod TestLaws
 pub mod OneOutcome
-pub mod KeyedLaws
 pub mod SoundLaws
 pub mod CallLaws
 pub mod DecisionLaws

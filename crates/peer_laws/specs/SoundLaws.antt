@@ -2,7 +2,7 @@
 -- it is sound; that each call's change keeps it; and that refusal 4 undoes everything. The calls themselves are in `CallLaws`. Assumes nothing.
 use mathlib.Core.Path.{_≡_, refl, ap, _∙_}
 use mathlib.Core.Bool.{true, and-eq-true-iff}
-use mathlib.Core.List.{List, [], _∷_}
+use mathlib.Core.List.{List}
 use mathlib.Core.Option.{Option, none, some}
 use Prim.Native.Nat.{ℕ, _*_, _≤_}
 use native.Mathlib.Omega.{arith}
@@ -10,11 +10,13 @@ use borrow.Author.Tests.{leb-true, le-leb}
 use lib.ListN.{length}
 use Rattle.lent_bytes.specs.LentBytes.{Bytes}
 use Rattle.table.specs.Table.{every, ascending, look, store}
-use Rattle.table.specs.TableLaws.{true-is-not-false, every-store, ascending-store, Sub, sub-every, sub-ascending, sub-length, sub-erase}
+use Rattle.table.specs.TableLaws.{true-is-not-false, Sub, sub-erase}
 use Rattle.table.specs.LookLaws.{look-rule}
 use Rattle.table.specs.PlaceLaws.{length-store-some, length-store-none}
-use Rattle.table.specs.Memory.{rows}
-use Rattle.table.specs.MemoryLaws.{length-rows}
+use Rattle.table_laws.specs.Kept as kept
+use Rattle.table_laws.specs.Kept.{LentHolds, LentKept}
+use Rattle.table_laws.specs.KeptLaws as laws
+use Rattle.table_laws.specs.KeptLaws.{numbers-encode, sub-hold, store-hold, change-rows}
 use Rattle.peer_settings.specs.declared.config.PeerMessagePolicyConfig.{PeerMessagePolicyConfig}
 use Rattle.peer_state.specs.declared.entry.PeerMessagePolicyEntry.{PeerMessagePolicyEntry}
 use Rattle.peer_state.specs.declared.ingress.FiberIngressBudget.{FiberIngressBudget}
@@ -29,6 +31,7 @@ use Rattle.peer_state.specs.Ingress.{ingressSound}
 use Rattle.peer_verdict.specs.Verdict.{judged, judgedInvalid, overflows}
 use Rattle.peer_verdict.specs.VerdictLaws.{judged-sound, judged-invalid-sound, judged-load}
 use Rattle.peer_rows.specs.Rows.{Peers, peerLayout, peerSound}
+use Rattle.peer_rows.specs.RowsLaws.{peer-numbers}
 use Rattle.peer_table.specs.Room.{makeRoom}
 use Rattle.peer_table.specs.RoomLaws.{sub-makeRoom, room-for-one, look-makeRoom-none}
 use Rattle.peer_message_policy.specs.declared.policy.PeerMessagePolicy.{PeerMessagePolicy}
@@ -54,7 +57,6 @@ use Rattle.peer_message_policy.specs.Policy.{
 }
 use Rattle.peer_message_policy.specs.Calls.{Memory, changedRows, policyAfter}
 use Rattle.peer_message_policy.specs.UpdateLaws.{spent-in-place}
-use Rattle.peer_laws.specs.KeyedLaws.{Key, Keyed, keyed-rows, keyed-sub, keyed-store, length-laid-keyed, bytes-laid-keyed}
 
 -- ════ Soundness, part by part ═════════════════════════════════════════════════════════════════════
 
@@ -75,12 +77,13 @@ pub holds-record : (p : PeerMessagePolicy) → RecordHolds p → policySound p �
 unfolding policySound
 holds-record p h = rw (le-leb _ _ (h .tracked), le-leb _ _ (h .few)) (h .load)
 
+-- a key of 33 bytes
+abbrev pub Key : List ℕ → Type 0
+Key k = kept.Key peerLayout k
+
 -- rules and order of rows, no more than the limit, each under a key of 33 bytes
-pub record RowsHold (c : PeerMessagePolicyConfig) (rs : Peers) : Type 0 where
-  pub few : length rs ≤ limit c
-  pub rules : every (peerSound c) rs ≡ true
-  pub order : ascending rs ≡ true
-  pub keyed : Keyed rs
+abbrev pub RowsHold : PeerMessagePolicyConfig → Peers → Type 0
+RowsHold c rs = kept.RowsHold peerLayout (peerSound c) (limit c) rs
 
 -- a sound policy, with the memory that is lent to it
 pub record PolicyHolds (p : PeerMessagePolicy) (s : List ℕ) : Type 0 where
@@ -101,15 +104,13 @@ pub holds-policy : (p : PeerMessagePolicy) (s : List ℕ) → PolicyHolds p s �
 unfolding sound
 holds-policy p s h = rw (holds-record p (h .own), le-leb _ _ (h .long), h .rules) (h .order)
 
+-- its memory holds the rows as it should
+lent-part : (p : PeerMessagePolicy) (s : List ℕ) → PolicyHolds p s → LentHolds peerLayout (peerSound (p .config)) (limit (p .config)) s (p .rows)
+lent-part p s h = record { few = h .own .few; long = h .long; rules = h .rules; order = h .order }
+
 -- the rows of a sound policy, in memory that holds bytes
 pub rows-hold : (p : PeerMessagePolicy) (s : List ℕ) → PolicyHolds p s → Bytes s → RowsHold (p .config) (rowsOf p s)
-rows-hold p s h b =
-    record {
-      few = omega (arith, length-rows peerLayout s (p .rows), h .own .few);
-      rules = h .rules;
-      order = h .order;
-      keyed = keyed-rows s (p .rows) b (omega (arith, h .own .few, h .long));
-    }
+rows-hold p s h b = laws.rows-hold peerLayout (peerSound (p .config)) (limit (p .config)) s (p .rows) (omega arith) (lent-part p s h) b
 
 -- ════ What a change of the rows must keep ═════════════════════════════════════════════════════════
 
@@ -127,70 +128,32 @@ pub record Leaves (p : PeerMessagePolicy) (s : List ℕ) (change : Change) (q : 
 
 -- a change to rows that hold
 abbrev pub ChangeHolds : PeerMessagePolicyConfig → Change → Type 0
-ChangeHolds c same = Unit {0}
-ChangeHolds c (become rs) = RowsHold c rs
+ChangeHolds c change = kept.ChangeHolds peerLayout (peerSound c) (limit c) change
 
 module _ (p : PeerMessagePolicy) (s t : List ℕ) (i : FiberIngressBudget) where
   change-kept : (change : Change) → PolicyHolds p s → Bytes s → ingressSound (p .config) i ≡ true → ChangeHolds (p .config) change
       → Memory s t (p .rows) change → Kept p s (policyAfter p i change) t
-  change-kept same h b load rs m =
-      let q : PeerMessagePolicy = policyAfter p i same in
-      let own : RecordHolds q = record { tracked = h .own .tracked; few = h .own .few; load = load } in
-      let here : sound q s ≡ true = holds-policy q s (record { own = own; long = h .long; rules = h .rules; order = h .order }) in
-      record { stays-sound = rw m here; same-length = ap length m; holds-bytes = rw m b; same-settings = refl }
-  change-kept (become rs) h b load r m =
-      let c : PeerMessagePolicyConfig = p .config in
-      let q : PeerMessagePolicy = policyAfter p i (become rs) in
-      let inside : 121 * p .rows ≤ length s = omega (arith, h .own .few, h .long) in
-      let fits : 121 * length rs ≤ length s = omega (arith, r .few, h .long) in
-      let same-length : length t ≡ length s = ap length (m .memory) ∙ length-laid-keyed s (p .rows) rs (r .keyed) inside fits in
-      let own : RecordHolds q = record { tracked = h .own .tracked; few = r .few; load = load } in
+  change-kept change h b load rs m =
+      let after : LentKept peerLayout (peerSound (p .config)) (limit (p .config)) s t (p .rows) change =
+      laws.change-kept (numbers-encode peer-numbers) (peerSound (p .config)) (limit (p .config)) s t (p .rows) change (lent-part p s h) b rs m in
+      let q : PeerMessagePolicy = policyAfter p i change in
+      let own : RecordHolds q = record { tracked = h .own .tracked; few = after .holds .few; load = load } in
       record {
         stays-sound =
-            holds-policy q t (record {
-              own = own;
-              long = omega (arith, h .long);
-              rules = ap (every (peerSound c)) (m .reads) ∙ r .rules;
-              order = ap ascending (m .reads) ∙ r .order;
-            });
-        same-length = same-length;
-        holds-bytes = rw (m .memory) (bytes-laid-keyed s (p .rows) rs (r .keyed) b);
+            holds-policy q t (record { own = own; long = after .holds .long; rules = after .holds .rules; order = after .holds .order });
+        same-length = after .same-length;
+        holds-bytes = after .holds-bytes;
         same-settings = refl;
       }
-
-  change-rows : (change : Change) → Memory s t (p .rows) change → rowsOf (policyAfter p i change) t ≡ changedRows (rowsOf p s) change
-  change-rows same m = ap (λ x. rows peerLayout x (p .rows)) m
-  change-rows (become xs) m = m .reads
 
   -- a load within the ceiling and rows that hold, in the memory that the change left
   pub change-leaves : (change : Change) → PolicyHolds p s → Bytes s → ingressSound (p .config) i ≡ true → ChangeHolds (p .config) change
       → Memory s t (p .rows) change → Leaves p s change (policyAfter p i change) t
-  change-leaves change h b load rs m = record { kept = change-kept change h b load rs m; rows = change-rows change m }
+  change-leaves change h b load rs m = record { kept = change-kept change h b load rs m; rows = change-rows peerLayout s t (p .rows) change m }
 
 -- ════ What each call's change keeps ═══════════════════════════════════════════════════════════════
 
 module _ (c : PeerMessagePolicyConfig) where
-  -- rows left
-  pub sub-hold : {xs ys : Peers} → Sub xs ys → RowsHold c ys → RowsHold c xs
-  sub-hold s h =
-      record {
-        few = omega (arith, sub-length s, h .few);
-        rules = sub-every (peerSound c) s (h .rules);
-        order = sub-ascending s (h .order);
-        keyed = keyed-sub s (h .keyed);
-      }
-
-  -- a sound entry stored under a key of 33 bytes, if there is room for it
-  pub store-hold : (k : List ℕ) (e : PeerMessagePolicyEntry) (rs : Peers) → Key k → entrySound c e ≡ true → RowsHold c rs
-      → length (store k e rs) ≤ limit c → RowsHold c (store k e rs)
-  store-hold k e rs key sound-entry h room =
-      record {
-        few = room;
-        rules = every-store k e (peerSound c) rs sound-entry (h .rules);
-        order = ascending-store k e rs (h .order);
-        keyed = keyed-store k e rs key (h .keyed);
-      }
-
   -- what admit and record_invalid find: a sound entry, and rows that any sound entry may be stored among
   abbrev UpdateHolds : List ℕ → Update → Type 0
   UpdateHolds k banned = Unit {0}
@@ -207,12 +170,12 @@ module _ (c : PeerMessagePolicyConfig) where
         let gone : look k left ≡ none = look-makeRoom-none c now rs (h .order) k l in (
           new-sound c now,
           λ x e.
-              store-hold k x left key e (sub-hold taken h)
+              store-hold peerLayout (peerSound c) (limit c) k x left key e (sub-hold peerLayout (peerSound c) (limit c) taken h)
               (omega (arith, length-store-none k left x gone, room-for-one c now rs (h .few))),
         )
     for-update-by (some e) l =
         let over : (x : PeerMessagePolicyEntry) → entrySound c x ≡ true → RowsHold c (store k x rs) =
-        λ x y. store-hold k x rs key y h (omega (arith, length-store-some k rs x l, h .few))
+        λ x y. store-hold peerLayout (peerSound c) (limit c) k x rs key y h (omega (arith, length-store-some k rs x l, h .few))
         in
         chosen (UpdateHolds k) (entryIsBanned e now) (λ t. tt)
         (λ t.
@@ -264,7 +227,7 @@ module _ (c : PeerMessagePolicyConfig) where
     pub is-banned-holds : (found : Option PeerMessagePolicyEntry) → ChangeHolds c (isBannedChange rs k now found)
     unfolding isBannedChange
     is-banned-holds none = tt
-    is-banned-holds (some e) = chosen (ChangeHolds c) (entryIsSpent e now) (λ t. sub-hold (sub-erase k rs) h) (λ t. tt)
+    is-banned-holds (some e) = chosen (ChangeHolds c) (entryIsSpent e now) (λ t. sub-hold peerLayout (peerSound c) (limit c) (sub-erase k rs) h) (λ t. tt)
 
     pub disconnected-holds : (found : Option PeerMessagePolicyEntry) → look k rs ≡ found → ChangeHolds c (disconnectedChange c rs k now found)
     unfolding disconnectedChange
@@ -274,8 +237,8 @@ module _ (c : PeerMessagePolicyConfig) where
         let y : entrySound c x ≡ true = expire-sound c e now (c .«ban_duration_ms») (look-rule (peerSound c) k rs (h .rules) l) in
         chosen (ChangeHolds c) (entryIsBanned e now) (λ t. tt)
         (λ t.
-        chosen (ChangeHolds c) (entryIsSpent e now) (λ u. sub-hold (sub-erase k rs) h)
-        (λ u. store-hold k x rs key y h (omega (arith, length-store-some k rs x l, h .few))))
+        chosen (ChangeHolds c) (entryIsSpent e now) (λ u. sub-hold peerLayout (peerSound c) (limit c) (sub-erase k rs) h)
+        (λ u. store-hold peerLayout (peerSound c) (limit c) k x rs key y h (omega (arith, length-store-some k rs x l, h .few))))
 
 -- ════ Refusal 4 ═══════════════════════════════════════════════════════════════════════════════════
 

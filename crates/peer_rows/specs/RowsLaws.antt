@@ -1,21 +1,21 @@
 -- Laws of the peers' rows, which callers' proofs cite: entries and their bytes are read back from one another, and the numbers of a
 -- row by their places. Assumes nothing.
-use mathlib.Core.Path.{_≡_, refl, ap, _∙_}
+use mathlib.Core.Path.{_≡_, refl, ap}
 use mathlib.Core.Bool.{_&&_, _||_}
-use mathlib.Core.List.{List, [], _∷_}
-use Prim.Native.Nat.{ℕ, zero, suc, _+_, _-_, _*_, _^_, _<_, _≤_, max}
+use mathlib.Core.List.{List}
+use Prim.Native.Nat.{ℕ, _+_, _^_, _<_}
 use native.Mathlib.Omega.{arith}
 use lib.Dec.{leb, eqb}
-use lib.ListN.{length, drop, getD}
+use lib.ListN.{length, getD}
 use Rattle.lent_bytes.specs.LentBytes.{part, le, Bytes}
-use Rattle.lent_bytes.specs.LentBytesLaws.{drop-part, part-part}
-use Rattle.table.specs.Memory.{wordBytes, wordOf, words, rowOf, laid, Holds}
-use Rattle.table.specs.MemoryLaws.{AllFit, laid-laid}
-use Rattle.table.specs.MemoryLaws.{Words, Faithful, Fit, length-wordBytes, Bytes-wordBytes, wordOf-wordBytes, wordBytes-all, wordOf-lt}
+use Rattle.table.specs.Memory.{rowOf}
+use Rattle.table.specs.MemoryLaws.{Faithful}
+use Rattle.table_laws.specs.Words.{Numbers, NumbersFit}
+use Rattle.table_laws.specs.WordsLaws.{OfNumbers, numbers-faithful, word-place}
 use Rattle.peer_settings.specs.declared.config.PeerMessagePolicyConfig.{PeerMessagePolicyConfig}
 use Rattle.peer_state.specs.declared.entry.PeerMessagePolicyEntry.{PeerMessagePolicyEntry}
 use Rattle.peer_state.specs.Entry.{level, window, entrySound, entryIsSpent}
-use Rattle.peer_rows.specs.Rows.{entryWords, entryOf, peerLayout, Peers, peerSound}
+use Rattle.peer_rows.specs.Rows.{entryWords, entryOf, peerLayout, peerSound}
 use Rattle.peer_rows.specs.Peer.{peerRow, ban}
 
 -- ---- entries and their bytes ----
@@ -34,144 +34,56 @@ pub record EntryFits (e : PeerMessagePolicyEntry) : Type 0 where
   pub until : e .ban .«until_ms» < 2 ^ 64
   pub used : e .«last_used_ms» < 2 ^ 64
 
--- each of some numbers fits eight bytes
-abbrev EachFits : List ℕ → Type 0
-EachFits [] = Unit
-EachFits (v ∷ vs) = (v < 2 ^ 64) × EachFits vs
-
-each-fits : (vs : List ℕ) → EachFits vs → Words vs
-each-fits [] f i = omega arith
-each-fits (v ∷ vs) f zero = f .0
-each-fits (v ∷ vs) f (suc i) = each-fits vs (f .1) i
-
--- the numbers of an entry fit eight bytes each
-entryWords-fit : (e : PeerMessagePolicyEntry) → EntryFits e → Words (entryWords e)
-unfolding entryWords
-entryWords-fit e f =
-    each-fits (entryWords e) (
-      f .messages-available,
-      (
-        f .messages-last,
-        (
-          f .bytes-available,
-          (
-            f .bytes-last,
-            (f .rate-count, (f .rate-start, (f .invalid-count, (f .invalid-start, (f .mark, (f .until, (f .used, tt))))))),
-          ),
-        ),
-      ),
-    )
+-- an entry by its eleven numbers
+abbrev pub peerNumbers : Numbers PeerMessagePolicyEntry
+peerNumbers =
+    record {
+      count = 11;
+      wordsOf = entryWords;
+      ofWords =
+          λ w.
+          record {
+            messages = level (getD w 0 0) (getD w 1 0);
+            bytes = level (getD w 2 0) (getD w 3 0);
+            «rate_limit_violations» = window (getD w 4 0) (getD w 5 0);
+            «invalid_messages» = window (getD w 6 0) (getD w 7 0);
+            ban = ban (getD w 8 0) (getD w 9 0);
+            «last_used_ms» = getD w 10 0;
+          };
+    }
 
 -- an entry has eleven numbers
 pub length-entryWords : (e : PeerMessagePolicyEntry) → length (entryWords e) ≡ 11
 unfolding entryWords
 length-entryWords e = refl
 
--- the numbers of the entry that bytes spell
-entryWords-entryOf : (s : List ℕ) → entryWords (entryOf s) ≡ words 0 11 s
+-- a peer's row is a key and those numbers
+pub peer-numbers : OfNumbers peerLayout peerNumbers
 unfolding entryWords entryOf
-entryWords-entryOf s = refl
-
--- the entry of eleven numbers
-abbrev ofWords : (ℕ → ℕ) → PeerMessagePolicyEntry
-ofWords w =
+peer-numbers =
     record {
-      messages = level (w 0) (w 1);
-      bytes = level (w 2) (w 3);
-      «rate_limit_violations» = window (w 4) (w 5);
-      «invalid_messages» = window (w 6) (w 7);
-      ban = ban (w 8) (w 9);
-      «last_used_ms» = w 10;
+      wide = omega arith;
+      widths = refl;
+      encodes = λ e. refl;
+      decodes = λ s. refl;
+      length-words = length-entryWords;
+      of-words = λ e. refl;
+      words-of = λ s. refl;
     }
 
--- eleven equal numbers make equal entries
-ofWords-same : (v w : ℕ → ℕ) → ((i : ℕ) → i < 11 → v i ≡ w i) → ofWords v ≡ ofWords w
-ofWords-same v w h =
-    rw (
-      h 0 (omega arith),
-      h 1 (omega arith),
-      h 2 (omega arith),
-      h 3 (omega arith),
-      h 4 (omega arith),
-      h 5 (omega arith),
-      h 6 (omega arith),
-      h 7 (omega arith),
-      h 8 (omega arith),
-      h 9 (omega arith),
-      h 10 (omega arith),
-    )
-
--- the entry that bytes spell, by its numbers
-entryOf-words : (s : List ℕ) → entryOf s ≡ ofWords (λ i. wordOf s i)
-unfolding entryOf
-entryOf-words s = refl
-
--- an entry, by its numbers
-ofWords-entryWords : (e : PeerMessagePolicyEntry) → ofWords (λ i. getD (entryWords e) i 0) ≡ e
+numbers-fit : (e : PeerMessagePolicyEntry) → EntryFits e → NumbersFit peerNumbers e
 unfolding entryWords
-ofWords-entryWords e = refl
+numbers-fit e f = omega (arith, f)
 
--- the entry that an entry's bytes spell is that entry
-entryOf-wordBytes : (e : PeerMessagePolicyEntry) → EntryFits e → entryOf (wordBytes (entryWords e)) ≡ e
-entryOf-wordBytes e f =
-    entryOf-words (wordBytes (entryWords e))
-    ∙ ofWords-same (λ i. wordOf (wordBytes (entryWords e)) i) (λ i. getD (entryWords e) i 0)
-    (λ i h. wordOf-wordBytes (entryWords e) i (entryWords-fit e f) (omega (arith, length-entryWords e)))
-    ∙ ofWords-entryWords e
-
--- the numbers that bytes spell fit eight bytes each
-entryOf-fits : (s : List ℕ) → Bytes s → length s ≡ 88 → EntryFits (entryOf s)
-unfolding entryOf
-entryOf-fits s b h =
-    record {
-      messages-available = wordOf-lt s 0 b (omega arith);
-      messages-last = wordOf-lt s 1 b (omega arith);
-      bytes-available = wordOf-lt s 2 b (omega arith);
-      bytes-last = wordOf-lt s 3 b (omega arith);
-      rate-count = wordOf-lt s 4 b (omega arith);
-      rate-start = wordOf-lt s 5 b (omega arith);
-      invalid-count = wordOf-lt s 6 b (omega arith);
-      invalid-start = wordOf-lt s 7 b (omega arith);
-      mark = wordOf-lt s 8 b (omega arith);
-      until = wordOf-lt s 9 b (omega arith);
-      used = wordOf-lt s 10 b (omega arith);
-    }
+entry-fits : (e : PeerMessagePolicyEntry) → NumbersFit peerNumbers e → EntryFits e
+unfolding entryWords
+entry-fits e f = omega (arith, f)
 
 -- entries stand in their rows and are read back
 pub peer-faithful : Faithful peerLayout EntryFits
-peer-faithful =
-    record {
-      wide = omega arith;
-      key-fits = omega arith;
-      length-encode = λ e. omega (arith, length-wordBytes (entryWords e), length-entryWords e);
-      encode-decode = λ s b h. ap wordBytes (entryWords-entryOf s) ∙ wordBytes-all s 11 b h;
-      decode-good = entryOf-fits;
-      decode-encode = entryOf-wordBytes;
-      encode-bytes = λ e f. Bytes-wordBytes (entryWords e);
-    }
-
--- a peer's row can stand in the table
-pub fit-peerRow : (k : List ℕ) (e : PeerMessagePolicyEntry) → length k ≡ 33 → Bytes k → EntryFits e → Fit peerLayout EntryFits (peerRow k e)
-fit-peerRow k e h b f = record { key-length = h; key-bytes = b; entry-good = f }
-
--- of two calls the second decides, where it wipes or covers what the first wrote behind the n rows
-pub holds-holds : (s t u : List ℕ) (n : ℕ) (rs qs : Peers) → AllFit peerLayout EntryFits rs → length rs ≤ max n (length qs)
-    → Holds peerLayout s t n rs → Holds peerLayout t u (length rs) qs → Holds peerLayout s u n qs
-holds-holds s t u n rs qs f h first second =
-    record {
-      memory =
-          second .memory ∙ ap (λ (l : List ℕ). laid peerLayout l (length rs) qs) (first .memory)
-          ∙ laid-laid peer-faithful s n rs qs f h;
-      reads = second .reads;
-    }
+peer-faithful = numbers-faithful peer-numbers EntryFits numbers-fit entry-fits
 
 -- ---- the numbers of a row by their places ----
-
--- the i-th number of the row at a place
-word-place : (s : List ℕ) (at i p : ℕ) → i < 11 → at + 33 + 8 * i ≡ p → wordOf (drop 33 (part s at 121)) i ≡ le (part s p 8)
-word-place s at i p h e =
-    ap (λ (l : List ℕ). wordOf l i) (drop-part s at 121 33 (omega arith))
-    ∙ ap le (part-part s (at + 33) 88 (8 * i) 8 (omega arith) ∙ ap (λ (k : ℕ). part s k 8) e)
 
 -- the entry whose numbers stand behind the key of the row at a place
 abbrev pub entryPlaces : List ℕ → ℕ → PeerMessagePolicyEntry
@@ -190,17 +102,17 @@ pub entry-places : (s : List ℕ) (at : ℕ) → rowOf peerLayout (part s at 121
 unfolding rowOf entryOf
 entry-places s at =
     rw (
-      word-place s at 0 (at + 33) (omega arith) (omega arith),
-      word-place s at 1 (at + 33 + 8) (omega arith) (omega arith),
-      word-place s at 2 (at + 49) (omega arith) (omega arith),
-      word-place s at 3 (at + 49 + 8) (omega arith) (omega arith),
-      word-place s at 4 (at + 65) (omega arith) (omega arith),
-      word-place s at 5 (at + 65 + 8) (omega arith) (omega arith),
-      word-place s at 6 (at + 81) (omega arith) (omega arith),
-      word-place s at 7 (at + 81 + 8) (omega arith) (omega arith),
-      word-place s at 8 (at + 97) (omega arith) (omega arith),
-      word-place s at 9 (at + 97 + 8) (omega arith) (omega arith),
-      word-place s at 10 (at + 113) (omega arith) (omega arith),
+      word-place s at 33 121 0 (at + 33) (omega arith) (omega arith),
+      word-place s at 33 121 1 (at + 33 + 8) (omega arith) (omega arith),
+      word-place s at 33 121 2 (at + 49) (omega arith) (omega arith),
+      word-place s at 33 121 3 (at + 49 + 8) (omega arith) (omega arith),
+      word-place s at 33 121 4 (at + 65) (omega arith) (omega arith),
+      word-place s at 33 121 5 (at + 65 + 8) (omega arith) (omega arith),
+      word-place s at 33 121 6 (at + 81) (omega arith) (omega arith),
+      word-place s at 33 121 7 (at + 81 + 8) (omega arith) (omega arith),
+      word-place s at 33 121 8 (at + 97) (omega arith) (omega arith),
+      word-place s at 33 121 9 (at + 97 + 8) (omega arith) (omega arith),
+      word-place s at 33 121 10 (at + 113) (omega arith) (omega arith),
     )
 
 -- the row at a place

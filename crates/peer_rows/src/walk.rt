@@ -1,8 +1,8 @@
-// The walk over the rows that judges them and finds a key's place, and the search for a place alone.
+// The walk over the rows that judges them and finds a key's place.
 ghost use mathlib.Core.Path.{_≡_};
 ghost use Prim.Native.Nat.{_*_, _≤_};
 ghost use lib.ListN.{length};
-ghost use Rattle.table.specs.Table.{placeFrom, seek};
+ghost use Rattle.table.specs.Table.{seek};
 ghost use Rattle.table.specs.Memory.{rows};
 ghost use Rattle.peer_rows.specs.Rows.{peerLayout, peerSound};
 use super::row::row_sound;
@@ -48,13 +48,4 @@ pub fn sought(config: PeerMessagePolicyConfig, table: &[u8], count: usize, key: 
 {
     let bytes = key.bytes;
     walked(config, table, count, &bytes)
-}
-
-// Where the key stands or would stand, without judging.
-pub fn place_of(table: &[u8], count: usize, key: &[u8]) -> Seek
-    requires { ⌜ length (now key) ≡ 33 ⌝ }
-    requires { ⌜ 121 * count ≤ length (now table) ⌝ }
-    ensures { λ r. ⌜ r ≡ placeFrom 0 (now (key .entry)) (rows peerLayout (now (table .entry)) count) ⌝ }
-{
-    keyed_rows::find::place_of(table, 121, count, key)
 }

@@ -2,9 +2,9 @@
 use mathlib.Core.Bool.{Bool, not, cond}
 use mathlib.Core.Option.{Option, none, some}
 use Prim.Native.Nat.{ℕ}
-use lib.Dec.{ltb, eqb}
-use lib.ListN.{length}
+use lib.Dec.{eqb}
 use Rattle.table.specs.Table.{Row, Best, nothing, best, leastFrom, retain, removeAt}
+use Rattle.table_laws.specs.Room.{roomMade}
 use Rattle.peer_settings.specs.declared.config.PeerMessagePolicyConfig.{PeerMessagePolicyConfig}
 use Rattle.peer_state.specs.declared.entry.PeerMessagePolicyEntry.{PeerMessagePolicyEntry}
 use Rattle.peer_settings.specs.Config.{limit}
@@ -37,11 +37,6 @@ evictFound nothing nothing rs = rs
 unfoldable pub evict : Peers → Peers
 evict rs = evictFound (leastFrom ordinaryLru nothing 0 rs) (leastFrom bannedExpirations nothing 0 rs) rs
 
--- the spent bans have gone; where the table is still full, one row more
-abbrev pub evictIfFull : ℕ → Peers → Peers
-evictIfFull lim rs = cond (ltb (length rs) lim) rs (evict rs)
-
--- make_room, for a peer that has no row
+-- make_room, for a peer that has no row: in a full table the spent bans go, and where it is still full, one row more
 unfoldable pub makeRoom : PeerMessagePolicyConfig → ℕ → Peers → Peers
-makeRoom c now rs =
-    cond (ltb (length rs) (limit c)) rs (evictIfFull (limit c) (pruneExpiredBans now rs))
+makeRoom c now rs = roomMade (limit c) (unspent now) evict rs

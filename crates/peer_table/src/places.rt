@@ -10,10 +10,8 @@ ghost use Rattle.table.specs.Memory.{rows, Holds};
 ghost use Rattle.peer_rows.specs.Rows.{peerLayout};
 ghost use Rattle.peer_rows.specs.Peer.{peerRow};
 use peer_rows::row::words_of;
-use peer_rows::walk::place_of;
 use peer_state::entry::PeerMessagePolicyEntry;
 use pubkey::Pubkey;
-use table::seek::Seek;
 
 // Takes the row at the index out.
 pub fn remove_at(table: &mut [u8], count: usize, index: usize)
@@ -57,17 +55,7 @@ pub fn store(table: &mut [u8], count: usize, key: Pubkey, e: PeerMessagePolicyEn
     requires { ⌜ 121 * (count + 1) ≤ length (now table) ⌝ }
     ensures { λ r. ⌜ Holds peerLayout (now (table .entry)) (now (table .exit)) count (stored (key .bytes) e (rows peerLayout (now (table .entry)) count)) × (r ≡ length (stored (key .bytes) e (rows peerLayout (now (table .entry)) count))) ⌝ }
 {
+    let words = words_of(e);
     let bytes = key.bytes;
-    match place_of(table, count, &bytes) {
-        Seek::At(index) => {
-            overwrite_at(table, count, index, e);
-            count
-        }
-        Seek::Gap(index) => {
-            insert_at(table, count, index, key, e);
-            count + 1
-        }
-        // A search never answers this: only a judging walk does.
-        Seek::Unsound => count,
-    }
+    keyed_rows::change::store(table, 121, count, &bytes, &words)
 }

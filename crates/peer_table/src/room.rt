@@ -5,10 +5,8 @@ ghost use Prim.Native.Nat.{_+_, _*_, _<_, _≤_};
 ghost use lib.ListN.{length};
 ghost use Rattle.lent_bytes.specs.LentBytes.{part, put};
 ghost use Rattle.table.specs.Memory.{rowOf, rows, tableBytes, Holds};
-ghost use Rattle.peer_settings.specs.Config.{limit};
-ghost use Rattle.peer_state.specs.Entry.{entryIsSpent};
 ghost use Rattle.peer_rows.specs.Rows.{peerLayout};
-ghost use Rattle.peer_table.specs.Room.{pruneExpiredBans, makeRoom};
+ghost use Rattle.peer_table.specs.Room.{unspent, pruneExpiredBans, makeRoom};
 ghost use Rattle.peer_table.specs.Room.{evict as evicted};
 use super::first::First;
 use super::first::find_first;
@@ -21,7 +19,7 @@ use peer_settings::config::PeerMessagePolicyConfig;
 fn keep_unspent(table: &mut [u8], from: usize, to: usize, now_ms: u64) -> usize
     requires { ⌜ to ≤ from ⌝ }
     requires { ⌜ 121 * (from + 1) ≤ length (now table) ⌝ }
-    ensures { λ r. ⌜ (now (table .exit) ≡ cond (entryIsSpent (rowOf peerLayout (part (now (table .entry)) (121 * from) 121) .entry) «now_ms») (now (table .entry)) (put (now (table .entry)) (121 * to) (part (now (table .entry)) (121 * from) 121))) × (r ≡ cond (entryIsSpent (rowOf peerLayout (part (now (table .entry)) (121 * from) 121) .entry) «now_ms») to (to + 1)) ⌝ }
+    ensures { λ r. ⌜ (now (table .exit) ≡ cond (unspent «now_ms» (rowOf peerLayout (part (now (table .entry)) (121 * from) 121))) (put (now (table .entry)) (121 * to) (part (now (table .entry)) (121 * from) 121)) (now (table .entry))) × (r ≡ cond (unspent «now_ms» (rowOf peerLayout (part (now (table .entry)) (121 * from) 121))) (to + 1) to) ⌝ }
 {
     if row_spent(table, 121 * from, now_ms) {
         return to;
@@ -71,14 +69,6 @@ pub fn evict(table: &mut [u8], count: usize) -> usize
     count
 }
 
-// How many rows the table holds at most; a limit of 0 counts as 1.
-fn limit_of(config: PeerMessagePolicyConfig) -> u64
-    ensures { λ r. ⌜ r ≡ limit config ⌝ }
-{
-    let limit = config.max_tracked_peers;
-    if limit < 1 { 1 } else { limit }
-}
-
 // make_room, for a peer that has no row. Answers how many rows are left.
 pub fn make_room(
     config: PeerMessagePolicyConfig,
@@ -89,7 +79,7 @@ pub fn make_room(
     requires { ⌜ 121 * count ≤ length (now table) ⌝ }
     ensures { λ r. ⌜ Holds peerLayout (now (table .entry)) (now (table .exit)) count (makeRoom config «now_ms» (rows peerLayout (now (table .entry)) count)) × (r ≡ length (makeRoom config «now_ms» (rows peerLayout (now (table .entry)) count))) ⌝ }
 {
-    let limit = limit_of(config);
+    let limit = config.limit();
     if (count as u64) < limit {
         return count;
     }

@@ -18,6 +18,8 @@ use Rattle.table.specs.Memory.{Layout, rowOf, rows, rowBytes, tableBytes, laid}
 use Rattle.table.specs.Outcome.{Change, same, become, Memory, changedRows, rowsAfter}
 use Rattle.table.specs.TableLaws.{by-answer, both, every-store, ascending-store, Sub, done, keep, leave, sub-every, sub-ascending, sub-length}
 use Rattle.table.specs.MemoryLaws.{Faithful, length-rows, bytes-used}
+use Rattle.table_laws.specs.Words.{Numbers}
+use Rattle.table_laws.specs.WordsLaws.{OfNumbers, length-encode, encode-bytes}
 use Rattle.table_laws.specs.Lent.{lentSound}
 use Rattle.table_laws.specs.LentLaws.{limit-fits, rules-kept, order-kept}
 use Rattle.table_laws.specs.Kept.{Key, Keyed, Encodes, RowsHold, ChangeHolds, LentHolds, LentKept}
@@ -52,6 +54,10 @@ module _ {A : Type 0} (L : Layout A) where
       by-answer (compareBytes k (r .key)) (λ o. rw o (key, keys)) (λ o. rw o (key, keys .1)) (λ o. rw o (keys .0, rest))
 
 -- ---- the bytes of keyed rows, whatever their entries are ----
+
+-- entries that are numbers
+pub numbers-encode : {A : Type 0} {L : Layout A} {N : Numbers A} → OfNumbers L N → Encodes L
+numbers-encode num = record { key-fits = omega (arith, num .widths); length-encode = length-encode num; encode-bytes = encode-bytes num }
 
 module _ {A : Type 0} {L : Layout A} (enc : Encodes L) where
   length-keyed : (rs : List (Row A)) → Keyed L rs → length (tableBytes L rs) ≡ L .width * length rs

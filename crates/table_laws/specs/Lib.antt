@@ -6,9 +6,11 @@ pub mod Words
 pub mod WordsLaws
 pub mod ChangeLaws
 pub mod KeepLaws
-pub mod LeastRows
+pub mod LeastRowsLaws
 pub mod RankLaws
 pub mod Lent
 pub mod LentLaws
 pub mod Kept
 pub mod KeptLaws
+pub mod Room
+pub mod RoomLaws

@@ -9,7 +9,7 @@ use lib.ListN.{length, getD}
 use Rattle.lent_bytes.specs.LentBytes.{Bytes}
 use Rattle.lent_bytes.specs.LentBytesLaws.{length-zeros, Bytes-nil, Bytes-cons, Bytes-zeros}
 use Rattle.peer_state.specs.EntryLaws.{chosen}
-use Rattle.peer_laws.specs.KeyedLaws.{Key}
+use Rattle.peer_laws.specs.SoundLaws.{Key}
 use Rattle.trace_lines.specs.declared.event.Event.{Event}
 use Rattle.trace_lines.specs.declared.event.EventKind.{EventKind}
 use Rattle.trace_lines.specs.declared.event.EventKind.the-variants as kind

@@ -30,8 +30,7 @@ use Rattle.peer_message_policy.specs.Calls.{
   changedBy,
   OnDisconnectedMeets,
 }
-use Rattle.peer_laws.specs.KeyedLaws.{Key}
-use Rattle.peer_laws.specs.SoundLaws.{PolicyHolds, policy-holds, holds-record, Leaves, change-leaves}
+use Rattle.peer_laws.specs.SoundLaws.{Key, PolicyHolds, policy-holds, holds-record, Leaves, change-leaves}
 use Rattle.peer_laws.specs.CallLaws.{
   OfAdmission,
   OfInvalid,

@@ -9,7 +9,7 @@ use Rattle.table.specs.Table.{nothing, leastFrom}
 use Rattle.table.specs.Memory.{rows}
 use Rattle.peer_rows.specs.Rows.{peerLayout}
 use Rattle.peer_table.specs.First.{bestOf, measureOf, measureBy}
-use Rattle.peer_table.proofs.Firsts.{first-ends, first-goes-on}
+use Rattle.table_laws.specs.LeastRowsLaws.{first-ends, first-goes-on}
 use Rattle.peer_table.proofs.first.find_first.Statement.{statement}
 use Rattle.peer_table.proofs.first.find_first.Tie as tie
 
@@ -41,14 +41,14 @@ loop-again : tie.Need-loop-again Inv-loop μ-loop
 loop-again c = let a = c .before .before .before .before .before .args in
     let turn = c .before .before .before .loop in (
       omega arith,
-      first-goes-on (a .banned) (a .table .now) (a .count) (turn .i) (bestOf (turn .found)) (turn .inv .1)
+      first-goes-on peerLayout (measureBy (a .banned)) (a .table .now) (a .count) (turn .i) (bestOf (turn .found)) (turn .inv .1)
           (measureOf (c .before .measure-at .result)) (bestOf (c .better-of .result)) (omega arith) (c .before .measure-at .ensures) (c .better-of .ensures),
     )
 
 returns : tie.Need-returns Inv-loop μ-loop
 returns c = let a = c .before .before .before .args in
     let last = c .before .loop in
-    first-ends (a .banned) (a .table .now) (a .count) (last .i) (bestOf (last .found)) (last .inv .1) (omega arith)
+    first-ends peerLayout (measureBy (a .banned)) (a .table .now) (a .count) (last .i) (bestOf (last .found)) (last .inv .1) (omega arith)
 
 pub find-first-spec : {M : Type 1} → statement M
 find-first-spec =

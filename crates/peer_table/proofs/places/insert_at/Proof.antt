@@ -6,8 +6,9 @@ use Prim.Native.Nat.{_-_}
 use native.Mathlib.Omega.{arith}
 use lib.ListN.{length, getD}
 use Rattle.lent_bytes.specs.LentBytes.{Bytes}
-use Rattle.peer_rows.specs.RowsLaws.{length-entryWords}
-use Rattle.peer_table.proofs.Changes.{inserted}
+use Rattle.peer_rows.specs.RowsLaws.{length-entryWords, peer-faithful}
+use Rattle.table.specs.Memory.{wordBytes}
+use Rattle.table_laws.specs.ChangeLaws.{inserted}
 use borrow.Author.Needs.{needs}
 use Rattle.peer_table.proofs.places.insert_at.Statement.{statement}
 use Rattle.peer_table.proofs.places.insert_at.Tie as tie
@@ -34,8 +35,8 @@ returns c = let a = c .before .before .before .before .before .before .before .b
     let s = a .table .now in
     let k : length (a .key .bytes) ≡ 33 = search needs in
     let b : Bytes (a .key .bytes) = λ i. let h : Fits w8 (getD (a .key .bytes) i 0) = search needs in h .fits in
-    inserted s _ (a .count) (λ i. c .before .before .before .before .before .before .before .before .slice-known .given i .fits) (omega arith) (a .index) (a .key .bytes) (a .e)
-    (c .before .before .before .before .before .before .before .words-of .result) (omega arith) k b (omega (arith, c .before .before .before .before .before .before .before .before .before .good)) (c .before .before .before .before .before .before .before .words-of .ensures) (c .before .before .insert-row .ensures)
+    inserted peer-faithful s _ (a .count) (λ i. c .before .before .before .before .before .before .before .before .slice-known .given i .fits) (omega arith) (a .index) (a .key .bytes) (a .e)
+    (wordBytes (c .before .before .before .before .before .before .before .words-of .result)) (omega arith) k b (omega (arith, c .before .before .before .before .before .before .before .before .before .good)) (ap wordBytes (c .before .before .before .before .before .before .before .words-of .ensures)) (c .before .before .insert-row .ensures)
 
 pub insert-at-spec : {M : Type 1} → statement M
 insert-at-spec =

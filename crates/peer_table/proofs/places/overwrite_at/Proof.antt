@@ -1,6 +1,9 @@
 -- `peer_table::places::overwrite_at` meets its contract: the write leaves memory with the entry (`overwritten`). Assumes nothing.
 use native.Mathlib.Omega.{arith}
-use Rattle.peer_table.proofs.Changes.{overwritten}
+use mathlib.Core.Path.{ap}
+use Rattle.table.specs.Memory.{wordBytes}
+use Rattle.table_laws.specs.ChangeLaws.{overwritten}
+use Rattle.peer_rows.specs.RowsLaws.{peer-faithful}
 use borrow.Author.Needs.{needs}
 use Rattle.peer_table.proofs.places.overwrite_at.Statement.{statement}
 use Rattle.peer_table.proofs.places.overwrite_at.Tie as tie
@@ -25,8 +28,8 @@ same-length c = search needs
 
 returns : tie.Need-returns
 returns c = let a = c .before .before .before .before .before .before .before .args in
-    overwritten (a .table .now) _ (a .count) (λ i. c .before .before .before .before .before .before .slice-known .given i .fits) (omega arith) (a .index) (a .e)
-    (c .before .before .before .before .before .words-of .result) (omega arith) (omega (arith, c .before .before .before .before .before .before .before .good)) (c .before .before .before .before .before .words-of .ensures) (c .before .before .put-words .ensures)
+    overwritten peer-faithful (a .table .now) _ (a .count) (λ i. c .before .before .before .before .before .before .slice-known .given i .fits) (omega arith) (a .index) (a .e)
+    (wordBytes (c .before .before .before .before .before .words-of .result)) (omega arith) (omega (arith, c .before .before .before .before .before .before .before .good)) (ap wordBytes (c .before .before .before .before .before .words-of .ensures)) (c .before .before .put-words .ensures)
 
 pub overwrite-at-spec : {M : Type 1} → statement M
 overwrite-at-spec =

@@ -4,9 +4,11 @@ use mathlib.Core.Path.{sym, ap, _∙_}
 use native.Mathlib.Omega.{arith}
 use Rattle.table.specs.Memory.{rows}
 use Rattle.peer_rows.specs.Rows.{peerLayout}
-use Rattle.peer_table.specs.First.{bestOf}
-use Rattle.peer_table.specs.RoomLaws.{evict-ordinary, evict-banned}
-use Rattle.peer_table.proofs.Making.{found-inside, evicted-row, evicted-nobody}
+use Rattle.peer_table.specs.First.{bestOf, measureBy}
+use Rattle.peer_table.specs.RoomLaws.{evict-ordinary, evict-banned, evict-nobody}
+use Rattle.table_laws.specs.LeastRowsLaws.{found-inside}
+use Rattle.table_laws.specs.RoomLaws.{evicted-row, left-alone}
+use Rattle.peer_rows.specs.RowsLaws.{peer-faithful}
 use borrow.Author.Needs.{needs}
 use Rattle.peer_table.proofs.room.evict.Statement.{statement}
 use Rattle.peer_table.proofs.room.evict.Tie as tie
@@ -19,11 +21,11 @@ enum-known-index c = search needs
 
 remove-at-requires : tie.Need-remove-at-requires
 remove-at-requires c κs = let a = c .before .before .before .before .before .before .before .args in
-    omega (arith, c .before .before .before .before .before .before .before .pre, found-inside false (a .table .now) (a .count) (sym (c .before .before .before .before .find-first .ensures) ∙ ap bestOf (c .before .before .index .given .1)))
+    omega (arith, c .before .before .before .before .before .before .before .pre, found-inside peerLayout (measureBy false) (a .table .now) (a .count) (sym (c .before .before .before .before .find-first .ensures) ∙ ap bestOf (c .before .before .index .given .1)))
 
 sub-result : tie.Need-sub-result
 sub-result c = let a = c .before .before .before .before .before .before .before .before .before .before .args in
-    omega (arith, c .before .before .before .before .before .before .before .before .before .before .pre, found-inside false (a .table .now) (a .count) (sym (c .before .before .before .before .before .before .before .find-first .ensures) ∙ ap bestOf (c .before .before .before .before .before .index .given .1)))
+    omega (arith, c .before .before .before .before .before .before .before .before .before .before .pre, found-inside peerLayout (measureBy false) (a .table .now) (a .count) (sym (c .before .before .before .before .before .before .before .find-first .ensures) ∙ ap bestOf (c .before .before .before .before .before .index .given .1)))
 
 same-length : tie.Need-same-length
 same-length c = search needs
@@ -31,7 +33,7 @@ same-length c = search needs
 returns : tie.Need-returns
 returns c = let a = c .before .before .before .before .before .before .before .before .before .before .args in
     let found = sym (c .before .before .before .before .before .before .before .find-first .ensures) ∙ ap bestOf (c .before .before .before .before .before .index .given .1) in
-    evicted-row (a .table .now) _ (a .count) (found-inside false (a .table .now) (a .count) found)
+    evicted-row peer-faithful (a .table .now) (a .count) _ (found-inside peerLayout (measureBy false) (a .table .now) (a .count) found)
     (evict-ordinary (rows peerLayout (a .table .now) (a .count)) found) (c .before .before .remove-at .ensures)
 
 enum-told : tie.Need-enum-told
@@ -45,11 +47,11 @@ enum-known-index-2 c = search needs
 
 remove-at-requires-2 : tie.Need-remove-at-requires-2
 remove-at-requires-2 c κs = let a = c .before .before .before .before .before .before .before .before .before .before .before .args in
-    omega (arith, c .before .before .before .before .before .before .before .before .before .before .before .pre, found-inside true (a .table .now) (a .count) (sym (c .before .before .before .before .find-first2 .ensures) ∙ ap bestOf (c .before .before .index2 .given .1)))
+    omega (arith, c .before .before .before .before .before .before .before .before .before .before .before .pre, found-inside peerLayout (measureBy true) (a .table .now) (a .count) (sym (c .before .before .before .before .find-first2 .ensures) ∙ ap bestOf (c .before .before .index2 .given .1)))
 
 sub-result-2 : tie.Need-sub-result-2
 sub-result-2 c = let a = c .before .before .before .before .before .before .before .before .before .before .before .before .before .before .args in
-    omega (arith, c .before .before .before .before .before .before .before .before .before .before .before .before .before .before .pre, found-inside true (a .table .now) (a .count) (sym (c .before .before .before .before .before .before .before .find-first2 .ensures) ∙ ap bestOf (c .before .before .before .before .before .index2 .given .1)))
+    omega (arith, c .before .before .before .before .before .before .before .before .before .before .before .before .before .before .pre, found-inside peerLayout (measureBy true) (a .table .now) (a .count) (sym (c .before .before .before .before .before .before .before .find-first2 .ensures) ∙ ap bestOf (c .before .before .before .before .before .index2 .given .1)))
 
 same-length-2 : tie.Need-same-length-2
 same-length-2 c = search needs
@@ -57,7 +59,7 @@ same-length-2 c = search needs
 returns-2 : tie.Need-returns-2
 returns-2 c = let a = c .before .before .before .before .before .before .before .before .before .before .before .before .before .before .args in
     let found = sym (c .before .before .before .before .before .before .before .find-first2 .ensures) ∙ ap bestOf (c .before .before .before .before .before .index2 .given .1) in
-    evicted-row (a .table .now) _ (a .count) (found-inside true (a .table .now) (a .count) found)
+    evicted-row peer-faithful (a .table .now) (a .count) _ (found-inside peerLayout (measureBy true) (a .table .now) (a .count) found)
     (evict-banned (rows peerLayout (a .table .now) (a .count)) (sym (c .before .before .before .before .before .before .before .before .before .before .before .find-first .ensures) ∙ ap bestOf (c .before .before .before .before .before .before .before .before .before .enum-told .given .1)) found)
     (c .before .before .remove-at2 .ensures)
 
@@ -69,9 +71,9 @@ same-length-3 c = search needs
 
 returns-3 : tie.Need-returns-3
 returns-3 c = let a = c .before .before .before .before .before .before .before .before .before .args in
-    evicted-nobody (a .table .now) (a .count) (λ i. c .before .before .before .before .before .before .before .before .slice-known .given i .fits) (omega (arith, c .before .before .before .before .before .before .before .before .before .pre))
-    (sym (c .before .before .before .before .before .before .find-first .ensures) ∙ ap bestOf (c .before .before .before .before .enum-told .given .1))
-    (sym (c .before .before .find-first2 .ensures) ∙ ap bestOf (c .enum-told2 .given .1))
+    left-alone peer-faithful (a .table .now) (a .count) (λ i. c .before .before .before .before .before .before .before .before .slice-known .given i .fits) (omega (arith, c .before .before .before .before .before .before .before .before .before .pre))
+    (evict-nobody (rows peerLayout (a .table .now) (a .count)) (sym (c .before .before .before .before .before .before .find-first .ensures) ∙ ap bestOf (c .before .before .before .before .enum-told .given .1))
+    (sym (c .before .before .find-first2 .ensures) ∙ ap bestOf (c .enum-told2 .given .1)))
 
 pub evict-spec : {M : Type 1} → statement M
 evict-spec =

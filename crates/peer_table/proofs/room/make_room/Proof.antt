@@ -4,17 +4,21 @@ use Rattle.table.specs.Memory.{rows}
 use Rattle.table.specs.MemoryLaws.{length-rows}
 use Rattle.peer_rows.specs.Rows.{peerLayout}
 use Rattle.peer_table.specs.RoomLaws.{length-prune}
-use Rattle.peer_table.proofs.Making.{made-free, made-pruned, made-evicted}
+use Rattle.table_laws.specs.RoomLaws.{made-free, made-pruned, made-evicted}
+use Rattle.peer_settings.specs.Config.{limit}
+use Rattle.peer_rows.specs.RowsLaws.{peer-faithful}
+use Rattle.peer_table.specs.Room.{unspent, evict, makeRoom}
 use borrow.Author.Needs.{needs}
 use Rattle.peer_table.proofs.room.make_room.Statement.{statement}
 use Rattle.peer_table.proofs.room.make_room.Tie as tie
 
-limit-of-requires : tie.Need-limit-of-requires
-limit-of-requires c κs = search needs
+limit-requires : tie.Need-limit-requires
+limit-requires c κs = search needs
 
 returns : tie.Need-returns
+unfolding makeRoom
 returns c = let a = c .before .before .before .args in
-    made-free (a .config) (a .now-ms) (a .table .now) (a .count) (λ i. c .before .before .slice-known .given i .fits) (omega (arith, c .before .before .before .pre)) (omega arith)
+    made-free peer-faithful (a .table .now) (a .count) (λ i. c .before .before .slice-known .given i .fits) (omega (arith, c .before .before .before .pre)) (limit (a .config)) (unspent (a .now-ms)) evict (omega arith)
 
 remove-spent-requires : tie.Need-remove-spent-requires
 remove-spent-requires c κs = search needs
@@ -23,9 +27,10 @@ same-length : tie.Need-same-length
 same-length c = search needs
 
 returns-2 : tie.Need-returns-2
+unfolding makeRoom
 returns-2 c = let a = c .before .before .before .before .before .before .before .before .args in
-    made-pruned (a .config) (a .now-ms) (a .table .now) (a .count) (λ i. c .before .before .before .before .before .before .before .slice-known .given i .fits) (omega (arith, c .before .before .before .before .before .before .before .before .pre))
-    (omega arith) _ (c .before .before .before .remove-spent .result) (omega arith) (c .before .before .before .remove-spent .ensures)
+    made-pruned peer-faithful (a .table .now) (a .count) (λ i. c .before .before .before .before .before .before .before .slice-known .given i .fits) (omega (arith, c .before .before .before .before .before .before .before .before .pre))
+    (limit (a .config)) (unspent (a .now-ms)) evict (omega arith) _ (c .before .before .before .remove-spent .result) (c .before .before .before .remove-spent .ensures) (omega arith)
 
 evict-requires : tie.Need-evict-requires
 evict-requires c κs = let a = c .before .before .before .before .before .before .before .before .before .args in
@@ -35,15 +40,16 @@ same-length-2 : tie.Need-same-length-2
 same-length-2 c = search needs
 
 returns-3 : tie.Need-returns-3
+unfolding makeRoom
 returns-3 c = let a = c .before .before .before .before .before .before .before .before .before .before .before .before .args in
-    made-evicted (a .config) (a .now-ms) (a .table .now) (a .count) (λ i. c .before .before .before .before .before .before .before .before .before .before .before .slice-known .given i .fits) (omega (arith, c .before .before .before .before .before .before .before .before .before .before .before .before .pre))
-    (omega arith) _ (c .before .before .before .before .before .before .before .remove-spent .result) (omega arith) (c .before .before .before .before .before .before .before .remove-spent .ensures) _ (c .before .before .evict .result) (c .before .before .evict .ensures)
+    made-evicted peer-faithful (a .table .now) (a .count) (λ i. c .before .before .before .before .before .before .before .before .before .before .before .slice-known .given i .fits) (omega (arith, c .before .before .before .before .before .before .before .before .before .before .before .before .pre))
+    (limit (a .config)) (unspent (a .now-ms)) evict (omega arith) _ (c .before .before .before .before .before .before .before .remove-spent .result) (c .before .before .before .before .before .before .before .remove-spent .ensures) (omega arith) _ (c .before .before .evict .result) (c .before .before .evict .ensures)
 
 pub make-room-spec : {M : Type 1} → statement M
 make-room-spec =
     tie.close
     (tie.spec
-    limit-of-requires
+    limit-requires
     returns
     remove-spent-requires
     same-length

@@ -1,10 +1,12 @@
--- `peer_table::room::remove_spent` meets its contract: the rows gathered, and zeros behind them (`spent-removed`). Assumes nothing.
+-- `peer_table::room::remove_spent` meets its contract: the rows gathered, and zeros behind them (`plain-removed`). Assumes nothing.
 use native.Mathlib.Omega.{arith}
 use Rattle.table.specs.Memory.{rows}
 use Rattle.table.specs.MemoryLaws.{length-rows}
 use Rattle.peer_rows.specs.Rows.{peerLayout}
 use Rattle.peer_table.specs.RoomLaws.{length-prune}
-use Rattle.peer_table.proofs.Kept.{spent-removed}
+use Rattle.table_laws.specs.KeepLaws.{plain-removed}
+use Rattle.peer_rows.specs.RowsLaws.{peer-faithful}
+use Rattle.peer_table.specs.Room.{unspent}
 use borrow.Author.Needs.{needs}
 use Rattle.peer_table.proofs.room.remove_spent.Statement.{statement}
 use Rattle.peer_table.proofs.room.remove_spent.Tie as tie
@@ -25,7 +27,7 @@ same-length c = search needs
 
 returns : tie.Need-returns
 returns c = let a = c .before .before .before .before .before .before .before .before .before .args in (
-  spent-removed (a .now-ms) (a .table .now) (a .count) (λ i. c .before .before .before .before .before .before .before .before .slice-known .given i .fits) (omega (arith, c .before .before .before .before .before .before .before .before .before .pre))
+  plain-removed peer-faithful (unspent (a .now-ms)) (a .table .now) (a .count) (λ i. c .before .before .before .before .before .before .before .before .slice-known .given i .fits) (omega (arith, c .before .before .before .before .before .before .before .before .before .pre))
       _ _ (c .before .before .before .before .before .before .gather-unspent .result) (c .before .before .before .before .before .before .gather-unspent .ensures .0) (c .before .before .before .before .before .before .gather-unspent .ensures .1) (c .before .before .zero-rows .ensures),
   c .before .before .before .before .before .before .gather-unspent .ensures .1,
 )
