@@ -39,40 +39,15 @@ use denote.Triple.Clauses.{ensured, closing, lasts}
 use denote.Triple.Walked.{says, Stays, stay-none, walkOf, goes-none, Walks, ends-at, walked, walk-meets}
 use Rattle.lent_records.specs.Lent.{Lent, Kept, Said, Pair, pair-plain, Record, Answer, Handed, recordTy, answerTy, pairTy, recordVal}
 use Rattle.lent_records.specs.PartsLaws.{none-bound, none-said, answer-is, made, made-is, record-typed, answer-typed, pair-typed, lies-in, lies-out}
-use Rattle.lent_records.specs.LentTwoLaws as lent
+use Rattle.lent_records.specs.Two.{by-value, lent, lending-function, core-clauses, clauses, ByLoan}
 
 module _ (K : Lent) where
-  -- the MIR, over the name of the lent form
-  abbrev pub function : Name → Fn
-  function callee = record {
-    lifetimes = 0;
-    outlives = [];
-    params = 3;
-    locals =
-        local (pairTy K) valueLocal
-        ∷ local (recordTy K) valueLocal
-        ∷ local (tyInt w64) valueLocal
-        ∷ local (tyInt w64) valueLocal
-        ∷ local (recordTy K) memorySlot
-        ∷ local (answerTy K) valueLocal
-        ∷ local (tyRef erased mut (pointee (Record K .written))) valueLocal
-        ∷ local (recordTy K) valueLocal
-        ∷ [];
-    body =
-        seq (assign (place 4 []) (rvOpd (copy (place 1 []))))
-        (seq (assign (place 6 []) (addrOf (place 4 [])))
-        (seq (call callee (copy (place 6 []) ∷ copy (place 2 []) ∷ copy (place 3 []) ∷ []) (place 5 []))
-        (seq (assign (place 7 []) (rvOpd (copy (place 4 []))))
-        (seq (assign (place 0 []) (aggregate (copy (place 7 []) ∷ copy (place 5 []) ∷ []))) return))));
-  }
-
-  abbrev stayed : Stays (lent.by-value K .signature .params) (lent.by-value K .kept)
+  abbrev stayed : Stays (by-value K .signature .params) (by-value K .kept)
   stayed = (stay-none (λ _. Record K) yes, (stay-none (λ _. u64) yes, (stay-none (λ _. u64) yes, tt)))
 
   module _ (Q : Kept K .D → ℕ → ℕ → K .Both → Type 0) {M : Type 1} (𝓤 : URA M) (H : Heap 𝓤) (A : Atoms 𝓤) where
-    -- the contract of the lent form
-    abbrev pub Callee : Contract 𝓤
-    Callee = tripleOf 𝓤 H A (lent.lent K .signature) (closing 𝓤 H A (lent.lent K) (lent.clauses K Q 𝓤))
+    abbrev Callee : Contract 𝓤
+    Callee = ByLoan K Q 𝓤 H A
 
     module _ (W : Given 𝓤 H A) where
       module _ (h : Kept K .D) (n m : ℕ) (h-is : Is (Record K) h (recordVal K h ∷ [])) (n-fits : n < 2 ^ 64) (m-fits : m < 2 ^ 64) where
@@ -83,7 +58,7 @@ module _ (K : Lent) where
         at = (recordVal K h ∷ [], (vint w64 n ∷ [], (vint w64 m ∷ [], tt)))
 
         abbrev Post : Val → SProp 𝓤
-        Post = walkOf 𝓤 H A (lent.by-value K) stayed (lent.core-clauses K Q 𝓤) .post ((tt, tt, tt, x, at), tt)
+        Post = walkOf 𝓤 H A (by-value K) stayed (core-clauses K Q 𝓤) .post ((tt, tt, tt, x, at), tt)
 
         -- what the callee is lent: the local at b, for the lifetime α, under the name δ
         abbrev loan : ℕ → GName → RefT (Kept K .D)
@@ -99,14 +74,14 @@ module _ (K : Lent) where
 
         exits : (d : Kept K .D) (a : Said K .D) → Q h n m (K .both d a) → Is (Handed K) (K .both d a) (made K d a ∷ []) → ent 𝓤 (emp 𝓤) (Post (made K d a))
         exits d a e is =
-            qed W [] ∵ suffices ! _ (ends-at 𝓤 H A (lent.by-value K) stayed (lent.core-clauses K Q 𝓤) W ((tt, tt, tt, x, at), tt) (made K d a) (K .both d a) (none-bound K h, (tt, (tt, tt))) (tt, (tt, (tt, tt)))) $ says ! e $
+            qed W [] ∵ suffices ! _ (ends-at 𝓤 H A (by-value K) stayed (core-clauses K Q 𝓤) W ((tt, tt, tt, x, at), tt) (made K d a) (K .both d a) (none-bound K h, (tt, (tt, tt))) (tt, (tt, (tt, tt)))) $ says ! e $
             nothing ! $ owned ! u64 (Is u64) (uint-makes 𝓤 H A W w64) m _ (refl, m-fits) $ fjoin ! $ owned ! u64 (Is u64) (uint-makes 𝓤 H A W w64) n _ (refl, n-fits) $ fjoin ! $ owned ! (Record K) (Is (Record K)) (LL.makes (Kept K) (K .record-type .plain) 𝓤 H A) h _ h-is $ fjoin ! $
             owned ! (Handed K) (Is (Handed K)) (LL.makes (Pair K) (pair-plain K) 𝓤 H A) (K .both d a) _ is $ move ! (1 ∷ 0 ∷ []) $ nothing ! $ done !
 
         module _ (C : Calls 𝓤 H) (Λ : Loops 𝓤 H) (fm : FmC 𝓤 H (W .laws) C) (callee : Name) (known : Triple 𝓤 (C callee) Callee) where
-          walk : ent 𝓤 (onEntry 𝓤 H A (lent.by-value K .signature) tt tt x at) (WpFn 𝓤 H C Λ (function callee) (recordVal K h ∷ vint w64 n ∷ vint w64 m ∷ []) Post)
+          walk : ent 𝓤 (onEntry 𝓤 H A (by-value K .signature) tt tt x at) (WpFn 𝓤 H C Λ (lending-function K callee) (recordVal K h ∷ vint w64 n ∷ vint w64 m ∷ []) Post)
           walk =
-              qed W (‵ ftrue ∷ ‵ (owns (Record K ∷ u64 ∷ u64 ∷ []) x at) ∷ []) ∵ enter ! C Λ (function callee) (recordVal K h ∷ vint w64 n ∷ vint w64 m ∷ []) _ $
+              qed W (‵ ftrue ∷ ‵ (owns (Record K ∷ u64 ∷ u64 ∷ []) x at) ∷ []) ∵ enter ! C Λ (lending-function K callee) (recordVal K h ∷ vint w64 n ∷ vint w64 m ∷ []) _ $
               alloc1 ! (λ l₀. alloc1 ! (λ l₁. alloc1 ! (λ l₂. alloc1 ! (λ l₃. alloc1 ! (λ l₄. alloc1 ! (λ l₅. alloc1 ! (λ l₆. alloc1 ! (λ l₇. alloc0 ! $ params1 ! $ pass1 ! (init ! 12 refl (record-typed K 𝓤 H A W h h-is)) $ pass1 ! (init ! 10 refl (tt, record { fits = n-fits })) $ pass1 ! (init ! 8 refl (tt, record { fits = m-fits })) $ pass0 ! $
               -- [_7; …; _6; …; _5; …; _4; …; _3; …; _2; …; _1; …; _0; …; true; what the parameters own]
               assigns ! (of-opd ! (load ! (from ! (stop !)) (look ! 12 refl))) (from ! (stop !)) (init ! 6 refl (record-typed K 𝓤 H A W h h-is)) $
@@ -118,8 +93,8 @@ module _ (K : Lent) where
               move ! (2 ∷ 0 ∷ []) $ use2 W (raw (Callee .pre (to-callee l₄ α δ))) (goes-callee l₄ α δ) $
               -- [what the callee asks; the lender's part; _7; …; _6; …; _5; …; what dies of _4; _3; …]
               calls-at ! fm Callee known (to-callee l₄ α δ) (and-then ! (load ! (from ! (stop !)) (look ! 4 refl)) (and-then ! (load ! (from ! (stop !)) (look ! 11 refl)) (and-then ! (load ! (from ! (stop !)) (look ! 9 refl)) (no-more !)))) (λ v.
-              use1 W (later (some (λ (a : Said K .D). ((‵ (flft (α ∷ []) fullShare) ⊛ ‵ ftrue) ⊛ ‵ (Answer K .own a (v ∷ []))) ⊛ raw (ensured 𝓤 H A (lent.lent K) (lent.clauses K Q 𝓤) (α ∷ [], tt) (loan l₄ δ, (n, (m, tt))) tt a)))) (id⊢ 𝓤 _) $ await ! tt $ pick ! (λ a.
-              split ! $ move ! (1 ∷ []) $ use1 W (some (λ (ws : Kept K .D × (Unit {0} × (Unit {0} × Unit {0}))). ‵ (lasts (lent.lent K) (α ∷ [], tt) (loan l₄ δ, (n, (m, tt))) ws) ⊛ raw (fact 𝓤 (Q h n m (K .both (ws .0) a))))) (id⊢ 𝓤 _) $ pick ! (λ ws.
+              use1 W (later (some (λ (a : Said K .D). ((‵ (flft (α ∷ []) fullShare) ⊛ ‵ ftrue) ⊛ ‵ (Answer K .own a (v ∷ []))) ⊛ raw (ensured 𝓤 H A (lent K) (clauses K Q 𝓤) (α ∷ [], tt) (loan l₄ δ, (n, (m, tt))) tt a)))) (id⊢ 𝓤 _) $ await ! tt $ pick ! (λ a.
+              split ! $ move ! (1 ∷ []) $ use1 W (some (λ (ws : Kept K .D × (Unit {0} × (Unit {0} × Unit {0}))). ‵ (lasts (lent K) (α ∷ [], tt) (loan l₄ δ, (n, (m, tt))) ws) ⊛ raw (fact 𝓤 (Q h n m (K .both (ws .0) a))))) (id⊢ 𝓤 _) $ pick ! (λ ws.
               split ! $ move ! (1 ∷ []) $ heard ! (Q h n m (K .both (ws .0) a)) (λ e. fsplit ! $ move ! (2 ∷ []) $ split ! $
               move ! (1 ∷ []) $ peeks ! (Answer K) (Is (Answer K)) (shows 𝓤 H A (Answer K)) a (v ∷ []) (λ v-is. drop ! $
               -- [the token; the last value; …; the lender's part; _7; …; _6; …; _5; …; what dies of _4; _3; …; _2; …; _1; …; _0; …]: the answer is stored
@@ -136,13 +111,13 @@ module _ (K : Lent) where
               keep ! [] $ by ! (exits (ws .0) a e (made-is K (ws .0) a d-is (answer-is K a v v-is)))))))))))))))))))
 
     pub walks : (W : Given 𝓤 H A) (C : Calls 𝓤 H) (Λ : Loops 𝓤 H) (callee : Name) → FmC 𝓤 H (W .laws) C → Triple 𝓤 (C callee) Callee
-        → Walks 𝓤 H A (lent.by-value K) stayed (WpFn 𝓤 H C Λ (function callee)) (lent.core-clauses K Q 𝓤)
-    walks W C Λ callee fm known = walked 𝓤 H A (lent.by-value K) stayed (lent.core-clauses K Q 𝓤) (WpFn 𝓤 H C Λ (function callee)) (λ κs. (LL.vals (Kept K) (K .record-type .laws), (uint-vals w64, (uint-vals w64, tt)))) (λ κs. (LL.tells (Kept K) (K .record-type .laws), (uint-tells w64, (uint-tells w64, tt))))
+        → Walks 𝓤 H A (by-value K) stayed (WpFn 𝓤 H C Λ (lending-function K callee)) (core-clauses K Q 𝓤)
+    walks W C Λ callee fm known = walked 𝓤 H A (by-value K) stayed (core-clauses K Q 𝓤) (WpFn 𝓤 H C Λ (lending-function K callee)) (λ κs. (LL.vals (Kept K) (K .record-type .laws), (uint-vals w64, (uint-vals w64, tt)))) (λ κs. (LL.tells (Kept K) (K .record-type .laws), (uint-tells w64, (uint-tells w64, tt))))
         (λ κs qs bounds a _ are. via 𝓤 _ (fst∗ 𝓤 _ (emp 𝓤)) (walk W (a .0) (a .1 .0) (a .1 .1 .0) (are .0) (are .1 .0 .1) (are .1 .1 .0 .1) C Λ fm callee known))
 
     -- the law: where the lent form meets its contract, the function that lends meets that of the call by value
     pub meets : (W : Given 𝓤 H A) (callee : Name) (𝓣 : Tables 𝓤 H) → Triple 𝓤 (𝓣 .C callee) Callee
-        → Meets 𝓤 H A (lent.by-value K .signature) (WpFn 𝓤 H (𝓣 .C) (𝓣 .Λ) (function callee)) (closing 𝓤 H A (lent.by-value K) (lent.core-clauses K Q 𝓤))
+        → Meets 𝓤 H A (by-value K .signature) (WpFn 𝓤 H (𝓣 .C) (𝓣 .Λ) (lending-function K callee)) (closing 𝓤 H A (by-value K) (core-clauses K Q 𝓤))
     meets W callee 𝓣 known =
-        walk-meets 𝓤 H A (lent.by-value K) stayed W (goes-none 𝓤 H A W 0 (λ _. Record K) yes (λ κs d f. none-said K d f), (goes-none 𝓤 H A W 0 (λ _. u64) yes (λ κs y f. refl), (goes-none 𝓤 H A W 0 (λ _. u64) yes (λ κs y f. refl), tt))) (lent.core-clauses K Q 𝓤)
-        (WpFn 𝓤 H (𝓣 .C) (𝓣 .Λ) (function callee)) (WpFn-mono 𝓤 H (W .laws) 𝓣 (function callee)) (walks W (𝓣 .C) (𝓣 .Λ) callee (fmOf 𝓤 H (W .laws) 𝓣) known)
+        walk-meets 𝓤 H A (by-value K) stayed W (goes-none 𝓤 H A W 0 (λ _. Record K) yes (λ κs d f. none-said K d f), (goes-none 𝓤 H A W 0 (λ _. u64) yes (λ κs y f. refl), (goes-none 𝓤 H A W 0 (λ _. u64) yes (λ κs y f. refl), tt))) (core-clauses K Q 𝓤)
+        (WpFn 𝓤 H (𝓣 .C) (𝓣 .Λ) (lending-function K callee)) (WpFn-mono 𝓤 H (W .laws) 𝓣 (lending-function K callee)) (walks W (𝓣 .C) (𝓣 .Λ) callee (fmOf 𝓤 H (W .laws) 𝓣) known)

@@ -51,13 +51,14 @@ pub record Lent : Type 2 where
       → x ≡ y
 
 module _ (K : Lent) where
+  -- the record and the answer, as they are declared
   abbrev pub Kept : structs.Declared
   Kept = K .record-type .type
 
   abbrev pub Said : enums.Declared
   Said = K .answer-type .type
 
-  -- the pair as a declared struct
+  -- the pair, as it is declared
   abbrev pub Pair : structs.Declared
   Pair = record {
     name = K .name;

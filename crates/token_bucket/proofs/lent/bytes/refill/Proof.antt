@@ -1,8 +1,9 @@
--- `token_bucket::lent::bytes::refill` meets its contract, by the law of lent records and the contract of the call by value. Assumes nothing.
+-- `token_bucket::lent::bytes::refill` meets its contract, by the law of records that are lent and altered and the contract of the call by value. Assumes nothing.
 use contract.Running.{givenOf, tables, tablesOf}
 use denote.Triple.Spec.{tripleOf}
 use denote.Triple.Table.{entered, cited}
-use Rattle.lent_records.specs.LentOneLaws as law
+use Rattle.lent_records.specs.One.{ByValue}
+use Rattle.lent_records.specs.AlteringOneLaws as law
 use Rattle.bucket_bytes.specs.ByteBucket.{ByteRefillMeets}
 use Rattle.bucket_bytes.proofs.bytes.ByteTokenBucket.refill.Symbol as core
 use Rattle.bucket_bytes.proofs.bytes.ByteTokenBucket.refill.Met as core-thm
@@ -18,4 +19,4 @@ refill-spec 𝓤 H 𝓜 𝓖 𝓡 =
     entered 𝓤 H (tripleOf 𝓤 H (𝓖 .A) lent.signature (lent.spec 𝓤 H (𝓖 .A) (𝓜 .mem) (𝓡 .run)))
     (tables 𝓤 H 𝓜 𝓡 code.env .C) (tables 𝓤 H 𝓜 𝓡 code.env .Λ) key.name code.function (code.unfolded 𝓤 H 𝓜 𝓡)
     (law.meets byte-refilled ByteRefillMeets 𝓤 H (𝓖 .A) (givenOf 𝓤 H 𝓜 𝓖) core.name (tablesOf 𝓤 H 𝓜 (tables 𝓤 H 𝓜 𝓡 code.env))
-    (cited 𝓤 H (law.Core byte-refilled ByteRefillMeets 𝓤 H (𝓖 .A)) 𝓜 𝓡 code.env core.name core.routine code.calls-bucket-bytes·bytes·ByteTokenBucket·refill (core-thm.met 𝓤 H 𝓜 𝓖 𝓡)))
+    (cited 𝓤 H (ByValue byte-refilled ByteRefillMeets 𝓤 H (𝓖 .A)) 𝓜 𝓡 code.env core.name core.routine code.calls-bucket-bytes·bytes·ByteTokenBucket·refill (core-thm.met 𝓤 H 𝓜 𝓖 𝓡)))

@@ -37,50 +37,17 @@ use denote.Triple.Spec.{Meets, tripleOf}
 use denote.Triple.Clauses.{Clauses, Ended, ensured, closing, lasts}
 use denote.Triple.Walked.{says, Stays, stay-ref, stay-none, walkOf, goes-none, goes-ref, Walks, ends-at, walked, walk-meets}
 use Rattle.lent_records.specs.Lent.{Lent, Kept, Said, Pair, pair-laws, Record, Answer, Handed, recordTy, answerTy, pairTy, recordVal, answerVal}
+use Rattle.lent_records.specs.Two.{by-value, lent, lent-function, core-clauses, clauses, ByValue}
 use Rattle.lent_records.specs.PartsLaws.{pair-record, pair-answer, record-typed, answer-typed, pair-typed}
 
 module _ (K : Lent) where
-  -- the call by value: its signature
-  abbrev pub by-value : Ended
-  by-value = record {
-    signature = record { lifetimes = 0; outlives = []; params = plain (λ _. Record K) ∷ plain (λ _. u64) ∷ plain (λ _. u64) ∷ []; result = plain (λ _. Handed K) };
-    kept = (yes, (yes, (yes, tt)));
-  }
-
-  -- the lent form: its signature, and its MIR over the name of the call by value
-  abbrev pub lent : Ended
-  lent = record {
-    signature = record { lifetimes = 1; outlives = []; params = mutRefTo (0 ∷ []) tt (plain (λ _. Record K)) ∷ plain (λ _. u64) ∷ plain (λ _. u64) ∷ []; result = plain (λ _. Answer K) };
-    kept = (yes, (yes, (yes, tt)));
-  }
-
-  abbrev pub function : Name → Fn
-  function core = record {
-    lifetimes = 1;
-    outlives = [];
-    params = 3;
-    locals = local (answerTy K) valueLocal ∷ local (tyRef (named 0) mut (pointee (Record K .written))) valueLocal ∷ local (tyInt w64) valueLocal ∷ local (tyInt w64) valueLocal ∷ local (pairTy K) valueLocal ∷ local (recordTy K) valueLocal ∷ [];
-    body =
-        seq (assign (place 5 []) (rvOpd (copy (place 1 (deref (recordTy K) ∷ [])))))
-        (seq (call core (copy (place 5 []) ∷ copy (place 2 []) ∷ copy (place 3 []) ∷ []) (place 4 []))
-        (seq (assign (place 1 (deref (recordTy K) ∷ [])) (rvOpd (copy (place 4 (field 0 ∷ [])))))
-        (seq (assign (place 0 []) (rvOpd (copy (place 4 (field 1 ∷ []))))) return)));
-  }
-
-  abbrev stayed : Stays (lent .signature .params) (lent .kept)
+  abbrev stayed : Stays (lent K .signature .params) (lent K .kept)
   stayed = (stay-ref (0 ∷ []) tt (plain (λ _. Record K)), (stay-none (λ _. u64) yes, (stay-none (λ _. u64) yes, tt)))
 
   module _ (Q : Kept K .D → ℕ → ℕ → K .Both → Type 0) {M : Type 1} (𝓤 : URA M) where
-    -- what the call by value says, and what the lent form does
-    abbrev pub core-clauses : Clauses 𝓤 by-value
-    core-clauses κs a = record { ghost = Unit {0}; requires = λ _. emp 𝓤; ensures = λ _ r _. fact 𝓤 (Q (a .0) (a .1 .0) (a .1 .1 .0) r) }
-
-    abbrev pub clauses : Clauses 𝓤 lent
-    clauses κs a = record { ghost = Unit {0}; requires = λ _. emp 𝓤; ensures = λ _ r e. fact 𝓤 (Q (now (a .0)) (a .1 .0) (a .1 .1 .0) (K .both (now (e .0)) r)) }
-
     module _ (H : Heap 𝓤) (A : Atoms 𝓤) where
-      abbrev pub Core : Contract 𝓤
-      Core = tripleOf 𝓤 H A (by-value .signature) (closing 𝓤 H A by-value core-clauses)
+      abbrev Core : Contract 𝓤
+      Core = ByValue K Q 𝓤 H A
 
       module _ (W : Given 𝓤 H A) (κ : Lft) (q : Share) (b o : ℕ) (γ : GName) (h : Kept K .D) (n m : ℕ) (n-fits : n < 2 ^ 64) (m-fits : m < 2 ^ 64) where
         abbrev x : RefT (Kept K .D) × (ℕ × (ℕ × Unit {0}))
@@ -90,7 +57,7 @@ module _ (K : Lent) where
         at = (vptr b o ∷ [], (vint w64 n ∷ [], (vint w64 m ∷ [], tt)))
 
         abbrev Post : Val → SProp 𝓤
-        Post = walkOf 𝓤 H A lent stayed clauses .post (((κ, tt), (q, tt), tt, x, at), tt)
+        Post = walkOf 𝓤 H A (lent K) stayed (clauses K Q 𝓤) .post (((κ, tt), (q, tt), tt, x, at), tt)
 
         abbrev to-core : Core .Ghost
         to-core = ((tt, tt, tt, (h, (n, (m, tt))), (recordVal K h ∷ [], (vint w64 n ∷ [], (vint w64 m ∷ [], tt)))), tt)
@@ -100,23 +67,23 @@ module _ (K : Lent) where
             qed W [] ∵ nothing ! $ owned ! u64 (Is u64) (uint-makes 𝓤 H A W w64) m _ (refl, m-fits) $ fjoin ! $ owned ! u64 (Is u64) (uint-makes 𝓤 H A W w64) n _ (refl, n-fits) $ fjoin ! $
             owned ! (Record K) (Is (Record K)) (LL.makes (Kept K) (K .record-type .plain) 𝓤 H A) h _ is $ fjoin ! $ nothing ! $ join ! $ frame ! $ done !
 
-        said-of : (r : K .Both) → ent 𝓤 (ensured 𝓤 H A by-value core-clauses tt (h, (n, (m, tt))) tt r) (fact 𝓤 (Q h n m r))
-        said-of r = exE 𝓤 _ (λ ws. snd∗ 𝓤 (sem 𝓤 H A (lasts by-value tt (h, (n, (m, tt))) ws)) (fact 𝓤 (Q h n m r)))
+        said-of : (r : K .Both) → ent 𝓤 (ensured 𝓤 H A (by-value K) (core-clauses K Q 𝓤) tt (h, (n, (m, tt))) tt r) (fact 𝓤 (Q h n m r))
+        said-of r = exE 𝓤 _ (λ ws. snd∗ 𝓤 (sem 𝓤 H A (lasts (by-value K) tt (h, (n, (m, tt))) ws)) (fact 𝓤 (Q h n m r)))
 
         -- the record r that was handed back stands where the lent one stood, and its answer is what is returned
         exits : (r : K .Both) → Q h n m r → Is (Answer K) (K .said r) (answerVal K (K .said r) ∷ [])
             → ent 𝓤 (sep 𝓤 (A .obs γ (Record K .coded .code (K .kept r))) (sep 𝓤 (A .bor κ (Body (mem (Record K)) b o γ)) (A .lft κ q))) (Post (answerVal K (K .said r)))
         exits r e is =
             qed W (‵ (fobs γ (Record K .coded .code (K .kept r))) ∷ ‵ (fbor κ (Body (mem (Record K)) b o γ)) ∷ ‵ (flft κ q) ∷ []) ∵
-            suffices ! _ (ends-at 𝓤 H A lent stayed clauses W (((κ, tt), (q, tt), tt, x, at), tt) (answerVal K (K .said r)) (K .said r) (K .kept r, (tt, (tt, tt))) (tt, (tt, (tt, tt)))) $
+            suffices ! _ (ends-at 𝓤 H A (lent K) stayed (clauses K Q 𝓤) W (((κ, tt), (q, tt), tt, x, at), tt) (answerVal K (K .said r)) (K .said r) (K .kept r, (tt, (tt, tt))) (tt, (tt, (tt, tt)))) $
             says ! (subst (Q h n m) (sym (K .joined r)) e) $ nothing ! $ move ! (3 ∷ 0 ∷ []) $ join ! $ frame ! $
             feqI ! (List Val) (vptr b o ∷ []) (vptr b o ∷ []) refl $ fjoin3 ! $ nothing ! $ owned ! u64 (Is u64) (uint-makes 𝓤 H A W w64) m _ (refl, m-fits) $ fjoin ! $ owned ! u64 (Is u64) (uint-makes 𝓤 H A W w64) n _ (refl, n-fits) $ fjoin ! $ move ! (1 ∷ 0 ∷ []) $ fjoin ! $
             owned ! (Answer K) (Is (Answer K)) (EL.makes (Said K) (K .answer-type .plain) 𝓤 H A) (K .said r) _ is $ move ! (1 ∷ 0 ∷ []) $ done !
 
         module _ (C : Calls 𝓤 H) (Λ : Loops 𝓤 H) (fm : FmC 𝓤 H (W .laws) C) (core : Name) (known : Triple 𝓤 (C core) Core) where
-          walk : ent 𝓤 (onEntry 𝓤 H A (lent .signature) (κ, tt) (q, tt) x at) (WpFn 𝓤 H C Λ (function core) (vptr b o ∷ vint w64 n ∷ vint w64 m ∷ []) Post)
+          walk : ent 𝓤 (onEntry 𝓤 H A (lent K .signature) (κ, tt) (q, tt) x at) (WpFn 𝓤 H C Λ (lent-function K core) (vptr b o ∷ vint w64 n ∷ vint w64 m ∷ []) Post)
           walk =
-              qed W ((‵ (flft κ q) ⊛ ‵ ftrue) ∷ ‵ (owns (MutRef (named 0) κ (Record K) ∷ u64 ∷ u64 ∷ []) x at) ∷ []) ∵ enter ! C Λ (function core) (vptr b o ∷ vint w64 n ∷ vint w64 m ∷ []) _ $
+              qed W ((‵ (flft κ q) ⊛ ‵ ftrue) ∷ ‵ (owns (MutRef (named 0) κ (Record K) ∷ u64 ∷ u64 ∷ []) x at) ∷ []) ∵ enter ! C Λ (lent-function K core) (vptr b o ∷ vint w64 n ∷ vint w64 m ∷ []) _ $
               alloc1 ! (λ l₀. alloc1 ! (λ l₁. alloc1 ! (λ l₂. alloc1 ! (λ l₃. alloc1 ! (λ l₄. alloc1 ! (λ l₅. alloc0 ! $ params1 ! $ pass1 ! (init ! 8 refl (tt, tt)) $ pass1 ! (init ! 6 refl (tt, record { fits = n-fits })) $ pass1 ! (init ! 4 refl (tt, record { fits = m-fits })) $ pass0 ! $
               -- the borrow is opened
               move ! (13 ∷ []) $ fsplit ! $ fsplit3 ! $ drop ! $ move ! (15 ∷ []) $ split ! $ move ! (2 ∷ 3 ∷ 0 ∷ []) $
@@ -127,7 +94,7 @@ module _ (K : Lent) where
               assigns ! (of-opd ! (load ! (from ! (hop ! (look ! 15 refl) (stop !))) (look ! 0 refl))) (from ! (stop !)) (init ! 7 refl (record-typed K 𝓤 H A W h is)) $
               use0 W (raw (Core .pre to-core)) (goes-core is) $
               calls-at ! fm Core known to-core (and-then ! (load ! (from ! (stop !)) (look ! 8 refl)) (and-then ! (load ! (from ! (stop !)) (look ! 14 refl)) (and-then ! (load ! (from ! (stop !)) (look ! 12 refl)) (no-more !)))) (λ v.
-              use1 W (later (some (λ (r : K .Both). (‵ ftrue ⊛ ‵ (Handed K .own r (v ∷ []))) ⊛ raw (ensured 𝓤 H A by-value core-clauses tt (h, (n, (m, tt))) tt r)))) (id⊢ 𝓤 _) $ await ! tt $ pick ! (λ r.
+              use1 W (later (some (λ (r : K .Both). (‵ ftrue ⊛ ‵ (Handed K .own r (v ∷ []))) ⊛ raw (ensured 𝓤 H A (by-value K) (core-clauses K Q 𝓤) tt (h, (n, (m, tt))) tt r)))) (id⊢ 𝓤 _) $ await ! tt $ pick ! (λ r.
               split ! $ move ! (1 ∷ []) $ use1 W (raw (fact 𝓤 (Q h n m r))) (said-of r) $ heard ! (Q h n m r) (λ e. split ! $ drop ! $
               peeks ! (Handed K) (Is (Handed K)) (shows 𝓤 H A (Handed K)) r (v ∷ []) (λ pair. drop ! $
               -- the pair is stored and spelled out
@@ -145,13 +112,13 @@ module _ (K : Lent) where
               keep ! (0 ∷ 1 ∷ 2 ∷ []) $ by ! (exits r e (pair-answer K r v pair))))))))))))))
 
       pub walks : (W : Given 𝓤 H A) (C : Calls 𝓤 H) (Λ : Loops 𝓤 H) (core : Name) → FmC 𝓤 H (W .laws) C → Triple 𝓤 (C core) Core
-          → Walks 𝓤 H A lent stayed (WpFn 𝓤 H C Λ (function core)) clauses
-      walks W C Λ core fm known = walked 𝓤 H A lent stayed clauses (WpFn 𝓤 H C Λ (function core)) (λ κs. (ptr-vals, (uint-vals w64, (uint-vals w64, tt)))) (λ κs. (mut-tells (named 0) (κs .0) (Record K), (uint-tells w64, (uint-tells w64, tt))))
+          → Walks 𝓤 H A (lent K) stayed (WpFn 𝓤 H C Λ (lent-function K core)) (clauses K Q 𝓤)
+      walks W C Λ core fm known = walked 𝓤 H A (lent K) stayed (clauses K Q 𝓤) (WpFn 𝓤 H C Λ (lent-function K core)) (λ κs. (ptr-vals, (uint-vals w64, (uint-vals w64, tt)))) (λ κs. (mut-tells (named 0) (κs .0) (Record K), (uint-tells w64, (uint-tells w64, tt))))
           (λ κs qs bounds a _ are. via 𝓤 _ (fst∗ 𝓤 _ (emp 𝓤)) (walk W (κs .0) (qs .0) (a .0 .ptr .0) (a .0 .ptr .1) (a .0 .name) (a .0 .now) (a .1 .0) (a .1 .1 .0) (are .1 .0 .1) (are .1 .1 .0 .1) C Λ fm core known))
 
       -- the law: where the call by value meets its contract, the lent form meets its own
       pub meets : (W : Given 𝓤 H A) (core : Name) (𝓣 : Tables 𝓤 H) → Triple 𝓤 (𝓣 .C core) Core
-          → Meets 𝓤 H A (lent .signature) (WpFn 𝓤 H (𝓣 .C) (𝓣 .Λ) (function core)) (closing 𝓤 H A lent clauses)
+          → Meets 𝓤 H A (lent K .signature) (WpFn 𝓤 H (𝓣 .C) (𝓣 .Λ) (lent-function K core)) (closing 𝓤 H A (lent K) (clauses K Q 𝓤))
       meets W core 𝓣 known =
-          walk-meets 𝓤 H A lent stayed W (goes-ref 𝓤 H A W 1 0 tt (plain (λ _. Record K)), (goes-none 𝓤 H A W 1 (λ _. u64) yes (λ κs y f. refl), (goes-none 𝓤 H A W 1 (λ _. u64) yes (λ κs y f. refl), tt))) clauses
-          (WpFn 𝓤 H (𝓣 .C) (𝓣 .Λ) (function core)) (WpFn-mono 𝓤 H (W .laws) 𝓣 (function core)) (walks W (𝓣 .C) (𝓣 .Λ) core (fmOf 𝓤 H (W .laws) 𝓣) known)
+          walk-meets 𝓤 H A (lent K) stayed W (goes-ref 𝓤 H A W 1 0 tt (plain (λ _. Record K)), (goes-none 𝓤 H A W 1 (λ _. u64) yes (λ κs y f. refl), (goes-none 𝓤 H A W 1 (λ _. u64) yes (λ κs y f. refl), tt))) (clauses K Q 𝓤)
+          (WpFn 𝓤 H (𝓣 .C) (𝓣 .Λ) (lent-function K core)) (WpFn-mono 𝓤 H (W .laws) 𝓣 (lent-function K core)) (walks W (𝓣 .C) (𝓣 .Λ) core (fmOf 𝓤 H (W .laws) 𝓣) known)
