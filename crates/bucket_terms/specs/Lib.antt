@@ -1,3 +1,4 @@
 pub mod Answers
+pub mod AnswersLaws
 pub mod Limit
 pub mod LimitLaws

@@ -1,5 +1,7 @@
 // The recorded steps of the byte bucket.
 use crate::answers;
+use crate::compared;
+use crate::lending;
 use replay::line::Line;
 use replay::record;
 use replay::record::Record;
@@ -31,46 +33,70 @@ pub(crate) fn step(b: ByteTokenBucket, r: Record) -> ByteStep {
     }
 }
 
-// The steps that change a bucket.
+// The steps that change a bucket: by value and lent, which must give the same.
 fn changed(b: ByteTokenBucket, r: Record) -> ByteStep {
     let operation = r.operation;
     match operation {
-        5 => {
-            let done = b.refill(r.first);
-            let bucket = done.bucket;
-            let answer = done.answer;
-            ByteStep {
-                bucket,
-                line: answers::refilled(answer),
-            }
-        }
-        6 => {
-            let done = b.try_consume(r.first, r.second);
-            let bucket = done.bucket;
-            let answer = done.answer;
-            ByteStep {
-                bucket,
-                line: answers::consumed(answer),
-            }
-        }
-        7 => {
-            let done = b.reserve(r.first, r.second);
-            let bucket = done.bucket;
-            let answer = done.answer;
-            ByteStep {
-                bucket,
-                line: answers::delay(answer),
-            }
-        }
-        _ => {
-            let done = b.refund(r.first, r.second);
-            let bucket = done.bucket;
-            let answer = done.answer;
-            ByteStep {
-                bucket,
-                line: answers::refilled(answer),
-            }
-        }
+        5 => refilled(b, r.first),
+        6 => consumed(b, r.first, r.second),
+        7 => reserved(b, r.first, r.second),
+        _ => refunded(b, r.first, r.second),
+    }
+}
+
+fn refilled(b: ByteTokenBucket, now_ms: u64) -> ByteStep {
+    let done = b.refill(now_ms);
+    let bucket = done.bucket;
+    let answer = done.answer;
+    let lent = lending::byte_refill(b, now_ms);
+    let left = lent.bucket;
+    let said = lent.answer;
+    let same = compared::same_bytes(bucket, left) && compared::same_refilled(answer, said);
+    ByteStep {
+        bucket,
+        line: compared::agreed(answers::refilled(answer), same),
+    }
+}
+
+fn consumed(b: ByteTokenBucket, bytes: u64, now_ms: u64) -> ByteStep {
+    let done = b.try_consume(bytes, now_ms);
+    let bucket = done.bucket;
+    let answer = done.answer;
+    let lent = lending::byte_try_consume(b, bytes, now_ms);
+    let left = lent.bucket;
+    let said = lent.answer;
+    let same = compared::same_bytes(bucket, left) && compared::same_consumed(answer, said);
+    ByteStep {
+        bucket,
+        line: compared::agreed(answers::consumed(answer), same),
+    }
+}
+
+fn reserved(b: ByteTokenBucket, bytes: u64, now_ms: u64) -> ByteStep {
+    let done = b.reserve(bytes, now_ms);
+    let bucket = done.bucket;
+    let answer = done.answer;
+    let lent = lending::byte_reserve(b, bytes, now_ms);
+    let left = lent.bucket;
+    let said = lent.answer;
+    let same = compared::same_bytes(bucket, left) && compared::same_delay(answer, said);
+    ByteStep {
+        bucket,
+        line: compared::agreed(answers::delay(answer), same),
+    }
+}
+
+fn refunded(b: ByteTokenBucket, bytes: u64, now_ms: u64) -> ByteStep {
+    let done = b.refund(bytes, now_ms);
+    let bucket = done.bucket;
+    let answer = done.answer;
+    let lent = lending::byte_refund(b, bytes, now_ms);
+    let left = lent.bucket;
+    let said = lent.answer;
+    let same = compared::same_bytes(bucket, left) && compared::same_refilled(answer, said);
+    ByteStep {
+        bucket,
+        line: compared::agreed(answers::refilled(answer), same),
     }
 }
 

@@ -1,5 +1,7 @@
 // The recorded steps of the discrete bucket.
 use crate::answers;
+use crate::compared;
+use crate::lending;
 use replay::line::Line;
 use replay::record::Record;
 use token_bucket::discrete::DiscreteTokenBucket;
@@ -14,29 +16,43 @@ pub(crate) fn step(b: DiscreteTokenBucket, r: Record) -> DiscreteStep {
     let operation = r.operation;
     match operation {
         0 => made(b, r.first, r.second),
-        1 => {
-            let done = b.refill(r.first);
-            let bucket = done.bucket;
-            let answer = done.answer;
-            DiscreteStep {
-                bucket,
-                line: answers::refilled(answer),
-            }
-        }
-        2 => {
-            let done = b.try_consume(r.first);
-            let bucket = done.bucket;
-            let answer = done.answer;
-            DiscreteStep {
-                bucket,
-                line: answers::consumed(answer),
-            }
-        }
+        1 => refilled(b, r.first),
+        2 => consumed(b, r.first),
         3 => DiscreteStep {
             bucket: b,
             line: answers::told(b.is_full()),
         },
         _ => set(b, r),
+    }
+}
+
+// By value and lent, which must give the same.
+fn refilled(b: DiscreteTokenBucket, now_ms: u64) -> DiscreteStep {
+    let done = b.refill(now_ms);
+    let bucket = done.bucket;
+    let answer = done.answer;
+    let lent = lending::discrete_refill(b, now_ms);
+    let left = lent.bucket;
+    let said = lent.answer;
+    let same = compared::same_discrete(bucket, left) && compared::same_refilled(answer, said);
+    DiscreteStep {
+        bucket,
+        line: compared::agreed(answers::refilled(answer), same),
+    }
+}
+
+// By value and lent, which must give the same.
+fn consumed(b: DiscreteTokenBucket, now_ms: u64) -> DiscreteStep {
+    let done = b.try_consume(now_ms);
+    let bucket = done.bucket;
+    let answer = done.answer;
+    let lent = lending::discrete_try_consume(b, now_ms);
+    let left = lent.bucket;
+    let said = lent.answer;
+    let same = compared::same_discrete(bucket, left) && compared::same_consumed(answer, said);
+    DiscreteStep {
+        bucket,
+        line: compared::agreed(answers::consumed(answer), same),
     }
 }
 

@@ -1,9 +1,12 @@
 // Drives one bucket of each type as recorded: a record of standard input names a step and its operands, a line of standard output
 // gives what crate `token_bucket` answers and the bucket after it. `oracle/record` wrote both files, from the unchanged Rust;
-// `oracle/README.md` lists the steps.
+// `oracle/README.md` lists the steps. A step that changes a bucket is run by value and on a lent copy, and a line says so where the
+// two differ.
 mod answers;
 mod byte_steps;
+mod compared;
 mod discrete_steps;
+mod lending;
 mod standard;
 
 use replay::line::Line;
