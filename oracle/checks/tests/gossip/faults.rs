@@ -1,0 +1,1 @@
+//! Wrong ports, each with one fault, and whether the comparison notices.
