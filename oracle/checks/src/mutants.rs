@@ -1,5 +1,7 @@
 //! Small edits of the Rust, each of which the comparison should notice. An edit that changes no answer and no kept state
-//! says why (`same`); all others must be caught.
+//! says why (`same`); all others must be caught. Those of the gossip policy's tracker, limiter and state stand in `gossip`.
+
+mod gossip;
 
 pub const PEERS: &str = "peer_message_policy.rs";
 pub const GOSSIP: &str = "gossip_policy.rs";
@@ -45,7 +47,13 @@ impl Mutant {
     }
 }
 
-pub const MUTANTS: &[Mutant] = &[
+/// All of them; those of the gossip policy's parts only where the port has it.
+pub fn all(has_gossip: bool) -> impl Iterator<Item = &'static Mutant> {
+    let gossip = gossip::MUTANTS.iter().filter(move |_| has_gossip);
+    MUTANTS.iter().chain(gossip)
+}
+
+const MUTANTS: &[Mutant] = &[
     // Settings of the peers' policy.
     peers("default_interval", "PEER_MESSAGE_INTERVAL_MS: u64 = 5;", "PEER_MESSAGE_INTERVAL_MS: u64 = 6;"),
     peers("default_burst", "PEER_MESSAGE_BURST: u32 = 400;", "PEER_MESSAGE_BURST: u32 = 401;"),
@@ -466,7 +474,7 @@ mod tests {
 
     #[test]
     fn names_are_unique() {
-        let mut names: Vec<&str> = MUTANTS.iter().map(|mutant| mutant.name).collect();
+        let mut names: Vec<&str> = all(true).map(|mutant| mutant.name).collect();
         names.sort();
         let count = names.len();
         names.dedup();

@@ -1,6 +1,6 @@
 //! The self-test: each edit of the Rust is built and compared; the comparison must notice it.
 
-use checks::mutants::{Mutant, MUTANTS};
+use checks::mutants::{self, Mutant};
 use std::fs;
 use std::path::{Path, PathBuf};
 use std::process::{Command, ExitCode, Stdio};
@@ -24,7 +24,8 @@ struct SelfTest {
     seed: String,
 }
 
-pub fn run(oracle: &Path, calls: u64, seed: u64) -> ExitCode {
+/// With the edits of the gossip policy's parts only where the port has them.
+pub fn run(oracle: &Path, has_gossip: bool, calls: u64, seed: u64) -> ExitCode {
     let source = std::env::var("RUST_SRC")
         .ok()
         .filter(|folder| !folder.is_empty())
@@ -44,7 +45,7 @@ pub fn run(oracle: &Path, calls: u64, seed: u64) -> ExitCode {
         }
     }
     let (mut caught, mut explained, mut wrong) = (0, 0, Vec::new());
-    for mutant in MUTANTS {
+    for mutant in mutants::all(has_gossip) {
         let verdict = test.try_text(mutant.name, Some(mutant));
         match (verdict, mutant.same) {
             (Verdict::Caught(how), "") => {
@@ -67,7 +68,7 @@ pub fn run(oracle: &Path, calls: u64, seed: u64) -> ExitCode {
     }
     println!(
         "{} mutants: {caught} caught, {explained} survived with an explanation, {} wrong",
-        MUTANTS.len(),
+        mutants::all(has_gossip).count(),
         wrong.len()
     );
     ExitCode::from(!wrong.is_empty() as u8)

@@ -162,12 +162,17 @@ pub enum Harmed {
     Unread,
 }
 
-pub fn sorts(subject: Subject) -> &'static [Sort] {
+fn sorts(subject: Subject) -> &'static [Sort] {
     match subject {
         Subject::Bans => &BAN_DAMAGE,
         Subject::Limiter => &LIMITER_DAMAGE,
         Subject::Gossip => &GOSSIP_DAMAGE,
     }
+}
+
+/// The table that is damaged in the way of this number.
+pub fn damaged_table(subject: Subject, sort: u64) -> usize {
+    sorts(subject)[sort as usize].table
 }
 
 /// Damages what is lent in the way that word 0 names (word 6 chooses where), or the call; nothing where this state can't be damaged so.

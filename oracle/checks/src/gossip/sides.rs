@@ -1,6 +1,6 @@
 //! Both sides in the middle of a trace on gossip: each call is run on both, and everything is compared after it.
 
-use super::damage::{damaged, Harmed};
+use super::damage::{damaged, damaged_table, Harmed};
 use super::watch::watch;
 use super::{call_of, meets_refusal_5, ties};
 use crate::both_sides::{filled, same_answer};
@@ -269,10 +269,15 @@ fn tables_of(subject: Subject, start: &GossipStart, state: &GossipState) -> [Vec
     tables
 }
 
-/// Word 5 of a call on damage chooses its operation, which makes nothing.
+/// Word 5 of a call on damage chooses its operation, which makes nothing and mostly reads what is damaged.
 fn with_operation(words: &Words, subject: Subject) -> Words {
+    let operations = match (subject, damaged_table(subject, words[0])) {
+        (Subject::Gossip, 0) if words[5] % 8 > 2 => 2..5,
+        (Subject::Gossip, 1) if words[5] % 8 > 2 => 5..11,
+        _ => 2..subject.operations().len() as u64,
+    };
     let mut call = *words;
-    call[0] = 2 + words[5] % (subject.operations().len() as u64 - 2);
+    call[0] = operations.start + words[5] / 8 % (operations.end - operations.start);
     call
 }
 

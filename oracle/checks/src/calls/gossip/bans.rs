@@ -15,9 +15,9 @@ pub fn settings(dice: &mut Dice, start: &mut GossipStart) {
     };
     start.longs[PERIOD] = match dice.below(12) {
         0 => dice.pick(&CORNERS),
-        1 => 600_000,
-        2 => 0,
-        _ => dice.pick(&[1, 5, 20, 20, 60, 60, 200]),
+        1 | 2 => 600_000,
+        3 => 0,
+        _ => dice.pick(&[1, 5, 20, 20, 60, 60, 200, 1_000]),
     };
 }
 

@@ -7,7 +7,7 @@ pub fn pool(dice: &mut Dice, subject: Subject, limit: u64) -> Vec<LongKey> {
     let count = match limit {
         1_024 => 1_100,
         16 => dice.between(3, 24),
-        _ => limit.max(1) + dice.pick(&[0, 1, 1, 2, 3]),
+        _ => limit.max(1) + dice.pick(&[0, 1, 1, 2, 3, 6]),
     };
     // The place of the byte in which most keys differ: the first or last of the peer, of the out point, the side, or any.
     let bytes = match subject {

@@ -37,7 +37,7 @@ pub struct Plan {
 
 /// A trace without calls, how many it should have, and the plan that makes them.
 pub fn begin(dice: &mut Dice, kind: Kind, subject: Subject) -> (Trace, usize, Plan) {
-    let large = dice.chance(2);
+    let large = dice.chance(if subject == Subject::Gossip { 4 } else { 2 });
     let limit = if large {
         1_024
     } else {
@@ -72,7 +72,8 @@ pub fn begin(dice: &mut Dice, kind: Kind, subject: Subject) -> (Trace, usize, Pl
         makes_first,
     };
     for table in 0..subject.shapes().len() {
-        start.spare[table] = spare(dice, subject, table, limit);
+        let made = makes_first && subject == Subject::Gossip;
+        start.spare[table] = spare(dice, subject, table, limit, made);
     }
     if makes_first || dice.chance(if large { 90 } else { 70 }) {
         fill(dice, subject, now, &mut start, large);
@@ -87,8 +88,8 @@ pub fn begin(dice: &mut Dice, kind: Kind, subject: Subject) -> (Trace, usize, Pl
     (trace, length as usize, plan)
 }
 
-/// Some bytes more than the rows need; sometimes as many as a making of 1,024 rows needs, or one less.
-fn spare(dice: &mut Dice, subject: Subject, table: usize, limit: u64) -> u64 {
+/// Some bytes more than the rows need; sometimes as many as a making of 1,024 rows needs (mostly where that comes), or one less.
+fn spare(dice: &mut Dice, subject: Subject, table: usize, limit: u64, made: bool) -> u64 {
     let width = subject.shapes()[table].width() as u64;
     let few = dice.pick(&[0, 0, 1, width - 1, width, 300]);
     let missing = if table == 0 {
@@ -99,14 +100,15 @@ fn spare(dice: &mut Dice, subject: Subject, table: usize, limit: u64) -> u64 {
     match dice.below(10) {
         0 | 1 => missing + few,
         2 => missing.saturating_sub(1),
+        _ if made => missing + few,
         _ => few,
     }
 }
 
 fn clock(dice: &mut Dice, period: u64) -> Clock {
     match dice.below(10) {
-        0 => Clock::Stands,
-        1..=4 => Clock::Runs(dice.pick(&[1, 2, 5, 30])),
+        0..=2 => Clock::Stands,
+        3 | 4 => Clock::Runs(dice.pick(&[1, 2, 5, 30])),
         5 | 6 => Clock::Runs(period.clamp(1, 1_000_000)),
         7 | 8 => Clock::ByPeriods,
         _ => Clock::Jumps,
@@ -123,7 +125,7 @@ fn fill(dice: &mut Dice, subject: Subject, now: u64, start: &mut GossipStart, la
         };
         let most = limit.min(start.keys.len() as u64);
         let count = match dice.below(3) {
-            _ if large => most - dice.below(3),
+            _ if large => most - dice.pick(&[0, 0, 0, 1, 2]),
             0 => dice.below(most + 1),
             _ => most,
         };
@@ -246,9 +248,12 @@ impl Plan {
     }
 }
 
-/// Any peer, or one that has a row.
+/// Any peer, or one that has a row; of many peers sometimes one of the last, which mostly have none.
 fn key(dice: &mut Dice, state: &GossipState, table: usize, keys: &[LongKey]) -> u64 {
     let rows = &state.rows[table];
+    if keys.len() > 1_024 && dice.chance(30) {
+        return dice.between(1_022, keys.len() as u64 - 1);
+    }
     if !rows.is_empty() && keys.len() < 40 && dice.chance(40) {
         let row = &rows[dice.below(rows.len() as u64) as usize];
         if let Some(place) = keys.iter().position(|key| *key == row.key) {
