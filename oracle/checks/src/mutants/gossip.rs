@@ -92,7 +92,7 @@ pub const MUTANTS: &[Mutant] = &[
     gossip("ban_update_never_moves_back", "        entry.last_updated_ms = now_ms;\n", "        entry.last_updated_ms = entry.last_updated_ms.max(now_ms);\n"),
     gossip("ban_above_the_threshold", "if entry.score >= self.config.threshold {", "if entry.score > self.config.threshold {"),
     gossip("ban_by_the_score_before", "if entry.score >= self.config.threshold {", "if entry.score.saturating_sub(violation.score()) >= self.config.threshold {"),
-    gossip("ban_end_wraps", "Some(now_ms.saturating_add(self.config.duration_ms))", "Some(now_ms.wrapping_add(self.config.duration_ms))"),
+    gossip("gossip_ban_end_wraps", "Some(now_ms.saturating_add(self.config.duration_ms))", "Some(now_ms.wrapping_add(self.config.duration_ms))"),
     gossip("ban_end_is_now", "Some(now_ms.saturating_add(self.config.duration_ms))", "Some(now_ms)"),
     gossip("ban_end_stays", "entry.banned_until_ms = Some(now_ms.saturating_add(self.config.duration_ms));", "entry.banned_until_ms.get_or_insert(now_ms.saturating_add(self.config.duration_ms));"),
     gossip("ban_end_never_moves_back", "entry.banned_until_ms = Some(now_ms.saturating_add(self.config.duration_ms));", "entry.banned_until_ms = entry.banned_until_ms.max(Some(now_ms.saturating_add(self.config.duration_ms)));"),
