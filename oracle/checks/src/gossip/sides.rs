@@ -33,9 +33,23 @@ pub struct GossipSides {
 
 impl GossipSides {
     pub fn begin(subject: Subject, start: &GossipStart, original: &mut dyn Original) -> Option<Self> {
+        let lengths = start.lengths(subject, &start.state(subject)?);
+        let tables = lengths.map(|length| filled(length, start.filler));
+        Self::begin_on(subject, start, tables, original)
+    }
+
+    /// On tables that hold anything.
+    pub fn begin_on(
+        subject: Subject,
+        start: &GossipStart,
+        mut tables: [Vec<u8>; 2],
+        original: &mut dyn Original,
+    ) -> Option<Self> {
         let state = start.state(subject)?;
         original.set_gossip(subject, &state);
-        let tables = tables_of(subject, start, &state);
+        for (table, shape) in subject.shapes().iter().enumerate() {
+            shape.lay(&mut tables[table], 0, &state.rows[table]);
+        }
         Some(Self {
             subject,
             start: start.clone(),
@@ -67,24 +81,48 @@ impl GossipSides {
         expect: &mut dyn FnMut(Answer, &mut Tally),
     ) -> Result<(), String> {
         let call = self.call(words);
-        let answer = match call.reads() {
-            Reads::Making => self.make(&call, original, words[6])?,
-            _ => self.ask(&call, original, tally)?,
-        };
+        let answer = self.step_rust(words, original, tally)?;
         expect(answer, tally);
         if tally.watch {
             watch(&self.before, &self.state, &call, &answer, tally);
         }
-        let lent_before = self.lent.words;
+        let given = self.lent.words;
         let answered = self.port(port, &call);
         same_answer(answer, answered)?;
         if answer.is_refusal() {
-            if self.lent.words != lent_before {
+            if self.lent.words != given {
                 return Err("a refused call changed the words".into());
             }
             self.lent.words = self.state.words;
         }
         self.compare()
+    }
+
+    /// The Rust's part of a call: what it answers, or the refusal that is known. The words that are lent are then those that the port
+    /// is to be given.
+    fn step_rust(&mut self, words: &Words, original: &mut dyn Original, tally: &mut Tally) -> Result<Answer, String> {
+        let call = self.call(words);
+        match call.reads() {
+            Reads::Making => self.make(&call, original, words[6]),
+            _ => self.ask(&call, original, tally),
+        }
+    }
+
+    /// A call without a port, for a recorded list: the answer, what is given, and what must be left.
+    pub fn record(&mut self, words: &Words, original: &mut dyn Original) -> (Answer, GossipWords, Lent) {
+        let answer = self.step_rust(words, original, &mut Tally::default());
+        let answer = answer.expect("the Rust as published");
+        let given = std::mem::replace(&mut self.lent.words, self.state.words);
+        self.lent.tables = self.expected.clone();
+        let mut left = self.lent.clone();
+        if answer.is_refusal() {
+            left.words = given;
+        }
+        (answer, given, left)
+    }
+
+    pub fn lent(&self) -> &Lent {
+        &self.lent
     }
 
     fn port(&mut self, port: &dyn Port, call: &GossipCall) -> Answer {
@@ -259,18 +297,8 @@ impl GossipSides {
     }
 }
 
-/// Filler in every place that holds nothing.
-fn tables_of(subject: Subject, start: &GossipStart, state: &GossipState) -> [Vec<u8>; 2] {
-    let lengths = start.lengths(subject, state);
-    let mut tables = lengths.map(|length| filled(length, start.filler));
-    for (table, shape) in subject.shapes().iter().enumerate() {
-        shape.lay(&mut tables[table], 0, &state.rows[table]);
-    }
-    tables
-}
-
 /// Word 5 of a call on damage chooses its operation, which makes nothing and mostly reads what is damaged.
-fn with_operation(words: &Words, subject: Subject) -> Words {
+pub fn with_operation(words: &Words, subject: Subject) -> Words {
     let operations = match (subject, damaged_table(subject, words[0])) {
         (Subject::Gossip, 0) if words[5] % 8 > 2 => 2..5,
         (Subject::Gossip, 1) if words[5] % 8 > 2 => 5..11,

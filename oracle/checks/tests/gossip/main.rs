@@ -4,6 +4,7 @@
 #![cfg(test)]
 
 mod faults;
+mod replay;
 mod stand_in;
 mod starts;
 

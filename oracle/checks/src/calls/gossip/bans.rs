@@ -7,13 +7,14 @@ use crate::gossip::start::GossipStart;
 use vocabulary::gossip::*;
 use vocabulary::GossipRow;
 
-pub fn settings(dice: &mut Dice, start: &mut GossipStart) {
+pub fn settings(dice: &mut Dice, start: &mut GossipStart, crowded: bool) {
     start.shorts[MOST] = match dice.below(10) {
         0 => dice.pick(&SHORT_CORNERS),
         1 => 100,
         _ => dice.pick(&[1, 25, 26, 50, 75, 76, 100, 101, 125, 200, 300]),
     };
     start.longs[PERIOD] = match dice.below(12) {
+        _ if crowded => dice.pick(&[200, 1_000, 600_000]),
         0 => dice.pick(&CORNERS),
         1 | 2 => 600_000,
         3 => 0,
@@ -36,10 +37,11 @@ pub fn rows(dice: &mut Dice, start: &GossipStart, count: u64, now: u64) -> Vec<(
             _ => dice.below(9) * 25,
         };
         let marked = dice.chance(banned);
-        let end = match dice.below(4) {
+        let end = match dice.below(6) {
             _ if !marked => 0,
             0 => time_near(dice, now, duration),
-            1 => dice.near(now),
+            1 => now.saturating_add(dice.below(5)).saturating_sub(2),
+            2 => now.saturating_sub(dice.below(30)),
             _ => now.saturating_add(dice.below(duration.clamp(1, 1_000))),
         };
         let updated = match dice.below(10) {

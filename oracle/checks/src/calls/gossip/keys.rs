@@ -3,9 +3,10 @@
 use crate::dice::Dice;
 use vocabulary::{LongKey, Subject};
 
-pub fn pool(dice: &mut Dice, subject: Subject, limit: u64) -> Vec<LongKey> {
+pub fn pool(dice: &mut Dice, subject: Subject, limit: u64, crowded: bool) -> Vec<LongKey> {
     let count = match limit {
         1_024 => 1_100,
+        _ if crowded => limit + dice.between(2, 6),
         16 => dice.between(3, 24),
         _ => limit.max(1) + dice.pick(&[0, 1, 1, 2, 3, 6]),
     };

@@ -33,6 +33,8 @@ pub struct Plan {
     aims: u64,
     /// Whether the first call makes the state.
     makes_first: bool,
+    /// Whether the ban table is full of live rows and most calls need room in it.
+    crowded: bool,
 }
 
 /// A trace without calls, how many it should have, and the plan that makes them.
@@ -49,34 +51,40 @@ pub fn begin(dice: &mut Dice, kind: Kind, subject: Subject) -> (Trace, usize, Pl
         8 => u64::MAX - dice.below(3_000),
         _ => dice.any_width(),
     };
+    let crowded = subject != Subject::Limiter && !large && dice.chance(30);
     let mut start = GossipStart {
-        keys: keys::pool(dice, subject, limit),
+        keys: keys::pool(dice, subject, limit, crowded),
         filler: if dice.chance(70) { dice.roll() } else { 0 },
         ..GossipStart::default()
     };
     start.longs[LIMIT] = limit;
     match subject {
         Subject::Limiter => limiter::settings(dice, &mut start),
-        _ => bans::settings(dice, &mut start),
+        _ => bans::settings(dice, &mut start, crowded),
     }
     if subject == Subject::Gossip {
         outbound::settings(dice, &mut start, now);
     }
-    let makes_first = !large && dice.chance(35);
+    let makes_first = !large && !crowded && dice.chance(35);
     let plan = Plan {
         subject,
-        clock: clock(dice, start.longs[PERIOD]),
+        clock: if crowded {
+            Clock::Runs(1)
+        } else {
+            clock(dice, start.longs[PERIOD])
+        },
         now,
         goes_back: dice.chance(40),
         aims: dice.pick(&[5, 20, 45]),
         makes_first,
+        crowded,
     };
     for table in 0..subject.shapes().len() {
         let made = makes_first && subject == Subject::Gossip;
         start.spare[table] = spare(dice, subject, table, limit, made);
     }
-    if makes_first || dice.chance(if large { 90 } else { 70 }) {
-        fill(dice, subject, now, &mut start, large);
+    if makes_first || crowded || dice.chance(if large { 90 } else { 70 }) {
+        fill(dice, subject, now, &mut start, large || crowded);
     }
     let mut trace = Trace::of_calls(kind, Vec::new());
     trace.gossip = start;
@@ -116,7 +124,7 @@ fn clock(dice: &mut Dice, period: u64) -> Clock {
 }
 
 /// Any sound state: rows near the clock or at corners.
-fn fill(dice: &mut Dice, subject: Subject, now: u64, start: &mut GossipStart, large: bool) {
+fn fill(dice: &mut Dice, subject: Subject, now: u64, start: &mut GossipStart, full: bool) {
     for table in 0..subject.shapes().len() {
         let limit = if table == 0 {
             start.longs[LIMIT].max(1)
@@ -125,7 +133,7 @@ fn fill(dice: &mut Dice, subject: Subject, now: u64, start: &mut GossipStart, la
         };
         let most = limit.min(start.keys.len() as u64);
         let count = match dice.below(3) {
-            _ if large => most - dice.pick(&[0, 0, 0, 1, 2]),
+            _ if full => most.saturating_sub(dice.pick(&[0, 0, 0, 1, 2])),
             0 => dice.below(most + 1),
             _ => most,
         };
@@ -140,9 +148,14 @@ fn fill(dice: &mut Dice, subject: Subject, now: u64, start: &mut GossipStart, la
 
 impl Plan {
     pub fn next(&mut self, dice: &mut Dice, state: &GossipState, keys: &[LongKey]) -> Words {
-        let operation = self.operation(dice);
+        let crowds = self.crowded && dice.chance(50);
+        let operation = if crowds { 3 } else { self.operation(dice) };
         let table = usize::from(self.subject == Subject::Gossip && (6..=11).contains(&operation));
-        let place = key(dice, state, table, keys);
+        let place = if crowds {
+            absent(dice, state, keys)
+        } else {
+            key(dice, state, table, keys)
+        };
         let row = state.row(table, &keys[place as usize]).copied();
         let now = self.time(dice, state, table, row.as_ref());
         let violation = match self.subject {
@@ -246,6 +259,14 @@ impl Plan {
             _ => self.moved(dice, state.words.longs[PERIOD]),
         }
     }
+}
+
+/// A peer without a ban row, if the first that is looked for has none.
+fn absent(dice: &mut Dice, state: &GossipState, keys: &[LongKey]) -> u64 {
+    let first = dice.below(keys.len() as u64);
+    let mut places = (first..keys.len() as u64).chain(0..first);
+    let place = places.find(|place| state.row(0, &keys[*place as usize]).is_none());
+    place.unwrap_or(first)
 }
 
 /// Any peer, or one that has a row; of many peers sometimes one of the last, which mostly have none.
