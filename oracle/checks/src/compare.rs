@@ -39,6 +39,12 @@ pub struct Options {
     pub first_only: bool,
 }
 
+#[derive(Clone, Copy, Debug, PartialEq, Eq)]
+pub enum Part {
+    Gossip,
+    Rest,
+}
+
 pub struct Outcome {
     pub tally: Tally,
     /// The first mismatches, as they are to be printed.
@@ -50,9 +56,11 @@ pub fn run(original: &mut dyn Original, port: &dyn Port, options: &Options) -> O
     run_kinds(original, port, options, &has)
 }
 
-/// The kinds about the gossip policy alone.
-pub fn run_gossip(original: &mut dyn Original, port: &dyn Port, options: &Options) -> Outcome {
-    run_kinds(original, port, options, &|kind| kind.gossip_subject().is_some())
+/// The kinds about the gossip policy alone, or all others.
+pub fn run_part(part: Part, original: &mut dyn Original, port: &dyn Port, options: &Options) -> Outcome {
+    run_kinds(original, port, options, &|kind| {
+        kind.gossip_subject().is_some() == (part == Part::Gossip)
+    })
 }
 
 fn run_kinds(original: &mut dyn Original, port: &dyn Port, options: &Options, has: &dyn Fn(Kind) -> bool) -> Outcome {

@@ -3,6 +3,8 @@
 
 mod gossip;
 
+use crate::compare::Part;
+
 pub const PEERS: &str = "peer_message_policy.rs";
 pub const GOSSIP: &str = "gossip_policy.rs";
 
@@ -47,10 +49,12 @@ impl Mutant {
     }
 }
 
-/// All of them; those of the gossip policy's parts only where the port has it.
-pub fn all(has_gossip: bool) -> impl Iterator<Item = &'static Mutant> {
-    let gossip = gossip::MUTANTS.iter().filter(move |_| has_gossip);
-    MUTANTS.iter().chain(gossip)
+/// Those that a part of the comparison should notice.
+pub fn of_part(part: Part) -> &'static [Mutant] {
+    match part {
+        Part::Gossip => gossip::MUTANTS,
+        Part::Rest => MUTANTS,
+    }
 }
 
 const MUTANTS: &[Mutant] = &[
@@ -474,7 +478,8 @@ mod tests {
 
     #[test]
     fn names_are_unique() {
-        let mut names: Vec<&str> = all(true).map(|mutant| mutant.name).collect();
+        let all = of_part(Part::Gossip).iter().chain(of_part(Part::Rest));
+        let mut names: Vec<&str> = all.map(|mutant| mutant.name).collect();
         names.sort();
         let count = names.len();
         names.dedup();

@@ -3,7 +3,7 @@
 
 use crate::run;
 use crate::stand_in::StandIn;
-use checks::compare::{self, Options};
+use checks::compare::{self, Options, Part};
 use checks::show;
 use original::UnchangedRust;
 use vocabulary::gossip::*;
@@ -150,7 +150,7 @@ fn a_row_more_than_there_are_that_charges_the_global_bucket() {
         watch: false,
         first_only: true,
     };
-    let outcome = compare::run_gossip(&mut UnchangedRust::default(), &Wrong(fault), &options);
+    let outcome = compare::run_part(Part::Gossip, &mut UnchangedRust::default(), &Wrong(fault), &options);
     assert_eq!(outcome.tally.mismatches(), 1);
 }
 

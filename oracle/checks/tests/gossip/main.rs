@@ -8,7 +8,7 @@ mod replay;
 mod stand_in;
 mod starts;
 
-use checks::compare::{self, Options, Outcome};
+use checks::compare::{self, Options, Outcome, Part};
 use original::UnchangedRust;
 use stand_in::StandIn;
 use vocabulary::Port;
@@ -20,7 +20,7 @@ fn run(port: &dyn Port, calls: u64, seed: u64) -> Outcome {
         watch: true,
         first_only: false,
     };
-    compare::run_gossip(&mut UnchangedRust::default(), port, &options)
+    compare::run_part(Part::Gossip, &mut UnchangedRust::default(), port, &options)
 }
 
 #[test]

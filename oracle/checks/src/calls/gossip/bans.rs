@@ -40,7 +40,7 @@ pub fn rows(dice: &mut Dice, start: &GossipStart, count: u64, now: u64) -> Vec<(
         let end = match dice.below(6) {
             _ if !marked => 0,
             0 => time_near(dice, now, duration),
-            1 => now.saturating_add(dice.below(5)).saturating_sub(2),
+            1 | 4 => now.saturating_add(dice.below(5)).saturating_sub(2),
             2 => now.saturating_sub(dice.below(30)),
             _ => now.saturating_add(dice.below(duration.clamp(1, 1_000))),
         };
