@@ -1,6 +1,7 @@
 //! Runs one trace on both sides, call by call, and compares after every call.
 
 use crate::damage::{damage_peers, damaged_buckets, Damage};
+use crate::gossip::sides::GossipSides;
 use crate::inputs::traced::{ending, traced};
 use crate::inputs::ROWS;
 use crate::tally::Tally;
@@ -9,7 +10,7 @@ use crate::watch::watch;
 use crate::{amounts, settings, show};
 use vocabulary::layout::{self, ROW};
 use vocabulary::peer::*;
-use vocabulary::{answer, Answer, BucketCall, BucketOperation, Buckets, Original, Port, Words};
+use vocabulary::{answer, Answer, BucketCall, BucketOperation, Buckets, GossipState, Original, Port, Words};
 
 /// Where and how the two sides differed.
 #[derive(Clone, Debug)]
@@ -35,6 +36,8 @@ pub struct BothSides<'a> {
     /// The input of the kind `Inputs`, and what the trace program should write for it.
     input: Vec<u8>,
     output: String,
+    /// Of the kinds about the gossip policy.
+    gossip: Option<GossipSides>,
     /// What the last call should answer.
     answer: Answer,
 }
@@ -53,6 +56,10 @@ impl<'a> BothSides<'a> {
                 operands: [0; 7],
             });
         }
+        let gossip = match trace.kind.gossip_subject() {
+            Some(subject) => Some(GossipSides::begin(subject, &trace.gossip, original).ok_or("not a sound start")?),
+            None => None,
+        };
         let mut both = BothSides {
             kind: trace.kind,
             original,
@@ -65,6 +72,7 @@ impl<'a> BothSides<'a> {
             buckets: Buckets::default(),
             input: trace.input.bytes.clone(),
             output: String::new(),
+            gossip,
             answer: Answer::done(),
             state,
         };
@@ -74,6 +82,11 @@ impl<'a> BothSides<'a> {
 
     pub fn state(&self) -> &PeerState {
         &self.state
+    }
+
+    /// Of a trace on the gossip policy.
+    pub fn gossip_state(&self) -> Option<&GossipState> {
+        self.gossip.as_ref().map(GossipSides::state)
     }
 
     pub fn buckets(&self) -> &Buckets {
@@ -134,6 +147,28 @@ impl<'a> BothSides<'a> {
             }
             Kind::Settings => self.step_settings(call, tally),
             Kind::Inputs => self.step_input(call, tally),
+            _ => self.step_gossip(call, tally),
+        }
+    }
+
+    fn step_gossip(&mut self, words: &Words, tally: &mut Tally) -> Result<(), String> {
+        let Self {
+            kind,
+            original,
+            port,
+            gossip,
+            answer,
+            ..
+        } = self;
+        let mut expect = |expected: Answer, tally: &mut Tally| {
+            *answer = expected;
+            tally.count(*kind, words[0], &expected);
+        };
+        let sides = gossip.as_mut().expect("a trace on gossip");
+        if kind.is_gossip_refusals() {
+            sides.step_damaged(words, *original, *port, tally, &mut expect)
+        } else {
+            sides.step(words, *original, *port, tally, &mut expect)
         }
     }
 
@@ -293,7 +328,7 @@ impl<'a> BothSides<'a> {
     }
 }
 
-fn same_answer(original: Answer, port: Answer) -> Result<(), String> {
+pub(crate) fn same_answer(original: Answer, port: Answer) -> Result<(), String> {
     if original == port {
         return Ok(());
     }
@@ -321,7 +356,7 @@ fn same_lines(original: &[u8], port: &[u8]) -> Result<(), String> {
 }
 
 /// Bytes that look like anything; zeros for filler 0.
-fn filled(length: usize, filler: u64) -> Vec<u8> {
+pub(crate) fn filled(length: usize, filler: u64) -> Vec<u8> {
     let mut dice = crate::dice::Dice::new(filler);
     (0..length)
         .map(|_| if filler == 0 { 0 } else { dice.roll() as u8 })

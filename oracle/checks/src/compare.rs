@@ -1,7 +1,7 @@
 //! Runs made-up traces on both sides, counts, and writes down each mismatch as a short trace.
 
 use crate::both_sides::{BothSides, Difference};
-use crate::calls::{self, peers::Plan};
+use crate::calls::{self, gossip, peers};
 use crate::dice::Dice;
 use crate::show;
 use crate::shrink::Shrinker;
@@ -10,15 +10,21 @@ use crate::trace::{Kind, Trace, MAKING};
 use std::time::{Duration, Instant};
 use vocabulary::{Answer, Original, Port, Words};
 
-/// Of a thousand calls, so many are of each kind; a kind of no table is quick, an input is as much work as its events.
-const SHARES: [(Kind, u64); 7] = [
-    (Kind::Peers, 660),
-    (Kind::Buckets, 180),
-    (Kind::Amounts, 120),
+/// Of a thousand calls, so many are of each kind (more of the others where the port has no gossip); a kind of no table is quick, an input is as much work as its events.
+const SHARES: [(Kind, u64); 13] = [
+    (Kind::Peers, 450),
+    (Kind::Buckets, 130),
+    (Kind::Amounts, 80),
     (Kind::Settings, 5),
     (Kind::PeerRefusals, 20),
     (Kind::BucketRefusals, 10),
     (Kind::Inputs, 5),
+    (Kind::Bans, 70),
+    (Kind::Limiter, 60),
+    (Kind::Gossip, 150),
+    (Kind::BanRefusals, 5),
+    (Kind::LimiterRefusals, 5),
+    (Kind::GossipRefusals, 10),
 ];
 
 /// So many mismatches are made small, and shown unless they come out the same; all are counted.
@@ -33,6 +39,12 @@ pub struct Options {
     pub first_only: bool,
 }
 
+#[derive(Clone, Copy, Debug, PartialEq, Eq)]
+pub enum Part {
+    Gossip,
+    Rest,
+}
+
 pub struct Outcome {
     pub tally: Tally,
     /// The first mismatches, as they are to be printed.
@@ -40,14 +52,28 @@ pub struct Outcome {
 }
 
 pub fn run(original: &mut dyn Original, port: &dyn Port, options: &Options) -> Outcome {
+    let has = |kind: Kind| kind.gossip_subject().is_none() || port.has_gossip();
+    run_kinds(original, port, options, &has)
+}
+
+/// The kinds about the gossip policy alone, or all others.
+pub fn run_part(part: Part, original: &mut dyn Original, port: &dyn Port, options: &Options) -> Outcome {
+    run_kinds(original, port, options, &|kind| {
+        kind.gossip_subject().is_some() == (part == Part::Gossip)
+    })
+}
+
+fn run_kinds(original: &mut dyn Original, port: &dyn Port, options: &Options, has: &dyn Fn(Kind) -> bool) -> Outcome {
     let mut outcome = Outcome {
         tally: Tally::default(),
         shown: Vec::new(),
     };
     outcome.tally.watch = options.watch;
     let mut progress = Progress::new(options.calls);
-    for (kind, share) in SHARES {
-        let goal = outcome.tally.calls() + (options.calls * share).div_ceil(1_000);
+    let shares: Vec<(Kind, u64)> = SHARES.into_iter().filter(|(kind, _)| has(*kind)).collect();
+    let whole: u64 = shares.iter().map(|(_, share)| share).sum();
+    for (kind, share) in shares {
+        let goal = outcome.tally.calls() + (options.calls * share).div_ceil(whole);
         let goal = goal.min(options.calls);
         let mut number = 0;
         while outcome.tally.calls() < goal {
@@ -91,12 +117,13 @@ fn run_new_trace(
     let mut both = match BothSides::begin(&trace, original, port) {
         Ok(both) => both,
         Err(what) => {
+            assert!(kind.gossip_subject().is_none(), "a made-up start: {what}");
             trace.kind = Kind::Peers;
             return (trace, Some(Difference { at: 0, what }));
         }
     };
     for at in 0..length.min(left) {
-        let call = next(&trace, plan.as_mut(), dice, &both);
+        let call = next(&trace, &mut plan, dice, &both);
         trace.calls.push(call);
         if let Err(what) = both.step(&call, tally) {
             return (trace, Some(Difference { at, what }));
@@ -105,22 +132,42 @@ fn run_new_trace(
     (trace, None)
 }
 
-fn begin(kind: Kind, dice: &mut Dice, original: &mut dyn Original) -> (Trace, usize, Option<Plan>) {
+/// What makes the calls of a trace that looks at the state.
+enum Plan {
+    Peers(peers::Plan),
+    Gossip(gossip::Plan),
+    None,
+}
+
+fn begin(kind: Kind, dice: &mut Dice, original: &mut dyn Original) -> (Trace, usize, Plan) {
+    if let Some(subject) = kind.gossip_subject() {
+        let (trace, length, plan) = gossip::begin(dice, kind, subject);
+        return (trace, length, Plan::Gossip(plan));
+    }
     match kind {
         Kind::Peers | Kind::PeerRefusals => {
             let (mut trace, length, plan) = calls::peers::begin(dice);
             trace.kind = kind;
-            (trace, length.max(1), Some(plan))
+            (trace, length.max(1), Plan::Peers(plan))
         }
-        Kind::Inputs => (calls::inputs::begin(dice, original), 1, None),
-        Kind::Buckets => (Trace::of_calls(kind, Vec::new()), dice.between(5, 150) as usize, None),
-        _ => (Trace::of_calls(kind, Vec::new()), 200, None),
+        Kind::Inputs => (calls::inputs::begin(dice, original), 1, Plan::None),
+        Kind::Buckets => (
+            Trace::of_calls(kind, Vec::new()),
+            dice.between(5, 150) as usize,
+            Plan::None,
+        ),
+        _ => (Trace::of_calls(kind, Vec::new()), 200, Plan::None),
     }
 }
 
-fn next(trace: &Trace, plan: Option<&mut Plan>, dice: &mut Dice, both: &BothSides) -> Words {
+fn next(trace: &Trace, plan: &mut Plan, dice: &mut Dice, both: &BothSides) -> Words {
     match (trace.kind, plan) {
-        (Kind::Peers, Some(plan)) => plan.next(dice, both.state(), &trace.keys),
+        (Kind::Peers, Plan::Peers(plan)) => plan.next(dice, both.state(), &trace.keys),
+        (kind, _) if kind.is_gossip_refusals() => calls::refusals::next_gossip(dice, trace),
+        (_, Plan::Gossip(plan)) => {
+            let state = both.gossip_state().expect("a trace on gossip");
+            plan.next(dice, state, &trace.gossip.keys)
+        }
         (Kind::PeerRefusals, _) => calls::refusals::next_peer(dice, trace),
         (Kind::BucketRefusals, _) => calls::refusals::next_bucket(dice),
         (Kind::Buckets, _) => calls::buckets::next(dice, both.buckets()),

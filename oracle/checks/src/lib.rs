@@ -1,7 +1,7 @@
 //! The comparison of the unchanged Rust with a port of it, and what is built on it.
 //!
 //! `calls` makes traces up, `both_sides` runs one and compares after each call, `compare` runs many of them,
-//! `shrink` makes a mismatch small, `show` writes it down. `lists` are the recorded answers,
+//! `shrink` makes a mismatch small, `show` writes it down. `gossip` is the gossip policy's part. `lists` are the recorded answers,
 //! `mutants` the edits of the self-test.
 
 pub mod amounts;
@@ -10,6 +10,7 @@ pub mod calls;
 pub mod compare;
 pub mod damage;
 pub mod dice;
+pub mod gossip;
 pub mod inputs;
 pub mod lists;
 pub mod mutants;

@@ -1,5 +1,9 @@
 //! Small edits of the Rust, each of which the comparison should notice. An edit that changes no answer and no kept state
-//! says why (`same`); all others must be caught.
+//! says why (`same`); all others must be caught. Those of the gossip policy's tracker, limiter and state stand in `gossip`.
+
+mod gossip;
+
+use crate::compare::Part;
 
 pub const PEERS: &str = "peer_message_policy.rs";
 pub const GOSSIP: &str = "gossip_policy.rs";
@@ -45,7 +49,15 @@ impl Mutant {
     }
 }
 
-pub const MUTANTS: &[Mutant] = &[
+/// Those that a part of the comparison should notice.
+pub fn of_part(part: Part) -> &'static [Mutant] {
+    match part {
+        Part::Gossip => gossip::MUTANTS,
+        Part::Rest => MUTANTS,
+    }
+}
+
+const MUTANTS: &[Mutant] = &[
     // Settings of the peers' policy.
     peers("default_interval", "PEER_MESSAGE_INTERVAL_MS: u64 = 5;", "PEER_MESSAGE_INTERVAL_MS: u64 = 6;"),
     peers("default_burst", "PEER_MESSAGE_BURST: u32 = 400;", "PEER_MESSAGE_BURST: u32 = 401;"),
@@ -466,7 +478,8 @@ mod tests {
 
     #[test]
     fn names_are_unique() {
-        let mut names: Vec<&str> = MUTANTS.iter().map(|mutant| mutant.name).collect();
+        let all = of_part(Part::Gossip).iter().chain(of_part(Part::Rest));
+        let mut names: Vec<&str> = all.map(|mutant| mutant.name).collect();
         names.sort();
         let count = names.len();
         names.dedup();

@@ -3,7 +3,10 @@
 //! A trace on peers begins with the nine settings. Lines `I MESSAGES BYTES`, `R KEY` and eleven numbers, and
 //! `L SPARE FILLER` (the lent table) give a start that isn't fresh; `f` and `h KEY GIVEN` ask for the numbers in flight
 //! and the held time. admit-trace reads none of these; all other lines it does. A trace on anything else begins with its
-//! name, and each call is its eight words; an input of the trace program is the command that gives it to admit-trace.
+//! name, and each call is its eight words; an input of the trace program is the command that gives it to admit-trace, and a trace on
+//! the gossip policy gives its start as words too (`gossip`).
+
+pub mod gossip;
 
 use crate::trace::{Kind, PeerStart, Trace};
 use vocabulary::peer::*;
@@ -87,6 +90,9 @@ pub fn trace(trace: &Trace) -> String {
     if matches!(trace.kind, Kind::Peers | Kind::PeerRefusals) {
         text += &start(trace);
     }
+    if let Some(subject) = trace.kind.gossip_subject() {
+        text += &gossip::start(trace, subject);
+    }
     for words in &trace.calls {
         text += &format!("{}\n", call(trace, words));
     }
@@ -167,8 +173,9 @@ pub fn parse(text: &str) -> Result<Trace, String> {
     }
     for (number, line) in lines {
         let words: Vec<&str> = line.split(' ').collect();
-        let read = match trace.kind {
-            Kind::Inputs => read_input(&mut trace, line),
+        let read = match (trace.kind, trace.kind.gossip_subject()) {
+            (Kind::Inputs, _) => read_input(&mut trace, line),
+            (_, Some(subject)) => gossip::read_line(&mut trace, subject, &words),
             _ => read_line(&mut trace, &words),
         };
         read.ok_or(format!("line {}: {line}", number + 1))?;

@@ -1,5 +1,7 @@
 //! Makes a trace on which the sides differ short and its numbers small, keeping that they differ.
 
+mod gossip;
+
 use crate::both_sides::Difference;
 use crate::trace::{Kind, Trace};
 use std::time::{Duration, Instant};
@@ -32,6 +34,7 @@ impl<'a> Shrinker<'a> {
             self.delete_lines(&mut small);
             self.delete_rows(&mut small);
             self.forget_the_start(&mut small);
+            self.shrink_gossip_start(&mut small);
             self.move_times(&mut small);
             self.lower_numbers(&mut small);
             self.rename_keys(&mut small);
@@ -133,17 +136,24 @@ impl<'a> Shrinker<'a> {
         }
     }
 
-    /// All times of a trace on peers earlier by the same amount: each by itself often can't move.
+    /// All times of a trace on peers or gossip earlier by the same amount: each by itself often can't move.
     fn move_times(&mut self, small: &mut Trace) {
-        if small.kind != Kind::Peers {
-            return;
-        }
+        let time = match small.kind {
+            Kind::Peers => 3,
+            Kind::Bans | Kind::Limiter | Kind::Gossip => 4,
+            _ => return,
+        };
         for shift in (0..64).rev() {
             let mut candidate = small.clone();
             for call in &mut candidate.calls {
-                call[3] = call[3].saturating_sub(1 << shift);
+                call[time] = call[time].saturating_sub(1 << shift);
             }
-            if candidate.calls.iter().zip(&small.calls).any(|(a, b)| a[3] != b[3]) {
+            if candidate
+                .calls
+                .iter()
+                .zip(&small.calls)
+                .any(|(a, b)| a[time] != b[time])
+            {
                 self.take(small, candidate);
             }
         }
@@ -222,14 +232,18 @@ impl<'a> Shrinker<'a> {
     }
 }
 
+fn digits(numbers: &[u64]) -> usize {
+    numbers.iter().map(|n| 64 - n.leading_zeros() as usize).sum()
+}
+
 /// What gets smaller: calls and rows first, then the digits of all numbers.
 fn weight(trace: &Trace) -> (usize, usize) {
-    let digits = |numbers: &[u64]| -> usize { numbers.iter().map(|n| 64 - n.leading_zeros() as usize).sum() };
     let calls: usize = trace.calls.iter().map(|call| digits(call)).sum();
     let rows: usize = trace.start.rows.iter().map(|row| digits(&row.1)).sum();
     let start = digits(&trace.start.settings) + digits(&trace.start.in_flight);
+    let gossip = gossip::weight(trace);
     (
-        trace.calls.len() + trace.start.rows.len(),
-        calls + rows + start + trace.keys.len() + trace.input.bytes.len(),
+        trace.calls.len() + trace.start.rows.len() + gossip.0,
+        calls + rows + start + trace.keys.len() + trace.input.bytes.len() + gossip.1,
     )
 }

@@ -3,7 +3,7 @@
 use crate::trace::Kind;
 use vocabulary::Answer;
 
-/// What a call on peers did besides its answer.
+/// What a call on peers, or on gossip, did besides its answer.
 #[derive(Clone, Copy)]
 pub enum Event {
     RowMade,
@@ -20,9 +20,20 @@ pub enum Event {
     TimeBeforeLastUsed,
     BanAtItsExactEnd,
     RefillPast32Bits,
+    GossipRowAtItsExactEnd,
+    GossipBanAtItsExactEnd,
+    TimeBeforeLastUpdate,
+    ExpiredRowsDropped,
+    GossipUnbannedEvicted,
+    GossipBannedEvicted,
+    GossipBanBegun,
+    LimiterMadeRoom,
+    LimiterStayedFull,
+    OutboundRowMade,
+    OutboundDebt,
 }
 
-pub const EVENTS: [&str; 14] = [
+pub const EVENTS: [&str; 25] = [
     "row made",
     "own spent ban dropped",
     "spent bans dropped for room",
@@ -37,6 +48,17 @@ pub const EVENTS: [&str; 14] = [
     "time before the row's last use",
     "ban at its exact end",
     "Allow 2^32 intervals or more after refill",
+    "gossip: own row at its exact end",
+    "gossip: ban at its exact end",
+    "gossip: time before the row's last update",
+    "gossip: expired rows dropped",
+    "gossip: row evicted, not banned now",
+    "gossip: row evicted, banned now",
+    "gossip: ban begun",
+    "limiter: full, and room was made",
+    "limiter: full, and stayed so",
+    "outbound: row made",
+    "outbound: row in debt",
 ];
 
 /// Refusals 1 to 6, then the answers from 256 on.
@@ -54,6 +76,9 @@ pub struct Tally {
     operations: Vec<(Kind, Vec<OperationTally>)>,
     pub events: [u64; EVENTS.len()],
     pub refusal_4: u64,
+    pub refusal_5: u64,
+    /// Gossip evictions in which several rows were least, after which the sides were brought together.
+    pub ties: u64,
     /// Whether events are looked for: they cost time.
     pub watch: bool,
 }
@@ -65,6 +90,8 @@ impl Default for Tally {
             operations: Kind::ALL.into_iter().map(of).collect(),
             events: [0; EVENTS.len()],
             refusal_4: 0,
+            refusal_5: 0,
+            ties: 0,
             watch: false,
         }
     }
@@ -107,14 +134,17 @@ impl Tally {
 
     /// A line for each operation.
     pub fn table(&self) -> String {
-        let mut text = format!("{:<40}{:>12}{:>12}\n", "operation", "calls", "mismatches");
+        let mut text = format!("{:<60}{:>12}{:>12}\n", "operation", "calls", "mismatches");
         for (kind, tallies) in &self.operations {
             for (name, tally) in kind.operations().iter().zip(tallies) {
                 let name = format!("{}: {name}", kind.name());
-                text += &format!("{name:<40}{:>12}{:>12}\n", tally.calls, tally.mismatches);
+                text += &format!("{name:<60}{:>12}{:>12}\n", tally.calls, tally.mismatches);
             }
         }
-        text
+        text + &format!(
+            "{:<60}{:>12}\n",
+            "gossip evictions in a tie, brought together", self.ties
+        )
     }
 
     /// The answers of each operation in hundredths, and the events.
@@ -123,7 +153,7 @@ impl Tally {
         for (kind, tallies) in &self.operations {
             for (name, tally) in kind.operations().iter().zip(tallies) {
                 let name = format!("{}: {name}", kind.name());
-                text += &format!("{name:<40}{:>12}", tally.calls);
+                text += &format!("{name:<60}{:>12}", tally.calls);
                 for (place, count) in tally.answers.iter().enumerate() {
                     if *count > 0 {
                         let number = if place < 8 { place } else { place + 248 };
@@ -135,10 +165,18 @@ impl Tally {
                 text += "\n";
             }
         }
-        text += "what calls on peers did:\n";
+        text += "what calls on peers and on gossip did:\n";
         for (name, count) in EVENTS.iter().zip(self.events) {
             text += &format!("  {name:<42}{count:>12}\n");
         }
-        text + &format!("  {:<42}{:>12}\n", "refusal 4 (outside the Rust)", self.refusal_4)
+        let outside = [
+            ("refusal 4 (outside the Rust)", self.refusal_4),
+            ("refusal 5 (outside the Rust)", self.refusal_5),
+            ("gossip eviction in a tie", self.ties),
+        ];
+        for (name, count) in outside {
+            text += &format!("  {name:<42}{count:>12}\n");
+        }
+        text
     }
 }

@@ -1,10 +1,12 @@
 //! A trace: what it is about, where it begins, its calls, and whether the Rust has an answer to each.
 
 use crate::damage::PEER_DAMAGE;
+use crate::gossip::damage::{BAN_DAMAGE_NAMES, GOSSIP_DAMAGE_NAMES, LIMITER_DAMAGE_NAMES};
+use crate::gossip::start::GossipStart;
 use crate::inputs::damage::SORTS;
 use crate::{amounts, settings};
 use vocabulary::peer::*;
-use vocabulary::{BucketCall, BucketOperation, Words};
+use vocabulary::{BucketCall, BucketOperation, Subject, Words};
 
 /// What a trace is about. Another subject is a line in each list here, a step in `both_sides` and a plan in `calls`.
 #[derive(Clone, Copy, Debug, PartialEq, Eq)]
@@ -16,6 +18,12 @@ pub enum Kind {
     PeerRefusals,
     BucketRefusals,
     Inputs,
+    Bans,
+    Limiter,
+    Gossip,
+    BanRefusals,
+    LimiterRefusals,
+    GossipRefusals,
 }
 
 /// The operations on peers, then the making of a fresh policy, with which a trace begins.
@@ -34,7 +42,7 @@ const PEER_OPERATIONS: [&str; MAKING as usize + 1] = [
 pub const MAKING: u64 = PeerOperation::ALL.len() as u64;
 
 impl Kind {
-    pub const ALL: [Self; 7] = [
+    pub const ALL: [Self; 13] = [
         Self::Peers,
         Self::Buckets,
         Self::Amounts,
@@ -42,6 +50,12 @@ impl Kind {
         Self::PeerRefusals,
         Self::BucketRefusals,
         Self::Inputs,
+        Self::Bans,
+        Self::Limiter,
+        Self::Gossip,
+        Self::BanRefusals,
+        Self::LimiterRefusals,
+        Self::GossipRefusals,
     ];
 
     pub fn name(self) -> &'static str {
@@ -53,6 +67,12 @@ impl Kind {
             Self::PeerRefusals => "peer-refusals",
             Self::BucketRefusals => "bucket-refusals",
             Self::Inputs => "inputs",
+            Self::Bans => "bans",
+            Self::Limiter => "limiter",
+            Self::Gossip => "gossip",
+            Self::BanRefusals => "ban-refusals",
+            Self::LimiterRefusals => "limiter-refusals",
+            Self::GossipRefusals => "gossip-refusals",
         }
     }
 
@@ -65,7 +85,28 @@ impl Kind {
             Self::PeerRefusals => &PEER_DAMAGE,
             Self::BucketRefusals => &BucketOperation::NAMES,
             Self::Inputs => &SORTS,
+            Self::Bans => Subject::Bans.operations(),
+            Self::Limiter => Subject::Limiter.operations(),
+            Self::Gossip => Subject::Gossip.operations(),
+            Self::BanRefusals => &BAN_DAMAGE_NAMES,
+            Self::LimiterRefusals => &LIMITER_DAMAGE_NAMES,
+            Self::GossipRefusals => &GOSSIP_DAMAGE_NAMES,
         }
+    }
+
+    /// The part of the gossip policy that it is about.
+    pub fn gossip_subject(self) -> Option<Subject> {
+        match self {
+            Self::Bans | Self::BanRefusals => Some(Subject::Bans),
+            Self::Limiter | Self::LimiterRefusals => Some(Subject::Limiter),
+            Self::Gossip | Self::GossipRefusals => Some(Subject::Gossip),
+            _ => None,
+        }
+    }
+
+    /// Whether its calls are on damaged gossip states.
+    pub fn is_gossip_refusals(self) -> bool {
+        matches!(self, Self::BanRefusals | Self::LimiterRefusals | Self::GossipRefusals)
     }
 }
 
@@ -78,6 +119,8 @@ pub struct Trace {
     pub calls: Vec<Words>,
     /// Of the kind `Inputs`, which has one call.
     pub input: Input,
+    /// Of the kinds about the gossip policy; a call names its key by its place in the start's keys.
+    pub gossip: GossipStart,
 }
 
 /// A whole input of the trace program, and the sort of its damage.
@@ -115,6 +158,7 @@ impl Trace {
             start: PeerStart::default(),
             calls,
             input: Input::default(),
+            gossip: GossipStart::default(),
         }
     }
 
@@ -150,6 +194,15 @@ impl Trace {
             Kind::BucketRefusals | Kind::Inputs => true,
             Kind::Amounts => self.calls.iter().all(amounts::in_domain),
             Kind::Settings => self.calls.iter().all(settings::in_domain),
+            kind => {
+                let keys = self.gossip.keys.len() as u64;
+                let state = kind.gossip_subject().and_then(|subject| self.gossip.state(subject));
+                state.is_some()
+                    && self
+                        .calls
+                        .iter()
+                        .all(|call| call[1] < keys && (call[2] < 3 || kind == Kind::Limiter))
+            }
         }
     }
 }

@@ -1,5 +1,7 @@
 //! The unchanged Rust of docs/src behind small stand-ins, in the oracle's vocabulary.
 
+mod gossip;
+
 mod fiber {
     pub(crate) use fiber_types::Pubkey;
 
@@ -11,18 +13,19 @@ use fiber::peer_message_policy::{PeerMessageAdmission, PeerMessagePolicy, PeerMe
 use fiber_types::Pubkey;
 use vocabulary::settings::{self, LimitOperation, PeerSettingsOperation, SettingsCall};
 use vocabulary::{
-    answer, Answer, BucketCall, BucketOperation as B, Buckets, Original, PeerCall, PeerOperation as P, PeerState,
-    Settings, Words,
+    answer, Answer, BucketCall, BucketOperation as B, Buckets, GossipCall, GossipState, GossipWords, Original,
+    PeerCall, PeerOperation as P, PeerState, Settings, Subject, Words,
 };
 
 /// Whether the Rust that was built is the one as published, and not an edited copy that RUST_SRC names.
 pub const AS_PUBLISHED: bool = fiber::AS_PUBLISHED;
 
-/// One policy and one bucket of each type.
+/// One policy, one bucket of each type, and the gossip policy's parts.
 pub struct UnchangedRust {
     policy: PeerMessagePolicy,
     discrete: DiscreteTokenBucket,
     byte: ByteTokenBucket,
+    gossip: gossip::Gossip,
 }
 
 impl Default for UnchangedRust {
@@ -34,6 +37,7 @@ impl Default for UnchangedRust {
                 rate_bytes_per_sec: 0,
                 burst_bytes: 0,
             }),
+            gossip: gossip::Gossip::default(),
         }
     }
 }
@@ -164,6 +168,22 @@ impl Original for UnchangedRust {
                 (answer, settings::as_nine(&after))
             }
         }
+    }
+
+    fn set_gossip(&mut self, subject: Subject, state: &GossipState) {
+        self.gossip.set(subject, state);
+    }
+
+    fn make_gossip(&mut self, call: &GossipCall, words: &GossipWords) {
+        self.gossip.make(call, words);
+    }
+
+    fn gossip(&mut self, call: &GossipCall) -> Answer {
+        self.gossip.answer(call)
+    }
+
+    fn read_gossip(&self, subject: Subject, into: &mut GossipState) {
+        self.gossip.read(subject, into);
     }
 }
 

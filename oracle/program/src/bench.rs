@@ -1,6 +1,9 @@
 //! Times the unchanged Rust and the port on the same two traces of admits, in turns; then the port's judging pass alone.
 //!
-//! Processor time of this thread, so that other work on the machine counts as little as possible.
+//! Processor time of this thread, so that other work on the machine counts as little as possible. The gossip policy's calls stand in
+//! `gossip`.
+
+mod gossip;
 
 use checks::dice::Dice;
 use original::UnchangedRust;
@@ -163,5 +166,6 @@ pub fn run<P: Port>(port: &P) -> ExitCode {
         let passes = (0..RUNS).map(|_| time_judging(port, &start, rows)).collect();
         println!("{rows:>5} rows: one judging pass of the port {:.1} ns", median(passes));
     }
+    gossip::run(port);
     ExitCode::SUCCESS
 }

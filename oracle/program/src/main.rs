@@ -32,10 +32,8 @@ fn main() -> ExitCode {
         ["compare", calls, seed] => with_numbers(calls, seed, compare),
         ["distribution", calls, seed] => with_numbers(calls, seed, distribution),
         ["replay", file] => replay(file),
-        ["mutants"] => mutants::run(&oracle_folder(), MUTANT_RUN.0, MUTANT_RUN.1),
-        ["mutants", calls, seed] => {
-            with_numbers(calls, seed, |calls, seed| mutants::run(&oracle_folder(), calls, seed))
-        }
+        ["mutants"] => self_test(MUTANT_RUN.0, MUTANT_RUN.1),
+        ["mutants", calls, seed] => with_numbers(calls, seed, self_test),
         ["record"] => record::run(&oracle_folder().join("..")),
         ["record", folder] => record::run(Path::new(folder)),
         ["bench"] => bench::run(&PORT),
@@ -70,7 +68,14 @@ fn run(options: Options) -> Outcome {
         "EDITED"
     };
     eprintln!("the Rust {rust} against {}", PORT.name());
+    if !PORT.has_gossip() {
+        eprintln!("bans, limiter and gossip state are not compared: the library has no c_gossip");
+    }
     compare::run(&mut UnchangedRust::default(), &PORT, &options)
+}
+
+fn self_test(calls: u64, seed: u64) -> ExitCode {
+    mutants::run(&oracle_folder(), PORT.has_gossip(), calls, seed)
 }
 
 fn compare(calls: u64, seed: u64) -> ExitCode {

@@ -1,6 +1,7 @@
 //! The self-test: each edit of the Rust is built and compared; the comparison must notice it.
 
-use checks::mutants::{Mutant, MUTANTS};
+use checks::compare::Part;
+use checks::mutants::{self, Mutant};
 use std::fs;
 use std::path::{Path, PathBuf};
 use std::process::{Command, ExitCode, Stdio};
@@ -20,11 +21,49 @@ enum Verdict {
 struct SelfTest {
     oracle: PathBuf,
     source: PathBuf,
+    part: Part,
     calls: String,
     seed: String,
 }
 
-pub fn run(oracle: &Path, calls: u64, seed: u64) -> ExitCode {
+/// Of a hundred calls, so many of a whole comparison are on the gossip policy.
+const GOSSIP_SHARE: u64 = 30;
+
+#[derive(Default)]
+struct Counts {
+    caught: usize,
+    explained: usize,
+    wrong: Vec<String>,
+}
+
+/// The edits of the gossip policy's own parts are tried only where the port has them.
+pub fn run(oracle: &Path, has_gossip: bool, calls: u64, seed: u64) -> ExitCode {
+    let mut counts = Counts::default();
+    let mut parts = vec![(Part::Rest, calls)];
+    if has_gossip {
+        parts.push((Part::Gossip, calls * GOSSIP_SHARE / 100));
+    }
+    let mut count = 0;
+    for (part, calls) in parts {
+        if !run_part(oracle, part, calls, seed, &mut counts) {
+            return ExitCode::FAILURE;
+        }
+        count += mutants::of_part(part).len();
+    }
+    for line in &counts.wrong {
+        println!("{line}");
+    }
+    println!(
+        "{count} mutants: {} caught, {} survived with an explanation, {} wrong",
+        counts.caught,
+        counts.explained,
+        counts.wrong.len()
+    );
+    ExitCode::from(!counts.wrong.is_empty() as u8)
+}
+
+/// Whether the unchanged Rust passes.
+fn run_part(oracle: &Path, part: Part, calls: u64, seed: u64, counts: &mut Counts) -> bool {
     let source = std::env::var("RUST_SRC")
         .ok()
         .filter(|folder| !folder.is_empty())
@@ -33,6 +72,7 @@ pub fn run(oracle: &Path, calls: u64, seed: u64) -> ExitCode {
     let test = SelfTest {
         oracle: oracle.to_path_buf(),
         source,
+        part,
         calls: calls.to_string(),
         seed: seed.to_string(),
     };
@@ -40,37 +80,29 @@ pub fn run(oracle: &Path, calls: u64, seed: u64) -> ExitCode {
         Verdict::Survived => println!("the unchanged Rust: no mismatch in {calls} calls"),
         Verdict::Caught(how) | Verdict::Broken(how) => {
             println!("the unchanged Rust doesn't pass: {how}");
-            return ExitCode::FAILURE;
+            return false;
         }
     }
-    let (mut caught, mut explained, mut wrong) = (0, 0, Vec::new());
-    for mutant in MUTANTS {
+    for mutant in mutants::of_part(part) {
         let verdict = test.try_text(mutant.name, Some(mutant));
         match (verdict, mutant.same) {
             (Verdict::Caught(how), "") => {
                 println!("caught    {}: {how}", mutant.name);
-                caught += 1;
+                counts.caught += 1;
             }
             (Verdict::Survived, why) if !why.is_empty() => {
                 println!("survived  {}: {why}", mutant.name);
-                explained += 1;
+                counts.explained += 1;
             }
-            (Verdict::Survived, _) => wrong.push(format!("SURVIVED  {}", mutant.name)),
+            (Verdict::Survived, _) => counts.wrong.push(format!("SURVIVED  {}", mutant.name)),
             (Verdict::Caught(how), _) => {
-                wrong.push(format!("CAUGHT, though thought the same: {}: {how}", mutant.name));
+                let line = format!("CAUGHT, though thought the same: {}: {how}", mutant.name);
+                counts.wrong.push(line);
             }
-            (Verdict::Broken(how), _) => wrong.push(format!("BROKEN    {}: {how}", mutant.name)),
+            (Verdict::Broken(how), _) => counts.wrong.push(format!("BROKEN    {}: {how}", mutant.name)),
         }
     }
-    for line in &wrong {
-        println!("{line}");
-    }
-    println!(
-        "{} mutants: {caught} caught, {explained} survived with an explanation, {} wrong",
-        MUTANTS.len(),
-        wrong.len()
-    );
-    ExitCode::from(!wrong.is_empty() as u8)
+    true
 }
 
 impl SelfTest {
@@ -121,11 +153,18 @@ impl SelfTest {
         Err(format!("does not build: {}", first.unwrap_or("no error given")))
     }
 
+    fn part_name(&self) -> &str {
+        match self.part {
+            Part::Gossip => "gossip",
+            Part::Rest => "rest",
+        }
+    }
+
     fn compare(&self) -> Verdict {
         let said = self.oracle.join("target/mutants/said");
         let run = fs::File::create(&said).and_then(|file| {
             Command::new(self.oracle.join("target/mutants/build/release/checker"))
-                .args([&self.calls, &self.seed])
+                .args([self.part_name(), &self.calls, &self.seed])
                 .stdout(file)
                 .stderr(Stdio::null())
                 .spawn()

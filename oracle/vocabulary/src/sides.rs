@@ -1,6 +1,9 @@
 //! The two sides of a comparison: the unchanged Rust, and the system under test.
 
-use crate::{Answer, BucketCall, Buckets, PeerCall, PeerState, Record, Settings, Words};
+use crate::{
+    Answer, BucketCall, Buckets, GossipCall, GossipState, GossipWords, PeerCall, PeerState, Record, Settings, Subject,
+    Words,
+};
 
 /// The unchanged Rust. It keeps its own state, which can be read out and set.
 pub trait Original {
@@ -14,6 +17,14 @@ pub trait Original {
     fn default_settings(&self) -> Settings;
     /// A call on settings alone (`settings`): the answer, and the settings after it.
     fn settings(&self, call: &Words) -> (Answer, [u64; 9]);
+
+    /// The gossip policy. The Rust keeps a limit of 0 as 1.
+    fn set_gossip(&mut self, subject: Subject, state: &GossipState);
+    /// A making call: of the settings in the words, and of the limit where the operation takes one.
+    fn make_gossip(&mut self, call: &GossipCall, words: &GossipWords);
+    /// Any other call.
+    fn gossip(&mut self, call: &GossipCall) -> Answer;
+    fn read_gossip(&self, subject: Subject, into: &mut GossipState);
 }
 
 /// The system under test. It keeps nothing: each call gets the record and the lent table that the one before it left,
@@ -35,4 +46,15 @@ pub trait Port {
 
     /// All that the trace program writes for an input; the table is its memory, filled with anything.
     fn trace(&self, input: &[u8], table: &mut [u8]) -> Vec<u8>;
+
+    /// Whether there are gossip calls to compare.
+    fn has_gossip(&self) -> bool {
+        false
+    }
+
+    /// A call on the gossip policy; the tracker and the limiter have the first table alone. A number that it gives is the answer's
+    /// first value.
+    fn gossip(&self, _call: &GossipCall, _words: &mut GossipWords, _tables: [&mut [u8]; 2]) -> Answer {
+        unreachable!("no gossip calls to compare")
+    }
 }

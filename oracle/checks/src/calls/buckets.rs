@@ -107,7 +107,7 @@ fn byte(dice: &mut Dice, buckets: &Buckets) -> Words {
     }
 }
 
-fn rate(dice: &mut Dice) -> u64 {
+pub(super) fn rate(dice: &mut Dice) -> u64 {
     if dice.chance(80) {
         dice.pick(&RATES)
     } else {
@@ -123,10 +123,16 @@ fn burst(dice: &mut Dice) -> u64 {
     }
 }
 
-/// Full, empty, in small debt, in debt past any number of 64 bits, or at the end of i128.
 fn byte_set(dice: &mut Dice) -> Words {
     let (rate, burst) = (rate(dice), burst(dice));
-    let amount = match dice.below(8) {
+    let [sign, low, high] = Amount::of(amount(dice, burst)).words();
+    let last = time(dice, 0);
+    words(B::ByteSet, &[rate, burst, sign, low, high, last])
+}
+
+/// Full, empty, in small debt, in debt past any number of 64 bits, or at the end of i128.
+pub(super) fn amount(dice: &mut Dice, burst: u64) -> i128 {
+    match dice.below(8) {
         0 => i128::from(burst),
         1 => i128::from(burst) - 1,
         2 => 0,
@@ -136,10 +142,7 @@ fn byte_set(dice: &mut Dice) -> Words {
         6 => i128::MIN + i128::from(dice.any_width()),
         // where 1000 x the deficit passes 2^128
         _ => -340_282_366_920_938_463_463_374_607_431_768_212 + i128::from(dice.below(5)) - 2,
-    };
-    let [sign, low, high] = Amount::of(amount).words();
-    let last = time(dice, 0);
-    words(B::ByteSet, &[rate, burst, sign, low, high, last])
+    }
 }
 
 fn byte_time(dice: &mut Dice, last: u64, rate: u64) -> u64 {

@@ -5,6 +5,7 @@
 
 pub mod amounts;
 pub mod buckets;
+pub mod gossip;
 pub mod inputs;
 pub mod peers;
 pub mod refusals;

@@ -200,7 +200,7 @@ fn fill(dice: &mut Dice, plan: &Plan, start: &mut PeerStart, large: bool) {
     };
 }
 
-fn up_to(dice: &mut Dice, most: u64) -> u64 {
+pub(super) fn up_to(dice: &mut Dice, most: u64) -> u64 {
     match dice.below(4) {
         0 => 0,
         1 => most,
@@ -220,7 +220,7 @@ fn count(dice: &mut Dice, threshold: u32) -> u64 {
     }
 }
 
-fn time_near(dice: &mut Dice, base: u64, duration: u64) -> u64 {
+pub(super) fn time_near(dice: &mut Dice, base: u64, duration: u64) -> u64 {
     match dice.below(8) {
         0 => base,
         1 => base.saturating_sub(duration),
@@ -233,7 +233,7 @@ fn time_near(dice: &mut Dice, base: u64, duration: u64) -> u64 {
 }
 
 /// Some intervals before the base, or some 2^32 of them.
-fn last_refill(dice: &mut Dice, base: u64, interval: u64) -> u64 {
+pub(super) fn last_refill(dice: &mut Dice, base: u64, interval: u64) -> u64 {
     let back = match dice.below(4) {
         0 => interval.saturating_mul(dice.below(6)),
         1 => interval.saturating_mul(1 << 32),

@@ -4,6 +4,7 @@
 
 pub mod amounts;
 pub mod buckets;
+pub mod gossip;
 pub mod peers;
 pub mod traces;
 
@@ -43,9 +44,10 @@ impl Default for List {
 pub type Recorder = fn(&mut dyn Original) -> List;
 
 /// Each list and the crate whose files stdin and stdout it becomes.
-pub const LISTS: [(&str, Recorder); 4] = [
+pub const LISTS: [(&str, Recorder); 5] = [
     ("crates/replay_amounts", amounts::record),
     ("crates/replay_buckets", buckets::record),
     ("crates/replay_peers", peers::record),
     ("crates/replay_traces", traces::record),
+    ("crates/replay_gossip", gossip::record),
 ];
