@@ -3,5 +3,4 @@ pub mod OneOutcome
 pub mod KeyedLaws
 pub mod SoundLaws
 pub mod CallLaws
-pub mod DecisionLaws
 pub mod PeerLaws

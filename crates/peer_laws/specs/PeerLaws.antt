@@ -25,9 +25,8 @@ use Rattle.peer_rows.specs.Rows.{Peers}
 use Rattle.peer_table.specs.Room.{makeRoom}
 use Rattle.peer_table.specs.RoomLaws.{sub-look, sub-makeRoom}
 use Rattle.peer_verdict.specs.Verdict.{overflows}
-use Rattle.peer_message_policy.specs.Policy.{Change, become, Turn, carriedOut, Update, banned, update, entryForUpdate, isBannedChange, disconnectedChange}
+use Rattle.peer_message_policy.specs.Policy.{Change, become, Turn, carriedOut, Update, banned, update, turnOf, entryForUpdate, isBannedChange, disconnectedChange}
 use Rattle.peer_message_policy.specs.Calls.{changedRows}
-use Rattle.peer_laws.specs.SoundLaws.{turnOf}
 
 -- ════ Calls that do not judge the entry ═══════════════════════════════════════════════════════════
 

@@ -19,8 +19,6 @@ use Rattle.table.specs.MemoryLaws.{length-rows}
 use Rattle.peer_settings.specs.declared.config.PeerMessagePolicyConfig.{PeerMessagePolicyConfig}
 use Rattle.peer_state.specs.declared.entry.PeerMessagePolicyEntry.{PeerMessagePolicyEntry}
 use Rattle.peer_state.specs.declared.ingress.FiberIngressBudget.{FiberIngressBudget}
-use Rattle.peer_verdict.specs.declared.verdict.Cause.{Cause}
-use Rattle.peer_verdict.specs.declared.verdict.Cause.the-variants as Cause
 use Rattle.peer_verdict.specs.declared.verdict.Decision.{Decision}
 use Rattle.peer_settings.specs.Config.{limit}
 use Rattle.peer_state.specs.Entry.{entrySound, entryIsBanned, entryIsSpent, entryExpireWindows, entryUsed}
@@ -44,6 +42,7 @@ use Rattle.peer_message_policy.specs.Policy.{
   Update,
   banned,
   update,
+  turnOf,
   entryForUpdate,
   admitUpdated,
   admit,
@@ -167,11 +166,6 @@ module _ (p : PeerMessagePolicy) (s t : List ℕ) (i : FiberIngressBudget) where
   change-leaves change h b load rs m = record { kept = change-kept change h b load rs m; rows = change-rows change m }
 
 -- ════ The turns of admit and record_invalid ═══════════════════════════════════════════════════════
-
--- what both do, with the decision that they make
-abbrev pub turnOf : FiberIngressBudget → List ℕ → (PeerMessagePolicyEntry → Decision) → Update → Turn
-turnOf i k decide banned = record { cause = Cause.LiveBan; ingress = i; change = same }
-turnOf i k decide (update e rs) = carriedOut i k rs (decide e)
 
 module _ (c : PeerMessagePolicyConfig) (i : FiberIngressBudget) (k : List ℕ) where
   admit-turn-by : (size now : ℕ) (u : Update) → admitUpdated c i k size now u ≡ turnOf i k (λ e. judged c i e size now) u

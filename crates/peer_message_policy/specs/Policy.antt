@@ -80,6 +80,11 @@ entryForUpdate c now rs (some e) =
     cond (entryIsBanned e now) banned
     (cond (entryIsSpent e now) (update (entryNew c now) rs) (update e rs))
 
+-- what admit and record_invalid do, each with the decision that it makes; a live ban is answered and changes nothing
+abbrev pub turnOf : FiberIngressBudget → List ℕ → (PeerMessagePolicyEntry → Decision) → Update → Turn
+turnOf i k decide banned = record { cause = Cause.LiveBan; ingress = i; change = same }
+turnOf i k decide (update e rs) = carriedOut i k rs (decide e)
+
 abbrev pub admitUpdated : PeerMessagePolicyConfig → FiberIngressBudget → List ℕ → ℕ → ℕ → Update → Turn
 admitUpdated c i k size now banned = record { cause = Cause.LiveBan; ingress = i; change = same }
 admitUpdated c i k size now (update e rs) = carriedOut i k rs (judged c i e size now)

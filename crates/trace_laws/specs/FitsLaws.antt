@@ -27,10 +27,10 @@ use Rattle.peer_verdict.specs.VerdictLaws.{violated-ways, noted-ways, weighed-w
 use Rattle.peer_rows.specs.Rows.{Peers}
 use Rattle.peer_message_policy.specs.declared.policy.PeerMessagePolicy.{PeerMessagePolicy}
 use Rattle.peer_verdict.specs.Verdict.{overflows}
-use Rattle.peer_message_policy.specs.Policy.{Change, Update, banned, update, carriedOut, entryForUpdate, Turn, admit, recordInvalid, isBanned, isBannedChange}
+use Rattle.peer_message_policy.specs.Policy.{Change, Update, banned, update, turnOf, carriedOut, entryForUpdate, Turn, admit, recordInvalid, isBanned, isBannedChange}
 use Rattle.peer_message_policy.specs.Calls.{policyAfter, admissionTurn, invalidTurn, standingChanged}
 use Rattle.peer_laws.specs.TestLaws.{neither}
-use Rattle.peer_laws.specs.SoundLaws.{turnOf, admit-turn, record-invalid-turn}
+use Rattle.peer_laws.specs.SoundLaws.{admit-turn, record-invalid-turn}
 use Rattle.peer_laws.specs.CallLaws.{of-admission, of-invalid, of-standing}
 use Rattle.trace_lines.specs.declared.settings.Settings.{Settings}
 use Rattle.trace_lines.specs.declared.settings.Settings.the-variants as Settings
