@@ -1,7 +1,7 @@
 -- Fair share over lists of core calls: a peer's Allows are never more than the larger allowance, and a call within the smaller allowance
 -- gets the ceiling's answer; for a peer whose own times never lie before its last use, and so for calls whose times never go back.
 -- Assumes nothing.
-use mathlib.Core.Path.{_≡_, refl, sym, ap, subst, _∙_}
+use mathlib.Core.Path.{_≡_, refl, sym, subst}
 use mathlib.Core.Bool.{true, false}
 use mathlib.Core.List.{List, [], _∷_}
 use mathlib.Core.Option.{Option, none, some}

@@ -2,12 +2,11 @@
 -- logs. In order: what an answer says whatever policy it carries; a turn whatever load it carries; one call; runs. Assumes nothing.
 use mathlib.Core.Path.{_≡_, refl, sym, ap, subst, _∙_}
 use mathlib.Core.Bool.{Bool, true, false, cond}
-use mathlib.Core.List.{List, [], _∷_}
-use mathlib.Core.Option.{Option, none, some}
-use Prim.Native.Nat.{ℕ, _≤_}
-use native.Mathlib.Omega.{arith}
+use mathlib.Core.List.{List, []}
+use mathlib.Core.Option.{Option}
+use Prim.Native.Nat.{ℕ}
 use Rattle.pubkey.specs.declared.Pubkey.{Pubkey}
-use Rattle.refusal.specs.Refusal.{Said, gives, refused}
+use Rattle.refusal.specs.Refusal.{Said}
 use Rattle.table.specs.Table.{look}
 use Rattle.table.specs.Memory.{rows}
 use Rattle.peer_settings.specs.declared.config.PeerMessagePolicyConfig.{PeerMessagePolicyConfig}
@@ -17,26 +16,25 @@ use Rattle.peer_verdict.specs.declared.verdict.Cause.{Cause}
 use Rattle.peer_verdict.specs.declared.verdict.Cause.the-variants as Cause
 use Rattle.peer_verdict.specs.declared.verdict.Decision.{Decision}
 use Rattle.peer_state.specs.Ingress.{tryReserve}
-use Rattle.peer_verdict.specs.Verdict.{judged, judgedInvalid, overflows}
+use Rattle.peer_verdict.specs.Verdict.{overflows}
 use Rattle.peer_rows.specs.Rows.{Peers}
 use Rattle.peer_message_policy.specs.declared.policy.PeerMessagePolicy.{PeerMessagePolicy}
 use Rattle.peer_message_policy.specs.declared.answer.Made.the-variants as Made
-use Rattle.peer_message_policy.specs.declared.answer.Changed.{Changed}
-use Rattle.peer_message_policy.specs.declared.answer.Changed.the-variants as Changed
 use Rattle.peer_message_policy.specs.Policy
-use Rattle.peer_message_policy.specs.Policy.{rowsOf, Change, Turn, carriedOut, Update, banned, update, turnOf, entryForUpdate, isBannedChange, disconnectedChange}
+use Rattle.peer_message_policy.specs.Policy.{rowsOf, Turn, carriedOut, Update, banned, update, turnOf, entryForUpdate, isBannedChange}
 use Rattle.peer_message_policy.specs.Calls.{changedRows, policyAfter, fresh, admissionOf, admissionSays, invalidOf, invalidSays, standingOf, standingSays, changedSays, NewMeets, IsBannedMeets, OnDisconnectedMeets}
 use Rattle.peer_laws.specs.SoundLaws.{admit-turn, record-invalid-turn}
 use Rattle.peer_laws.specs.CallLaws.{admit-answer, record-invalid-answer, is-banned-outcome, on-disconnected-outcome, new-fresh}
 use Rattle.promises.specs.Core as Core
-use Rattle.promises.specs.Core.{CoreCall, idle, admits, notes, turnIn, changeIn, saysIn, after, Sized}
-use Rattle.promises.specs.Trails.{Event, seen, rowsAt, callsOf, trailOf}
+use Rattle.promises.specs.Core.{idle, admits, notes, turnIn, after}
+use Rattle.promises.specs.Trails.{rowsAt, callsOf, trailOf}
 use Rattle.promises.specs.Lives.{logIn}
 use Rattle.promises.specs.Runs.{Call, admit, recordInvalid, isBanned, onDisconnected, releaseIngress, inFlight, heldTime, State, rowsIn, Step, KeyFits, Fits, Run, made, then}
-use Rattle.promises.specs.RunLives.{coreOf, seenIf, trail, coreCalls, logOf}
+use Rattle.promises.specs.RunLives.{coreOf, trail, coreCalls, logOf}
 use Rattle.promises.specs.DecisionLaws.{Alike, judged-alike, judged-invalid-alike}
-use Rattle.promises.specs.CoreRowLaws.{refused-leaves, seen-rows, trail-rows}
-use Rattle.promises.specs.SoundRunLaws.{StateHolds, StateLeaves, admit-left, record-invalid-left, is-banned-left, on-disconnected-left, release-ingress-left, run-holds}
+use Rattle.promises.specs.CoreRowLaws.{trail-rows}
+use Rattle.promises.specs.MirrorLaws.{Mirrors, MirrorsIf, mirrored-rows, mirrored-trail}
+use Rattle.promises.specs.SoundRunLaws.{StateHolds, admit-left, record-invalid-left, is-banned-left, on-disconnected-left, release-ingress-left, run-holds}
 
 -- ════ What an answer says ═════════════════════════════════════════════════════════════════════════
 
@@ -101,16 +99,6 @@ module _ (c : PeerMessagePolicyConfig) (i : FiberIngressBudget) (rs : Peers) (k 
       (turn-alike i idle (k .bytes) (λ e. judged-invalid-alike c i idle now e) (entryForUpdate c now rs (look (k .bytes) rs)))
 
 -- ════ One call ════════════════════════════════════════════════════════════════════════════════════
-
--- from rows to rows, a call says and leaves what the core call does
-pub record Mirrors (c : PeerMessagePolicyConfig) (call : CoreCall) (rs : Peers) (said : Said) (left : Peers) : Type 0 where
-  pub says : said ≡ saysIn c call rs
-  pub rows : left ≡ changedRows rs (changeIn c call rs)
-
--- a call that comes to none leaves the rows
-abbrev pub MirrorsIf : PeerMessagePolicyConfig → Option CoreCall → Peers → Said → Peers → Type 0
-MirrorsIf c none rs said left = left ≡ rs
-MirrorsIf c (some call) rs said left = Mirrors c call rs said left
 
 module _ (s : State) (said : Said) (t : State) where
   abbrev p : PeerMessagePolicy
@@ -191,27 +179,6 @@ step-core {c} s here call said t fits step =
     (own-mirrors s said t (subst (λ x. StateHolds x s) (sym (here .settings)) here) call fits step)
 
 -- ════ Runs ════════════════════════════════════════════════════════════════════════════════════════
-
--- a call more on a trail leads to the rows that it left
-mirrored-rows : (c : PeerMessagePolicyConfig) (core : Option CoreCall) (said : Said) (rs left : Peers) (es : List Event)
-    → MirrorsIf c core rs said left → rowsAt es ≡ rs → rowsAt (seenIf core said left es) ≡ left
-mirrored-rows c none said rs left es m leads = leads ∙ sym m
-mirrored-rows c (some call) said rs left es m leads =
-    seen-rows call said left es
-    (λ n e. leads ∙ sym (refused-leaves c rs call (sym (m .says) ∙ e)) ∙ sym (m .rows))
-
--- a call more on the trail of core calls is the core call more
-mirrored-trail : (c : PeerMessagePolicyConfig) (core : Option CoreCall) (said : Said) (left : Peers) (es : List Event)
-    → es ≡ trailOf c (callsOf es) → MirrorsIf c core (after c (callsOf es)) said left
-    → seenIf core said left es ≡ trailOf c (callsOf (seenIf core said left es))
-unfolding callsOf trailOf after
-mirrored-trail c none said left es e m = e
-mirrored-trail c (some call) (refused n) left es e m = e
-mirrored-trail c (some call) (gives xs) left es e m =
-    let add : Said → Peers → List Event → List Event = λ said rs es. seen call said rs es in
-    ap (add (gives xs) left) e
-    ∙ ap (λ rs. add (gives xs) rs (trailOf c (callsOf es))) (m .rows)
-    ∙ ap (λ said. add said (changedRows (after c (callsOf es)) (changeIn c call (after c (callsOf es)))) (trailOf c (callsOf es))) (m .says)
 
 -- a fresh policy has no row
 made-rows : (c : PeerMessagePolicyConfig) (before left : List ℕ) (q : PeerMessagePolicy) → NewMeets c before (Made.Policy q) left

@@ -1,7 +1,7 @@
 -- Fair share, for one core call on rows: a call within the smaller allowance gets the ceiling's answer, and every call that is not
 -- refused keeps a peer's entry fair to the log of its life. In order: the invariant; the entry that a call lands on; the lower bound;
 -- what an own call leaves; what any call leaves. Assumes nothing.
-use mathlib.Core.Path.{_≡_, refl, sym, ap, subst, _∙_}
+use mathlib.Core.Path.{_≡_, refl, sym, ap, subst, subst₂, _∙_}
 use mathlib.Core.Bool.{true, false}
 use mathlib.Core.List.{List, [], _∷_}
 use mathlib.Core.Logic.{_⊎_, inl, inr, ⊎-elim}
@@ -136,10 +136,8 @@ module _ (c : PeerMessagePolicyConfig) (fits : ConfigFits c) where
       allowed-fair q =
           let d = decided c idle e size now room in
           let a = d .allowed q in
-          rw (a .messages, a .bytes, d .used) (
-            fair-allow c fits (e .messages) (e .bytes) log size now size-fits (ready .0) (ready .1) (a .message-there) (a .bytes-there),
-            omega arith,
-          )
+          let charged = fair-allow c fits (e .messages) (e .bytes) log size now size-fits (ready .0) (ready .1) (a .message-there) (a .bytes-there) in
+          (subst₂ (λ m b. Fair c m b (asked ∷ log)) (sym (a .messages)) (sym (a .bytes)) charged, omega (arith, d .used))
 
       -- any other decision leaves the buckets
       other-fair : NotAllowed (admits c size now room e .cause) → EntryFair c (some (admits c size now room e .entry)) log

@@ -1,39 +1,32 @@
 -- Fair share over runs of the calls on lent memory, by way of their core calls: for a peer whose own times never lie before its last use
 -- (Shielded), and for runs whose times never go back (Ordered). Assumes nothing.
-use mathlib.Core.Path.{_≡_, refl, sym, ap, subst, _∙_}
-use mathlib.Core.Bool.{false}
-use mathlib.Core.List.{List, [], _∷_}
+use mathlib.Core.Path.{_≡_, refl, sym, subst, _∙_}
+use mathlib.Core.List.{List, _∷_}
 use mathlib.Core.Option.{Option, none, some}
 use Prim.Native.Nat.{ℕ, _≤_}
 use native.Mathlib.Nat.{le-trans}
 use native.Mathlib.Omega.{arith}
 use Rattle.pubkey.specs.declared.Pubkey.{Pubkey}
 use Rattle.refusal.specs.Refusal.{Said, gives, refused}
-use Rattle.table.specs.Table.{look}
 use Rattle.peer_settings.specs.declared.config.PeerMessagePolicyConfig.{PeerMessagePolicyConfig}
 use Rattle.peer_state.specs.declared.ingress.Room.{Room}
 use Rattle.peer_state.specs.declared.ingress.Room.the-variants as Room
 use Rattle.peer_settings.specs.Fits.{ConfigFits}
 use Rattle.peer_state.specs.Ingress.{tryReserve}
 use Rattle.peer_rows.specs.Rows.{Peers}
-use Rattle.peer_message_policy.specs.Policy as Policy
 use Rattle.peer_message_policy.specs.Calls.{ban}
 use Rattle.promises.specs.Core as Core
-use Rattle.promises.specs.Core.{CoreCall, saysIn, after, Timely, SizeFits, Sized}
-use Rattle.promises.specs.Trails.{Event, seen, rowsAt, callsOf, trailOf}
-use Rattle.promises.specs.Lives.{logFor, logIn, lastUsed, ShieldedIn, AtMost, Within, ceilingSays}
+use Rattle.promises.specs.Core.{CoreCall, after, Timely, Sized}
+use Rattle.promises.specs.Trails.{Event, seenIf, callsOf}
+use Rattle.promises.specs.Lives.{lastUsed, ShieldedIn, AtMost, ceilingSays}
 use Rattle.promises.specs.Runs.{Call, admit, recordInvalid, isBanned, onDisconnected, releaseIngress, inFlight, heldTime, State, rowsIn, Step, Fits, Run, made, then}
-use Rattle.promises.specs.RunLives.{entryIn, coreOf, seenIf, trail, coreCalls, logOf, Shielded, timeOf, latestOf, latest, notBefore, Ordered, Entitled, Shield}
+use Rattle.promises.specs.RunLives.{entryIn, coreOf, trail, coreCalls, logOf, Shielded, timeOf, latestOf, latest, notBefore, Ordered, Entitled, Shield}
 use Rattle.promises.specs.CoreLaws as CoreLaws
 use Rattle.promises.specs.SoundRunLaws.{run-holds}
-use Rattle.promises.specs.CoreRunLaws.{step-core, runs-core, rows-core, logs-core}
+use Rattle.promises.specs.CoreRunLaws.{step-core, runs-core, run-rows, rows-core}
+use Rattle.promises.specs.MirrorLaws.{SizeFitsIf, seen-sized, trail-most, trail-least}
 
 -- ════ Sizes ═══════════════════════════════════════════════════════════════════════════════════════
-
--- what the machine gives of a call's size
-abbrev SizeFitsIf : Option CoreCall → Type 0
-SizeFitsIf none = Unit {0}
-SizeFitsIf (some call) = SizeFits call
 
 call-sized : (c : PeerMessagePolicyConfig) (s : State) (call : Call) → Fits call → SizeFitsIf (coreOf c s call)
 call-sized c s (admit k size now) fits = fits .1
@@ -44,13 +37,6 @@ call-sized c s (releaseIngress bytes) fits = tt
 call-sized c s inFlight fits = tt
 call-sized c s (heldTime k given) fits = tt
 
-seen-sized : (core : Option CoreCall) (said : Said) (rs : Peers) (es : List Event) → SizeFitsIf core → Sized (callsOf es)
-    → Sized (callsOf (seenIf core said rs es))
-unfolding Sized callsOf
-seen-sized none said rs es h k = k
-seen-sized (some call) (gives xs) rs es h k = (h, k)
-seen-sized (some call) (refused n) rs es h k = k
-
 run-sized : {c : PeerMessagePolicyConfig} {h : List Call} {s : State} (run : Run c h s) → Sized (coreCalls run)
 unfolding trail Sized callsOf
 run-sized (made before left p b m) = tt
@@ -60,31 +46,17 @@ run-sized {c} (then {h} {s} call said t run fits step) =
 -- ════ A shielded peer ═════════════════════════════════════════════════════════════════════════════
 
 module _ {c : PeerMessagePolicyConfig} (fits : ConfigFits c) (k : Pubkey) {h : List Call} {s : State} (run : Run c h s) (shield : Shielded k run) where
-  core-shielded : ShieldedIn k (trailOf c (coreCalls run))
-  core-shielded = subst (ShieldedIn k) (runs-core run) shield
-
   -- a peer gets no more than the larger allowance
   pub shielded-most : AtMost c (logOf k run)
-  shielded-most = rw (logs-core k run) (CoreLaws.most fits k (coreCalls run) (run-sized run) core-shielded)
+  shielded-most = trail-most fits k (trail run) (runs-core run) (run-sized run) shield
 
   -- a call within the smaller allowance gets the ceiling's answer
   pub shielded-least : (size now : ℕ) → lastUsed (entryIn s k) ≤ now → Entitled run k size now → (said : Said) (t : State)
       → Step s (admit k size now) said t → said ≡ ceilingSays (tryReserve c (s .policy .ingress) size)
   shielded-least size now used entitled said t step =
-      let room : Room = tryReserve c (s .policy .ingress) size in
-      let m = step-core s (run-holds run) (admit k size now) said t (entitled .fits) step in
-      let H : List CoreCall = coreCalls run in
-      let not-before : lastUsed (look (k .bytes) (after c H)) ≤ now = subst (λ (rs : Peers). lastUsed (look (k .bytes) rs) ≤ now) (rows-core run) used in
-      let free : Policy.isBanned (look (k .bytes) (after c H)) now ≡ false =
-      subst (λ (rs : Peers). Policy.isBanned (look (k .bytes) rs) now ≡ false) (rows-core run) (entitled .not-banned)
-      in
-      let within : Within c now size (logFor (look (k .bytes) (after c H)) now (logIn k (trailOf c H))) =
-      subst (λ log. Within c now size (logFor (look (k .bytes) (after c H)) now log)) (logs-core k run)
-      (subst (λ (rs : Peers). Within c now size (logFor (look (k .bytes) rs) now (logOf k run))) (rows-core run) (entitled .within))
-      in
-      m .says
-      ∙ ap (saysIn c (Core.admit k size now room)) (rows-core run)
-      ∙ CoreLaws.least fits k H (run-sized run) core-shielded size now (entitled .fits .1) not-before free within room
+      step-core s (run-holds run) (admit k size now) said t (entitled .fits) step .says
+      ∙ trail-least fits k (trail run) (runs-core run) (run-sized run) shield (rowsIn s) (run-rows run) size now (entitled .fits .1) used
+      (entitled .not-banned) (entitled .within) (tryReserve c (s .policy .ingress) size)
 
   pub shielded-both : Shield k run
   shielded-both = record { upper = shielded-most; lower = shielded-least }

@@ -17,10 +17,10 @@ use Rattle.peer_message_policy.specs.Policy
 use Rattle.peer_message_policy.specs.Policy.{sound}
 use Rattle.peer_laws.specs.CallLaws.{held-time-answer}
 use Rattle.promises.specs.Core.{CoreCall}
-use Rattle.promises.specs.Trails.{Event, rowsAt}
+use Rattle.promises.specs.Trails.{Event, seenIf, rowsAt}
 use Rattle.promises.specs.Lives.{Part, message, invalid, neither, partOf, OwnTime, lastUsed, ShieldedIn}
 use Rattle.promises.specs.Runs.{Call, State, rowsIn, Run, made, then}
-use Rattle.promises.specs.RunLives.{entryIn, coreOf, seenIf, trail, Shielded}
+use Rattle.promises.specs.RunLives.{entryIn, coreOf, trail, Shielded}
 use Rattle.promises.specs.Held.{Answered, heldOwn, Held, HeldShield}
 use Rattle.promises.specs.SoundRunLaws.{run-sound}
 use Rattle.promises.specs.CoreRunLaws.{run-rows}

@@ -4,6 +4,7 @@ pub mod Lives
 pub mod Runs
 pub mod RunLives
 pub mod Held
+pub mod Example
 pub mod BucketLaws
 pub mod MessageLaws
 pub mod ByteLaws
@@ -13,6 +14,7 @@ pub mod DecisionLaws
 pub mod CoreStepLaws
 pub mod CoreRowLaws
 pub mod CoreLaws
+pub mod MirrorLaws
 pub mod SoundRunLaws
 pub mod CoreRunLaws
 pub mod FairRunLaws
@@ -21,3 +23,4 @@ pub mod Samples
 pub mod SamplesLaws
 pub mod Promises
 pub mod UnboundedLaws
+pub mod ExampleLaws

@@ -11,11 +11,10 @@ use Rattle.table.specs.Table.{look}
 use Rattle.peer_settings.specs.declared.config.PeerMessagePolicyConfig.{PeerMessagePolicyConfig}
 use Rattle.peer_state.specs.declared.entry.PeerMessagePolicyEntry.{PeerMessagePolicyEntry}
 use Rattle.peer_state.specs.Ingress.{tryReserve}
-use Rattle.peer_rows.specs.Rows.{Peers}
 use Rattle.peer_message_policy.specs.Policy as Policy
 use Rattle.promises.specs.Core as Core
 use Rattle.promises.specs.Core.{CoreCall}
-use Rattle.promises.specs.Trails.{Event, seen, callsOf}
+use Rattle.promises.specs.Trails.{Event, seenIf, callsOf}
 use Rattle.promises.specs.Lives.{Allow, logIn, logFor, lastUsed, ShieldedIn, AtMost, Within, ceilingSays}
 use Rattle.promises.specs.Runs.{Call, admit, recordInvalid, isBanned, onDisconnected, releaseIngress, inFlight, heldTime, State, rowsIn, Step, Fits, Run, made, then}
 
@@ -34,10 +33,6 @@ coreOf c s (onDisconnected k now) = some (Core.onDisconnected k now)
 coreOf c s (releaseIngress bytes) = none
 coreOf c s inFlight = none
 coreOf c s (heldTime k given) = none
-
-abbrev pub seenIf : Option CoreCall → Said → Peers → List Event → List Event
-seenIf none said rs es = es
-seenIf (some call) said rs es = seen call said rs es
 
 module _ {c : PeerMessagePolicyConfig} where
   -- each call of a run that was not refused, with what it said and the rows that it left in lent memory

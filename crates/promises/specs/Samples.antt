@@ -1,18 +1,16 @@
 -- Samples A to F, I and J of document 01, run on the definitions: what the steps of each say, and what the document says that
 -- they say. Definitions only; that the two agree is `Promises.samples`.
 use mathlib.Core.Path.{_≡_}
-use mathlib.Core.Bool.{Bool, true, false, cond}
-use mathlib.Core.List.{List, [], _∷_, _++_}
+use mathlib.Core.List.{List, [], _∷_}
 use Prim.Native.Nat.{ℕ}
 use lib.ListN.{getD, replicate}
-use Rattle.refusal.specs.Refusal.{Said, gives, refused}
+use Rattle.refusal.specs.Refusal.{Said, gives}
 use Rattle.bucket_discrete.specs.declared.discrete.DiscreteTokenBucket.{DiscreteTokenBucket}
 use Rattle.bucket_bytes.specs.declared.bytes.ByteTokenBucket.{ByteTokenBucket}
 use Rattle.bucket_terms.specs.Answers.{consumedSays, delaySays, toldSays, told}
 use Rattle.bucket_terms.specs.Limit.{byteLimit}
 use Rattle.bucket_discrete.specs.DiscreteBucket.{discreteNew, discreteTryConsume}
 use Rattle.bucket_bytes.specs.ByteBucket.{byteNew, byteTryConsume, byteReserve, byteHasDebt}
-use Rattle.table.specs.Table.{Row}
 use Rattle.peer_settings.specs.declared.config.PeerMessagePolicyConfig.{PeerMessagePolicyConfig}
 use Rattle.peer_state.specs.declared.entry.ViolationWindow.{ViolationWindow}
 use Rattle.peer_state.specs.declared.ingress.FiberIngressBudget.{FiberIngressBudget}

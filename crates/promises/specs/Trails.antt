@@ -1,6 +1,7 @@
 -- Trails: what is seen of calls from outside, whoever made them: each call that was not refused, with what it said and the rows that
 -- it left. Definitions only.
 use mathlib.Core.List.{List, [], _∷_}
+use mathlib.Core.Option.{Option, none, some}
 use Rattle.refusal.specs.Refusal.{Said, gives, refused}
 use Rattle.peer_settings.specs.declared.config.PeerMessagePolicyConfig.{PeerMessagePolicyConfig}
 use Rattle.peer_rows.specs.Rows.{Peers}
@@ -16,6 +17,11 @@ pub record Event : Type 0 where
 abbrev pub seen : CoreCall → Said → Peers → List Event → List Event
 seen call (gives xs) rs es = record { call = call; said = gives xs; rows = rs } ∷ es
 seen call (refused n) rs es = es
+
+-- the same, where there is a call
+abbrev pub seenIf : Option CoreCall → Said → Peers → List Event → List Event
+seenIf none said rs es = es
+seenIf (some call) said rs es = seen call said rs es
 
 -- the rows that a trail leads to, from none
 abbrev pub rowsAt : List Event → Peers

@@ -1,6 +1,6 @@
 -- What the upper bound does not bound: it holds for one life of an entry, and lives end. Two small runs that compute. Assumes nothing.
 use mathlib.Core.Path.{_≡_, refl}
-use mathlib.Core.List.{List, [], _∷_}
+use mathlib.Core.List.{[], _∷_}
 use Prim.Native.Nat.{ℕ}
 use Rattle.amount.specs.Amount.{amountOf, value, saturated}
 use Rattle.refusal.specs.Refusal.{gives}
