@@ -20,6 +20,8 @@ use Rattle.peer_state.specs.declared.entry.PeerMessagePolicyEntry.{PeerMessageP
 use Rattle.peer_state.specs.declared.ingress.FiberIngressBudget.{FiberIngressBudget}
 use Rattle.peer_verdict.specs.declared.verdict.Cause.{Cause}
 use Rattle.peer_verdict.specs.declared.verdict.Cause.the-variants as Cause
+use Rattle.peer_verdict.specs.declared.verdict.InvalidCause.{InvalidCause}
+use Rattle.peer_verdict.specs.declared.verdict.InvalidCause.the-variants as InvalidCause
 use Rattle.peer_settings.specs.Config.{limit}
 use Rattle.peer_state.specs.Ingress.{inFlight, ingressReleased, ingressSound}
 use Rattle.peer_state.specs.IngressLaws.{released-sound, within-sound}
@@ -98,6 +100,7 @@ use Rattle.peer_laws.specs.SoundLaws.{
   change-leaves,
   TurnHolds,
   admit-holds,
+  admit-undone,
   record-invalid-holds,
   is-banned-holds,
   disconnected-holds,
@@ -190,15 +193,10 @@ module _ (p : PeerMessagePolicy) (P : PeerMessagePolicy → Type 0) where
     of-admission Cause.BanBegun h undone = h
     of-admission Cause.Overflow h undone = undone refl
 
-    pub of-invalid : (cause : Cause) → P q → OfInvalid (invalidOf q cause)
-    of-invalid Cause.Allowed h = h
-    of-invalid Cause.MessagesShort h = h
-    of-invalid (Cause.BytesShort k) h = h
-    of-invalid Cause.NoSlot h = h
-    of-invalid (Cause.CeilingShort k) h = h
-    of-invalid Cause.LiveBan h = h
-    of-invalid Cause.BanBegun h = h
-    of-invalid Cause.Overflow h = h
+    pub of-invalid : (cause : InvalidCause) → P q → OfInvalid (invalidOf q cause)
+    of-invalid InvalidCause.Noted h = h
+    of-invalid InvalidCause.LiveBan h = h
+    of-invalid InvalidCause.BanBegun h = h
 
     pub of-standing : (b : Bool) → P q → OfStanding (standingOf b q)
     of-standing true h = h
@@ -223,25 +221,27 @@ module _ (p : PeerMessagePolicy) (s : List ℕ) (h : sound p s ≡ true) (b : By
       → OfAdmission p (λ q. Leaves p s (admit (p .config) (p .ingress) (rowsOf p s) (k .bytes) size now .change) q t) r
   unfolding AdmitMeets
   admit-leaves size now r t m =
-      let turn : Turn = admit (p .config) (p .ingress) (rowsOf p s) (k .bytes) size now in
+      let turn : Turn Cause = admit (p .config) (p .ingress) (rowsOf p s) (k .bytes) size now in
       let q : PeerMessagePolicy = policyAfter p (turn .ingress) (turn .change) in
       let P : PeerMessagePolicy → Type 0 = λ x. Leaves p s (turn .change) x t in
-      let holds : TurnHolds (p .config) (p .ingress) turn =
+      let holds : TurnHolds (p .config) turn =
       admit-holds (p .config) (p .ingress) (policy-holds p s h .own .load) (k .bytes) (rowsOf p s) key rows-here size now
       in
       meets-by (OfAdmission p P) m (admit-outcome p s h k size now)
       (λ memory.
       let after : P q = leaves-by (turn .ingress) (turn .change) t (holds .load) (holds .rows) memory in
       of-admission p P q (turn .cause) after
-      (λ o. subst₂ (λ i change. P (policyAfter p i change)) (holds .undone o .0) (holds .undone o .1) after))
+      (λ o.
+      let undone = admit-undone (p .config) (p .ingress) (k .bytes) size now (rowsOf p s) o in
+      subst₂ (λ i change. P (policyAfter p i change)) (undone .0) (undone .1) after))
 
   pub record-invalid-leaves : (now : ℕ) (r : Invalid) (t : List ℕ) → RecordInvalidMeets p s k now r t
       → OfInvalid p (λ q. Leaves p s (recordInvalid (p .config) (p .ingress) (rowsOf p s) (k .bytes) now .change) q t) r
   unfolding RecordInvalidMeets
   record-invalid-leaves now r t m =
-      let turn : Turn = recordInvalid (p .config) (p .ingress) (rowsOf p s) (k .bytes) now in
+      let turn : Turn InvalidCause = recordInvalid (p .config) (p .ingress) (rowsOf p s) (k .bytes) now in
       let P : PeerMessagePolicy → Type 0 = λ x. Leaves p s (turn .change) x t in
-      let holds : TurnHolds (p .config) (p .ingress) turn =
+      let holds : TurnHolds (p .config) turn =
       record-invalid-holds (p .config) (p .ingress) (policy-holds p s h .own .load) (k .bytes) (rowsOf p s) key rows-here now
       in
       meets-by (OfInvalid p P) m (record-invalid-outcome p s h k now)

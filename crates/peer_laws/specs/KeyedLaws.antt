@@ -2,7 +2,7 @@
 -- Assumes nothing.
 use mathlib.Core.Path.{_≡_, refl}
 use mathlib.Core.List.{List, [], _∷_, _++_}
-use Prim.Native.Nat.{ℕ, zero, suc, _+_, _-_, _*_, _≤_}
+use Prim.Native.Nat.{ℕ, zero, suc, _+_, _-_, _*_, _≤_, max}
 use native.Mathlib.Omega.{arith}
 use lib.ListN.{length, take, drop, length-append, length-drop}
 use lib.Seq.{length-take-le}
@@ -86,14 +86,14 @@ module _ (s : List ℕ) (n : ℕ) (rs : Peers) (keys : Keyed rs) where
   unfolding laid
   length-laid-keyed h k =
       let freed : List ℕ = zeros (121 * (n - length rs)) in
-      let behind : List ℕ = drop (121 * (n + (length rs - n))) s in
+      let behind : List ℕ = drop (121 * max n (length rs)) s in
       omega (
         arith,
         length-append (tableBytes peerLayout rs) (freed ++ behind),
         length-append freed behind,
         length-table rs keys,
         length-zeros (121 * (n - length rs)),
-        length-drop (121 * (n + (length rs - n))) s,
+        length-drop (121 * max n (length rs)) s,
       )
 
   -- memory holds bytes
@@ -101,6 +101,6 @@ module _ (s : List ℕ) (n : ℕ) (rs : Peers) (keys : Keyed rs) where
   unfolding laid
   bytes-laid-keyed b =
       let freed : List ℕ = zeros (121 * (n - length rs)) in
-      let behind : List ℕ = drop (121 * (n + (length rs - n))) s in
+      let behind : List ℕ = drop (121 * max n (length rs)) s in
       Bytes-append (tableBytes peerLayout rs) (freed ++ behind) (bytes-table rs keys)
-      (Bytes-append freed behind (Bytes-zeros (121 * (n - length rs))) (Bytes-drop (121 * (n + (length rs - n))) s b))
+      (Bytes-append freed behind (Bytes-zeros (121 * (n - length rs))) (Bytes-drop (121 * max n (length rs)) s b))

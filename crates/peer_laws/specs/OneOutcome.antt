@@ -5,6 +5,7 @@ use mathlib.Core.List.{List}
 use Prim.Native.Nat.{ℕ}
 use Rattle.pubkey.specs.declared.Pubkey.{Pubkey}
 use Rattle.refusal.specs.OneOutcome.{one-outcome}
+use Rattle.table.specs.OutcomeLaws.{one-meets}
 use Rattle.peer_settings.specs.declared.config.PeerMessagePolicyConfig.{PeerMessagePolicyConfig}
 use Rattle.peer_message_policy.specs.declared.policy.PeerMessagePolicy.{PeerMessagePolicy}
 use Rattle.peer_message_policy.specs.declared.answer.Made.{Made}
@@ -14,23 +15,7 @@ use Rattle.peer_message_policy.specs.declared.answer.Standing.{Standing}
 use Rattle.peer_message_policy.specs.declared.answer.Changed.{Changed}
 use Rattle.peer_message_policy.specs.declared.answer.InFlight.{InFlight}
 use Rattle.peer_message_policy.specs.declared.answer.HeldTime.{HeldTime}
-use Rattle.peer_message_policy.specs.Policy.{Change, same, become}
-use Rattle.peer_message_policy.specs.Calls.{Memory, Outcome, Meets}
 use Rattle.peer_message_policy.specs.Calls.{NewMeets, AdmitMeets, RecordInvalidMeets, IsBannedMeets, OnDisconnectedMeets, ReleaseIngressMeets, InFlightMeets, HeldTimeMeets}
-
--- ════ The shared lemma ════════════════════════════════════════════════════════════════════════════
-
--- a change leaves one memory
-one-memory : (before : List ℕ) {first second : List ℕ} (n : ℕ) (change : Change) → Memory before first n change
-    → Memory before second n change → first ≡ second
-one-memory before n same h k = one-outcome h k
-one-memory before n (become rs) h k = one-outcome (h .memory) (k .memory)
-
--- an outcome has one answer and leaves one memory
-pub one-meets : {A : Type 0} {a b : A} {before first second : List ℕ} {n : ℕ} {o : Outcome A} → Meets a before first n o
-    → Meets b before second n o → (a ≡ b) × (first ≡ second)
-one-meets {before} {n} {o = o} h k =
-    (one-outcome (h .answers) (k .answers), one-memory before n (o .change) (h .leaves) (k .leaves))
 
 -- ════ The calls that memory is lent to ════════════════════════════════════════════════════════════
 

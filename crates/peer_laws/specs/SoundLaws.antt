@@ -1,7 +1,7 @@
 -- Laws of soundness, on settings, rows and changes: soundness part by part; what a change of the rows must keep, so that the policy after
--- it is sound; and that each call's change keeps it. The calls themselves are in `CallLaws`. Assumes nothing.
-use mathlib.Core.Path.{_≡_, refl, sym, ap, _∙_}
-use mathlib.Core.Bool.{Bool, true, and-eq-true-iff}
+-- it is sound; that each call's change keeps it; and that refusal 4 undoes everything. The calls themselves are in `CallLaws`. Assumes nothing.
+use mathlib.Core.Path.{_≡_, refl, ap, _∙_}
+use mathlib.Core.Bool.{true, and-eq-true-iff}
 use mathlib.Core.List.{List, [], _∷_}
 use mathlib.Core.Option.{Option, none, some}
 use Prim.Native.Nat.{ℕ, _*_, _≤_}
@@ -9,24 +9,26 @@ use native.Mathlib.Omega.{arith}
 use borrow.Author.Tests.{leb-true, le-leb}
 use lib.ListN.{length}
 use Rattle.lent_bytes.specs.LentBytes.{Bytes}
-use Rattle.pubkey.specs.Order.{compareBytes}
-use Rattle.table.specs.Table.{Row, every, ascending, look, store}
-use Rattle.table.specs.TableLaws.{by-answer, true-is-not-false, every-parts, every-store, ascending-store, Sub, sub-every, sub-ascending, sub-length, sub-erase}
-use Rattle.table.specs.LookLaws.{look-before, look-first, look-later, look-below, some-is-not-none}
+use Rattle.table.specs.Table.{every, ascending, look, store}
+use Rattle.table.specs.TableLaws.{true-is-not-false, every-store, ascending-store, Sub, sub-every, sub-ascending, sub-length, sub-erase}
+use Rattle.table.specs.LookLaws.{look-rule}
 use Rattle.table.specs.PlaceLaws.{length-store-some, length-store-none}
 use Rattle.table.specs.Memory.{rows}
 use Rattle.table.specs.MemoryLaws.{length-rows}
 use Rattle.peer_settings.specs.declared.config.PeerMessagePolicyConfig.{PeerMessagePolicyConfig}
 use Rattle.peer_state.specs.declared.entry.PeerMessagePolicyEntry.{PeerMessagePolicyEntry}
 use Rattle.peer_state.specs.declared.ingress.FiberIngressBudget.{FiberIngressBudget}
+use Rattle.peer_verdict.specs.declared.verdict.Cause.{Cause}
+use Rattle.peer_verdict.specs.declared.verdict.Cause.the-variants as Cause
 use Rattle.peer_verdict.specs.declared.verdict.Decision.{Decision}
+use Rattle.peer_verdict.specs.declared.verdict.InvalidCause.the-variants as InvalidCause
 use Rattle.peer_settings.specs.Config.{limit}
-use Rattle.peer_state.specs.Entry.{entrySound, entryIsBanned, entryIsSpent, entryExpireWindows, entryUsed}
+use Rattle.peer_state.specs.Entry.{entrySound, entryIsBanned, entryIsSpent, entryExpireWindows}
 use Rattle.peer_state.specs.EntryLaws.{chosen, new-sound, expire-sound}
 use Rattle.peer_state.specs.Ingress.{ingressSound}
 use Rattle.peer_verdict.specs.Verdict.{judged, judgedInvalid, overflows}
-use Rattle.peer_verdict.specs.VerdictLaws.{judged-sound, judged-invalid-sound, judged-load, noted-ways}
-use Rattle.peer_rows.specs.Rows.{Peers, peerLayout}
+use Rattle.peer_verdict.specs.VerdictLaws.{judged-sound, judged-invalid-sound, judged-load}
+use Rattle.peer_rows.specs.Rows.{Peers, peerLayout, peerSound}
 use Rattle.peer_table.specs.Room.{makeRoom}
 use Rattle.peer_table.specs.RoomLaws.{sub-makeRoom, room-for-one, look-makeRoom-none}
 use Rattle.peer_message_policy.specs.declared.policy.PeerMessagePolicy.{PeerMessagePolicy}
@@ -42,16 +44,16 @@ use Rattle.peer_message_policy.specs.Policy.{
   Update,
   banned,
   update,
-  turnOf,
   entryForUpdate,
-  admitUpdated,
+  turnOf,
   admit,
-  invalidUpdated,
+  notedDown,
   recordInvalid,
   isBannedChange,
   disconnectedChange,
 }
 use Rattle.peer_message_policy.specs.Calls.{Memory, changedRows, policyAfter}
+use Rattle.peer_message_policy.specs.UpdateLaws.{spent-in-place}
 use Rattle.peer_laws.specs.KeyedLaws.{Key, Keyed, keyed-rows, keyed-sub, keyed-store, length-laid-keyed, bytes-laid-keyed}
 
 -- ════ Soundness, part by part ═════════════════════════════════════════════════════════════════════
@@ -76,7 +78,7 @@ holds-record p h = rw (le-leb _ _ (h .tracked), le-leb _ _ (h .few)) (h .load)
 -- rules and order of rows, no more than the limit, each under a key of 33 bytes
 pub record RowsHold (c : PeerMessagePolicyConfig) (rs : Peers) : Type 0 where
   pub few : length rs ≤ limit c
-  pub rules : every (entrySound c) rs ≡ true
+  pub rules : every (peerSound c) rs ≡ true
   pub order : ascending rs ≡ true
   pub keyed : Keyed rs
 
@@ -84,7 +86,7 @@ pub record RowsHold (c : PeerMessagePolicyConfig) (rs : Peers) : Type 0 where
 pub record PolicyHolds (p : PeerMessagePolicy) (s : List ℕ) : Type 0 where
   pub own : RecordHolds p
   pub long : 121 * limit (p .config) ≤ length s
-  pub rules : every (entrySound (p .config)) (rowsOf p s) ≡ true
+  pub rules : every (peerSound (p .config)) (rowsOf p s) ≡ true
   pub order : ascending (rowsOf p s) ≡ true
 
 pub policy-holds : (p : PeerMessagePolicy) (s : List ℕ) → sound p s ≡ true → PolicyHolds p s
@@ -148,7 +150,7 @@ module _ (p : PeerMessagePolicy) (s t : List ℕ) (i : FiberIngressBudget) where
             holds-policy q t (record {
               own = own;
               long = omega (arith, h .long);
-              rules = ap (every (entrySound c)) (m .reads) ∙ r .rules;
+              rules = ap (every (peerSound c)) (m .reads) ∙ r .rules;
               order = ap ascending (m .reads) ∙ r .order;
             });
         same-length = same-length;
@@ -165,39 +167,7 @@ module _ (p : PeerMessagePolicy) (s t : List ℕ) (i : FiberIngressBudget) where
       → Memory s t (p .rows) change → Leaves p s change (policyAfter p i change) t
   change-leaves change h b load rs m = record { kept = change-kept change h b load rs m; rows = change-rows change m }
 
--- ════ The turns of admit and record_invalid ═══════════════════════════════════════════════════════
-
-module _ (c : PeerMessagePolicyConfig) (i : FiberIngressBudget) (k : List ℕ) where
-  admit-turn-by : (size now : ℕ) (u : Update) → admitUpdated c i k size now u ≡ turnOf i k (λ e. judged c i e size now) u
-  admit-turn-by size now banned = refl
-  admit-turn-by size now (update e rs) = refl
-
-  pub admit-turn : (rs : Peers) (size now : ℕ)
-      → admit c i rs k size now ≡ turnOf i k (λ e. judged c i e size now) (entryForUpdate c now rs (look k rs))
-  unfolding admit
-  admit-turn rs size now = admit-turn-by size now (entryForUpdate c now rs (look k rs))
-
-  invalid-turn-by : (now : ℕ) (u : Update) → invalidUpdated c i k now u ≡ turnOf i k (λ e. judgedInvalid c i e now) u
-  invalid-turn-by now banned = refl
-  invalid-turn-by now (update e rs) = refl
-
-  pub record-invalid-turn : (rs : Peers) (now : ℕ)
-      → recordInvalid c i rs k now ≡ turnOf i k (λ e. judgedInvalid c i e now) (entryForUpdate c now rs (look k rs))
-  unfolding recordInvalid
-  record-invalid-turn rs now = invalid-turn-by now (entryForUpdate c now rs (look k rs))
-
 -- ════ What each call's change keeps ═══════════════════════════════════════════════════════════════
-
--- what is found keeps what rule all rows keep
-pub look-rule : {A : Type 0} (rule : A → Bool) (k : List ℕ) (rs : List (Row A)) {e : A} → every rule rs ≡ true → look k rs ≡ some e
-    → rule e ≡ true
-look-rule rule k [] h found = absurd (some-is-not-none found (look-below k [] refl))
-look-rule rule k (r ∷ rs) {e} h found =
-    let parts = every-parts rule r rs h in
-    by-answer (compareBytes k (r .key))
-    (λ o. absurd (some-is-not-none found (look-before k r rs o)))
-    (λ o. let z : r .entry ≡ e = cc (look-first k r rs o) in rw (← z) (parts .0))
-    (λ o. look-rule rule k rs (parts .1) (sym (look-later k r rs o) ∙ found))
 
 module _ (c : PeerMessagePolicyConfig) where
   -- rows left
@@ -205,7 +175,7 @@ module _ (c : PeerMessagePolicyConfig) where
   sub-hold s h =
       record {
         few = omega (arith, sub-length s, h .few);
-        rules = sub-every (entrySound c) s (h .rules);
+        rules = sub-every (peerSound c) s (h .rules);
         order = sub-ascending s (h .order);
         keyed = keyed-sub s (h .keyed);
       }
@@ -216,7 +186,7 @@ module _ (c : PeerMessagePolicyConfig) where
   store-hold k e rs key sound-entry h room =
       record {
         few = room;
-        rules = every-store k e (entrySound c) rs sound-entry (h .rules);
+        rules = every-store k e (peerSound c) rs sound-entry (h .rules);
         order = ascending-store k e rs (h .order);
         keyed = keyed-store k e rs key (h .keyed);
       }
@@ -229,7 +199,7 @@ module _ (c : PeerMessagePolicyConfig) where
 
   module _ (now : ℕ) (k : List ℕ) (rs : Peers) (key : Key k) (h : RowsHold c rs) where
     -- the same, by what is found
-    for-update-by : (found : Option PeerMessagePolicyEntry) → look k rs ≡ found → UpdateHolds k (entryForUpdate c now rs found)
+    for-update-by : (found : Option PeerMessagePolicyEntry) → look k rs ≡ found → UpdateHolds k (entryForUpdate c now rs k found)
     unfolding entryForUpdate
     for-update-by none l =
         let left : Peers = makeRoom c now rs in
@@ -246,49 +216,49 @@ module _ (c : PeerMessagePolicyConfig) where
         in
         chosen (UpdateHolds k) (entryIsBanned e now) (λ t. tt)
         (λ t.
-        chosen (UpdateHolds k) (entryIsSpent e now) (λ u. (new-sound c now, over))
-        (λ u. (look-rule (entrySound c) k rs (h .rules) l, over)))
+        chosen (UpdateHolds k) (entryIsSpent e now)
+        (λ u. (new-sound c now, λ x y. rw (spent-in-place c now k rs (h .few) (h .order) l x) (over x y)))
+        (λ u. (look-rule (peerSound c) k rs (h .rules) l, over)))
 
-    for-update : UpdateHolds k (entryForUpdate c now rs (look k rs))
+    for-update : UpdateHolds k (entryForUpdate c now rs k (look k rs))
     for-update = for-update-by (look k rs) refl
 
-  -- an invalid message leaves the load as it is
-  judged-invalid-load : (i : FiberIngressBudget) (e : PeerMessagePolicyEntry) (now : ℕ) → ingressSound c i ≡ true
-      → ingressSound c (judgedInvalid c i e now .ingress) ≡ true
-  unfolding judgedInvalid
-  judged-invalid-load i e now h =
-      noted-ways (λ d. ingressSound c (d .ingress) ≡ true) c i (entryUsed e now (c .«ban_duration_ms»)) now (λ t. h) (λ t. h)
-
-  -- what holds of a turn: rows, the load, and that refusal 4 undoes everything
-  pub record TurnHolds (i : FiberIngressBudget) (t : Turn) : Type 0 where
+  -- what holds of a turn: rows and load
+  pub record TurnHolds {C : Type 0} (t : Turn C) : Type 0 where
     pub rows : ChangeHolds c (t .change)
     pub load : ingressSound c (t .ingress) ≡ true
-    pub undone : overflows (t .cause) ≡ true → (t .ingress ≡ i) × (t .change ≡ same)
 
   module _ (i : FiberIngressBudget) (within : ingressSound c i ≡ true) (k : List ℕ) where
-    -- a turn whose decision keeps entry and load sound
-    turn-holds : (decide : PeerMessagePolicyEntry → Decision)
-        → ((e : PeerMessagePolicyEntry) → entrySound c e ≡ true → (entrySound c (decide e .entry) ≡ true) × (ingressSound c (decide e .ingress) ≡ true))
-        → (u : Update) → UpdateHolds k u → TurnHolds i (turnOf i k decide u)
+    -- a turn that goes on from what holds to what holds
+    turn-holds : {C : Type 0} (live : C) (goOn : PeerMessagePolicyEntry → Peers → Turn C)
+        → ((e : PeerMessagePolicyEntry) (rs : Peers) → UpdateHolds k (update e rs) → TurnHolds (goOn e rs))
+        → (u : Update) → UpdateHolds k u → TurnHolds (turnOf i live goOn u)
+    turn-holds live goOn holds banned h = record { rows = tt; load = within }
+    turn-holds live goOn holds (update e rs) h = holds e rs h
+
+    -- a decision that keeps entry and load sound
+    carried-holds : (rs : Peers) (d : Decision) → entrySound c (d .entry) ≡ true → ingressSound c (d .ingress) ≡ true
+        → ((x : PeerMessagePolicyEntry) → entrySound c x ≡ true → RowsHold c (store k x rs)) → TurnHolds (carriedOut i k rs d)
     unfolding carriedOut
-    turn-holds decide keeps banned h = record { rows = tt; load = within; undone = λ o. (refl, refl) }
-    turn-holds decide keeps (update e rs) h =
-        let parts = keeps e (h .0) in
-        chosen (TurnHolds i) (overflows (decide e .cause)) (λ o. record { rows = tt; load = within; undone = λ u. (refl, refl) })
-        (λ o. record { rows = h .1 (decide e .entry) (parts .0); load = parts .1; undone = λ u. absurd (true-is-not-false u o) })
+    carried-holds rs d sound-entry load over =
+        chosen (λ (t : Turn Cause). TurnHolds t) (overflows (d .cause)) (λ o. record { rows = tt; load = within })
+        (λ o. record { rows = over (d .entry) sound-entry; load = load })
 
     module _ (rs : Peers) (key : Key k) (h : RowsHold c rs) where
-      pub admit-holds : (size now : ℕ) → TurnHolds i (admit c i rs k size now)
+      pub admit-holds : (size now : ℕ) → TurnHolds (admit c i rs k size now)
+      unfolding admit
       admit-holds size now =
-          rw (admit-turn c i k rs size now)
-          (turn-holds (λ e. judged c i e size now) (λ e x. (judged-sound c i e size now x, judged-load c i e size now within))
-          (entryForUpdate c now rs (look k rs)) (for-update now k rs key h))
+          turn-holds Cause.LiveBan (λ e xs. carriedOut i k xs (judged c i e size now))
+          (λ e xs u.
+          carried-holds xs (judged c i e size now) (judged-sound c i e size now (u .0)) (judged-load c i e size now within) (u .1))
+          (entryForUpdate c now rs k (look k rs)) (for-update now k rs key h)
 
-      pub record-invalid-holds : (now : ℕ) → TurnHolds i (recordInvalid c i rs k now)
+      pub record-invalid-holds : (now : ℕ) → TurnHolds (recordInvalid c i rs k now)
+      unfolding recordInvalid
       record-invalid-holds now =
-          rw (record-invalid-turn c i k rs now)
-          (turn-holds (λ e. judgedInvalid c i e now) (λ e x. (judged-invalid-sound c i e now x, judged-invalid-load i e now within))
-          (entryForUpdate c now rs (look k rs)) (for-update now k rs key h))
+          turn-holds InvalidCause.LiveBan (λ e xs. notedDown i k xs (judgedInvalid c e now))
+          (λ e xs u. record { rows = u .1 (judgedInvalid c e now .entry) (judged-invalid-sound c e now (u .0)); load = within })
+          (entryForUpdate c now rs k (look k rs)) (for-update now k rs key h)
 
   module _ (k : List ℕ) (rs : Peers) (key : Key k) (h : RowsHold c rs) (now : ℕ) where
     pub is-banned-holds : (found : Option PeerMessagePolicyEntry) → ChangeHolds c (isBannedChange rs k now found)
@@ -301,8 +271,26 @@ module _ (c : PeerMessagePolicyConfig) where
     disconnected-holds none l = tt
     disconnected-holds (some e) l =
         let x : PeerMessagePolicyEntry = entryExpireWindows e now (c .«ban_duration_ms») in
-        let y : entrySound c x ≡ true = expire-sound c e now (c .«ban_duration_ms») (look-rule (entrySound c) k rs (h .rules) l) in
+        let y : entrySound c x ≡ true = expire-sound c e now (c .«ban_duration_ms») (look-rule (peerSound c) k rs (h .rules) l) in
         chosen (ChangeHolds c) (entryIsBanned e now) (λ t. tt)
         (λ t.
         chosen (ChangeHolds c) (entryIsSpent e now) (λ u. sub-hold (sub-erase k rs) h)
         (λ u. store-hold k x rs key y h (omega (arith, length-store-some k rs x l, h .few))))
+
+-- ════ Refusal 4 ═══════════════════════════════════════════════════════════════════════════════════
+
+-- a turn that is undone, if it overflows
+abbrev Undone : FiberIngressBudget → Turn Cause → Type 0
+Undone i t = overflows (t .cause) ≡ true → (t .ingress ≡ i) × (t .change ≡ same)
+
+module _ (c : PeerMessagePolicyConfig) (i : FiberIngressBudget) (k : List ℕ) (size now : ℕ) where
+  undone-by : (u : Update) → Undone i (turnOf i Cause.LiveBan (λ e xs. carriedOut i k xs (judged c i e size now)) u)
+  unfolding carriedOut
+  undone-by banned = λ o. (refl, refl)
+  undone-by (update e rs) =
+      chosen (Undone i) (overflows (judged c i e size now .cause)) (λ o u. (refl, refl)) (λ o u. absurd (true-is-not-false u o))
+
+  -- refusal 4 undoes everything
+  pub admit-undone : (rs : Peers) → Undone i (admit c i rs k size now)
+  unfolding admit
+  admit-undone rs = undone-by (entryForUpdate c now rs k (look k rs))

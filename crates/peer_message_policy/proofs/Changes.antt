@@ -9,27 +9,27 @@ use lib.Dec.{eqb, ltb, leb}
 use lib.ListN.{length, take, drop, take-append-drop}
 use Rattle.lent_bytes.specs.LentBytes.{part, put, zeros, Bytes}
 use Rattle.refusal.specs.Refusal.{tooShort, limitTooLarge}
-use Rattle.table.specs.Table.{Row, store, erase, removeAt}
+use Rattle.table.specs.Table.{Row, store, erase, insertAt, removeAt}
 use Rattle.table.specs.Memory.{rowOf, rows, laid, Holds}
-use Rattle.table.specs.TableLaws.{both-parts, Sub, done, keep, leave}
-use Rattle.table.specs.PlaceLaws.{at-key, at-store, at-erase, at-length-store, at-length-erase}
-use Rattle.table.specs.MemoryLaws.{AllFit, length-rows, key-rows, key-rowOf, fit-rows, rows-cons, holds, laid-rows, laid-laid, put-clear}
+use Rattle.table.specs.TableLaws.{both-parts}
+use Rattle.table.specs.PlaceLaws.{at-key, gap-inside, gap-store, gap-length-store, at-store, at-erase, at-length-store, at-length-erase}
+use Rattle.table.specs.MemoryLaws.{AllFit, sub-fit, length-rows, key-rows, key-rowOf, fit-rows, rows-cons, holds, laid-rows, laid-laid, put-clear}
 use Rattle.peer_settings.specs.declared.config.PeerMessagePolicyConfig.{PeerMessagePolicyConfig}
 use Rattle.peer_state.specs.declared.entry.PeerMessagePolicyEntry.{PeerMessagePolicyEntry}
 use Rattle.peer_state.specs.declared.entry.ViolationWindow.{ViolationWindow}
-use Rattle.peer_verdict.specs.declared.verdict.Decision.{Decision}
+use Rattle.peer_state.specs.declared.ingress.FiberIngressBudget.{FiberIngressBudget}
 use Rattle.peer_settings.specs.Config.{limit}
 use Rattle.peer_state.specs.Entry.{window, windowExpire, entryExpireWindows, sameCounts}
 use Rattle.peer_rows.specs.Rows.{Peers, peerLayout}
 use Rattle.peer_rows.specs.Peer.{peerRow}
 use Rattle.peer_table.specs.Room.{makeRoom}
 use Rattle.peer_rows.specs.RowsLaws.{EntryFits, peer-faithful}
-use Rattle.peer_table.specs.RoomLaws.{room-for-one, length-makeRoom, sub-makeRoom}
+use Rattle.peer_table.specs.RoomLaws.{room-free, room-for-one, length-makeRoom, sub-makeRoom}
 use Rattle.peer_message_policy.specs.declared.policy.PeerMessagePolicy.{PeerMessagePolicy}
 use Rattle.peer_message_policy.specs.declared.answer.Made.the-variants as Made
 use Rattle.peer_message_policy.specs.Policy.{rowsOf}
-use Rattle.peer_message_policy.specs.Calls.{fresh, newOutcome, NewMeets}
-use Rattle.peer_message_policy.specs.Carry.{Known, Unknown, Carried, Left}
+use Rattle.peer_message_policy.specs.Calls.{policyWith, fresh, newOutcome, NewMeets}
+use Rattle.peer_message_policy.specs.Carry.{Known, Unknown, Left}
 use Rattle.peer_message_policy.proofs.Judged.{anyRow, entryAt, known-inside, rows-fit, few-rows, limit-fits, long-enough, too-short}
 
 holds-same : {s t : List ℕ} {n : ℕ} {rs qs : Peers} → rs ≡ qs → Holds peerLayout s t n rs → Holds peerLayout s t n qs
@@ -53,29 +53,21 @@ module _ (p : PeerMessagePolicy) (s k : List ℕ) (i : ℕ) (h : Known p s k i) 
   count-store : (e : PeerMessagePolicyEntry) → p .rows ≡ length (store k e (rowsOf p s))
   count-store e = sym (at-length-store k (rowsOf p s) (h .place) e ∙ length-rows peerLayout s (p .rows))
 
-  -- the decided entry written over the peer's row
-  pub carried-over : (t : List ℕ) (d : Decision) → Holds peerLayout s t (p .rows) (over s (p .rows) i (d .entry)) → Carried p s k (rowsOf p s) d (record { config = p .config; ingress = d .ingress; rows = p .rows }) t
-  carried-over t d held =
+  -- an entry written over the peer's row
+  pub left-over : (load : FiberIngressBudget) (t : List ℕ) (x e : PeerMessagePolicyEntry) → x ≡ e → Holds peerLayout s t (p .rows) (over s (p .rows) i x) → Left p load s (store k e (rowsOf p s)) (policyWith p load (p .rows)) t
+  left-over load t x e same held =
       record {
-        policy = ap (λ (n : ℕ). record { config = p .config; ingress = d .ingress; rows = n }) (count-store (d .entry));
-        memory = holds-same (over-store (d .entry)) held;
-      }
-
-  -- another entry written over the peer's row
-  pub left-over : (t : List ℕ) (x e : PeerMessagePolicyEntry) → x ≡ e → Holds peerLayout s t (p .rows) (over s (p .rows) i x) → Left p s (store k e (rowsOf p s)) p t
-  left-over t x e same held =
-      record {
-        policy = ap (λ (n : ℕ). record { config = p .config; ingress = p .ingress; rows = n }) (count-store e);
+        policy = ap (policyWith p load) (count-store e);
         memory = holds-same (over-store x ∙ ap (λ (y : PeerMessagePolicyEntry). store k y (rowsOf p s)) same) held;
       }
 
   -- the peer's row taken out
-  pub left-out : (t : List ℕ) → Holds peerLayout s t (p .rows) (removeAt i (rowsOf p s)) → Left p s (erase k (rowsOf p s)) (record { config = p .config; ingress = p .ingress; rows = p .rows - 1 }) t
+  pub left-out : (t : List ℕ) → Holds peerLayout s t (p .rows) (removeAt i (rowsOf p s)) → Left p (p .ingress) s (erase k (rowsOf p s)) (policyWith p (p .ingress) (p .rows - 1)) t
   left-out t held =
       let fewer : p .rows - 1 ≡ length (erase k (rowsOf p s)) =
       omega (arith, at-length-erase k (rowsOf p s) (h .place), length-rows peerLayout s (p .rows)) in
       record {
-        policy = ap (λ (n : ℕ). record { config = p .config; ingress = p .ingress; rows = n }) fewer;
+        policy = ap (policyWith p (p .ingress)) fewer;
         memory = holds-same (sym (at-erase k (rowsOf p s) (h .place))) held;
       }
 
@@ -91,11 +83,11 @@ module _ (p : PeerMessagePolicy) (s k : List ℕ) (i : ℕ) (h : Known p s k i) 
       ∙ take-append-drop i (rowsOf p s)
 
   -- nothing is written where the entry stands there already
-  pub left-alone : Bytes s → (e : PeerMessagePolicyEntry) → e ≡ entryAt s i → Left p s (store k e (rowsOf p s)) p s
+  pub left-alone : Bytes s → (e : PeerMessagePolicyEntry) → e ≡ entryAt s i → Left p (p .ingress) s (store k e (rowsOf p s)) p s
   left-alone b e read =
       let fits : 121 * p .rows ≤ length s = rows-fit p s (h .is-sound) in
       record {
-        policy = ap (λ (n : ℕ). record { config = p .config; ingress = p .ingress; rows = n }) (count-store e);
+        policy = ap (policyWith p (p .ingress)) (count-store e);
         memory =
             holds-same (sym (store-again e read))
             (holds peer-faithful s s (p .rows) (rowsOf p s) (fit-rows peer-faithful s (p .rows) b fits) (sym (laid-rows peer-faithful s (p .rows) b fits)));
@@ -125,17 +117,11 @@ expire-same e now duration h =
     )
 
 -- so its row need not be written
-pub left-unexpired : (p : PeerMessagePolicy) (s k : List ℕ) (i : ℕ) → Known p s k i → Bytes s → (e : PeerMessagePolicyEntry) → e ≡ entryAt s i → (now duration : ℕ) (x : PeerMessagePolicyEntry) → x ≡ entryExpireWindows e now duration → sameCounts x e ≡ true → Left p s (store k (entryExpireWindows e now duration) (rowsOf p s)) p s
+pub left-unexpired : (p : PeerMessagePolicy) (s k : List ℕ) (i : ℕ) → Known p s k i → Bytes s → (e : PeerMessagePolicyEntry) → e ≡ entryAt s i → (now duration : ℕ) (x : PeerMessagePolicyEntry) → x ≡ entryExpireWindows e now duration → sameCounts x e ≡ true → Left p (p .ingress) s (store k (entryExpireWindows e now duration) (rowsOf p s)) p s
 left-unexpired p s k i h b e read now duration x v same =
     let kept : entryExpireWindows e now duration ≡ e =
     expire-same e now duration (ap (λ (y : PeerMessagePolicyEntry). sameCounts y e) (sym v) ∙ same) in
     left-alone p s k i h b (entryExpireWindows e now duration) (kept ∙ read)
-
--- rows taken out of rows that can stand in the table can stand there
-sub-fit : {xs ys : Peers} → Sub xs ys → AllFit peerLayout EntryFits ys → AllFit peerLayout EntryFits xs
-sub-fit done f = tt
-sub-fit (keep s) f = (f .0, sub-fit s (f .1))
-sub-fit (leave s) f = sub-fit s (f .1)
 
 -- ════ A row more ══════════════════════════════════════════════════════════════════════════════════
 
@@ -149,20 +135,37 @@ module _ (p : PeerMessagePolicy) (s k : List ℕ) (i : ℕ) (h : Unknown p s k i
   one-more-fits n e =
       omega (arith, room-for-one (p .config) now (rowsOf p s) (omega (arith, few-rows p s (h .is-sound), length-rows peerLayout s (p .rows))), limit-fits p s (h .is-sound))
 
-  -- the decided entry stored among the rows that were left
-  pub carried-new : Bytes s → (t : List ℕ) (n : ℕ) → Holds peerLayout s t (p .rows) roomed × (n ≡ length roomed) → (u : List ℕ) (m : ℕ) (d : Decision) → Holds peerLayout t u n (store k (d .entry) (rows peerLayout t n)) × (m ≡ length (store k (d .entry) (rows peerLayout t n))) → Carried p s k roomed d (record { config = p .config; ingress = d .ingress; rows = m }) u
-  carried-new b t n first u m d second =
+  -- the gap is inside, and where the table is not full there is room for a row
+  pub gap-fits : i ≤ p .rows
+  gap-fits = omega (arith, gap-inside k (rowsOf p s) (h .place), length-rows peerLayout s (p .rows))
+
+  pub row-fits : p .rows < limit (p .config) → 121 * (p .rows + 1) ≤ length s
+  row-fits free = omega (arith, free, limit-fits p s (h .is-sound))
+
+  -- an entry put in at the gap, where nothing had to go
+  pub left-gap : (load : FiberIngressBudget) (t : List ℕ) (e : PeerMessagePolicyEntry) → p .rows < limit (p .config) → Holds peerLayout s t (p .rows) (insertAt i (peerRow k e) (rowsOf p s)) → Left p load s (store k e roomed) (policyWith p load (p .rows + 1)) t
+  left-gap load t e free held =
+      let all : roomed ≡ rowsOf p s = room-free (p .config) now (rowsOf p s) (omega (arith, free, length-rows peerLayout s (p .rows))) in
+      let stored : store k e roomed ≡ insertAt i (peerRow k e) (rowsOf p s) =
+      ap (store k e) all ∙ gap-store k (rowsOf p s) (h .place) e in
+      let more : p .rows + 1 ≡ length (store k e roomed) =
+      omega (arith, ap (λ (l : Peers). length (store k e l)) all, gap-length-store k (rowsOf p s) (h .place) e, length-rows peerLayout s (p .rows)) in
+      record { policy = ap (policyWith p load) more; memory = holds-same (sym stored) held }
+
+  -- an entry stored among the rows that were left
+  pub left-new : (load : FiberIngressBudget) → Bytes s → (t : List ℕ) (n : ℕ) → Holds peerLayout s t (p .rows) roomed × (n ≡ length roomed) → (u : List ℕ) (m : ℕ) (e : PeerMessagePolicyEntry) → Holds peerLayout t u n (store k e (rows peerLayout t n)) × (m ≡ length (store k e (rows peerLayout t n))) → Left p load s (store k e roomed) (policyWith p load m) u
+  left-new load b t n first u m e second =
       let fit : AllFit peerLayout EntryFits roomed =
-      sub-fit (sub-makeRoom (p .config) now (rowsOf p s)) (fit-rows peer-faithful s (p .rows) b (rows-fit p s (h .is-sound))) in
+      sub-fit peer-faithful (sub-makeRoom (p .config) now (rowsOf p s)) (fit-rows peer-faithful s (p .rows) b (rows-fit p s (h .is-sound))) in
       let fewer : length roomed ≤ p .rows = omega (arith, length-makeRoom (p .config) now (rowsOf p s), length-rows peerLayout s (p .rows)) in
       let left : rows peerLayout t n ≡ roomed = ap (rows peerLayout t) (first .1) ∙ first .0 .reads in
-      let stored : Peers = store k (d .entry) roomed in
+      let stored : Peers = store k e roomed in
       let held : Holds peerLayout t u (length roomed) stored =
-      subst (λ (c : ℕ). Holds peerLayout t u c stored) (first .1) (holds-same (ap (store k (d .entry)) left) (second .0)) in
+      subst (λ (c : ℕ). Holds peerLayout t u c stored) (first .1) (holds-same (ap (store k e) left) (second .0)) in
       record {
         policy =
-            ap (λ (c : ℕ). record { config = p .config; ingress = d .ingress; rows = c })
-            (second .1 ∙ ap (λ (l : Peers). length (store k (d .entry) l)) left);
+            ap (policyWith p load)
+            (second .1 ∙ ap (λ (l : Peers). length (store k e l)) left);
         memory =
             record {
               memory =

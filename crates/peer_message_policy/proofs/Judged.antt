@@ -22,7 +22,7 @@ use Rattle.peer_state.specs.declared.entry.PeerMessagePolicyEntry.{PeerMessageP
 use Rattle.peer_settings.specs.Config.{limit}
 use Rattle.peer_state.specs.Entry.{entrySound, entryNew, entryIsSpent, entryToJudge}
 use Rattle.peer_state.specs.EntryLaws.{chosen, new-sound}
-use Rattle.peer_rows.specs.Rows.{peerLayout}
+use Rattle.peer_rows.specs.Rows.{peerLayout, peerSound}
 use Rattle.peer_message_policy.specs.declared.policy.PeerMessagePolicy.{PeerMessagePolicy}
 use Rattle.peer_message_policy.specs.Policy.{rowsOf, policySound, longEnough, rowsSound, sound}
 use Rattle.peer_message_policy.specs.Sought.{soughtIn}
@@ -47,7 +47,7 @@ within-limit p h =
 -- ════ What the walk answers ═══════════════════════════════════════════════════════════════════════
 
 -- the walk over the rows is the answer, where record and length are sound
-pub sought-rows : (p : PeerMessagePolicy) (s k : List ℕ) → policySound p ≡ true → longEnough (p .config) s ≡ true → soughtIn p s k ≡ seek (entrySound (p .config)) k (rowsOf p s)
+pub sought-rows : (p : PeerMessagePolicy) (s k : List ℕ) → policySound p ≡ true → longEnough (p .config) s ≡ true → soughtIn p s k ≡ seek (peerSound (p .config)) k (rowsOf p s)
 unfolding soughtIn
 sought-rows p s k h l = rw (h, l)
 
@@ -68,8 +68,8 @@ refused-by false l r found f h = refl
 pub sought-unsound : (p : PeerMessagePolicy) (s k : List ℕ) → soughtIn p s k ≡ Unsound → sound p s ≡ false
 unfolding soughtIn sound
 sought-unsound p s k h =
-    refused-by (policySound p) (longEnough (p .config) s) (rowsSound p s) (seek (entrySound (p .config)) k (rowsOf p s))
-    (λ u. seek-unsound (entrySound (p .config)) k (rowsOf p s) .0 u) h
+    refused-by (policySound p) (longEnough (p .config) s) (rowsSound p s) (seek (peerSound (p .config)) k (rowsOf p s))
+    (λ u. seek-unsound (peerSound (p .config)) k (rowsOf p s) .0 u) h
 
 -- record and length were sound, and the walk over the rows answered
 record Walked (record-sound long : Bool) (found answer : Seek) : Type 0 where
@@ -85,13 +85,13 @@ walked-by false l found answer n h = absurd (n (sym h))
 -- the answer of a search in a sound policy and memory
 record Judged (p : PeerMessagePolicy) (s k : List ℕ) (answer : Seek) : Type 0 where
   is-sound : sound p s ≡ true
-  sought : Sought (entrySound (p .config)) k (rowsOf p s) answer
+  sought : Sought (peerSound (p .config)) k (rowsOf p s) answer
 
 judged-by : (p : PeerMessagePolicy) (s k : List ℕ) {answer : Seek} → (answer ≡ Unsound → ⊥) → soughtIn p s k ≡ answer → Judged p s k answer
 unfolding soughtIn sound
 judged-by p s k {answer} n h =
-    let w = walked-by (policySound p) (longEnough (p .config) s) (seek (entrySound (p .config)) k (rowsOf p s)) answer n h in
-    let found = seek-sought (entrySound (p .config)) k (rowsOf p s) (w .third) n in
+    let w = walked-by (policySound p) (longEnough (p .config) s) (seek (peerSound (p .config)) k (rowsOf p s)) answer n h in
+    let found = seek-sought (peerSound (p .config)) k (rowsOf p s) (w .third) n in
     record { is-sound = both (w .first) (both (w .second) (both (found .rules) (found .order))); sought = found }
 
 -- At: the peer's row is there
@@ -129,10 +129,20 @@ module _ (p : PeerMessagePolicy) (s : List ℕ) (h : sound p s ≡ true) where
   pub rows-fit : 121 * p .rows ≤ length s
   rows-fit = omega (arith, few-rows, limit-fits)
 
+  -- no more rows than the limit, as a list
+  pub few-read : length (rowsOf p s) ≤ limit (p .config)
+  few-read = omega (arith, few-rows, length-rows peerLayout s (p .rows))
+
+  -- the keys ascend
+  pub in-order : ascending (rowsOf p s) ≡ true
+  in-order =
+      both-parts (every (peerSound (p .config)) (rowsOf p s)) (ascending (rowsOf p s))
+      (both-parts (longEnough (p .config) s) _ memory-sound .1) .1
+
   -- every row keeps its rules
-  pub rules-kept : every (entrySound (p .config)) (rowsOf p s) ≡ true
+  pub rules-kept : every (peerSound (p .config)) (rowsOf p s) ≡ true
   rules-kept =
-      both-parts (every (entrySound (p .config)) (rowsOf p s)) (ascending (rowsOf p s))
+      both-parts (every (peerSound (p .config)) (rowsOf p s)) (ascending (rowsOf p s))
       (both-parts (longEnough (p .config) s) _ memory-sound .1) .0
 
 -- ════ A peer that has a row ═══════════════════════════════════════════════════════════════════════
@@ -164,7 +174,7 @@ module _ (p : PeerMessagePolicy) (s k : List ℕ) (i : ℕ) (h : Known p s k i) 
     pub known-sound : entrySound (p .config) e ≡ true
     known-sound =
         ap (entrySound (p .config)) (read ∙ ap (λ (r : Row PeerMessagePolicyEntry). r .entry) (sym (getD-rows peerLayout s (p .rows) i anyRow known-inside)))
-        ∙ every-at (entrySound (p .config)) (rowsOf p s) i anyRow (rules-kept p s (h .is-sound))
+        ∙ every-at (peerSound (p .config)) (rowsOf p s) i anyRow (rules-kept p s (h .is-sound))
         (omega (arith, known-inside, length-rows peerLayout s (p .rows)))
 
 -- ════ A peer that has none ════════════════════════════════════════════════════════════════════════

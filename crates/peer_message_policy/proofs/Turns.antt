@@ -1,25 +1,27 @@
 -- The ways out of each call: what it answers and leaves is its outcome. Over plain values. Assumes nothing.
-use mathlib.Core.Path.{_≡_, refl, sym, ap, _∙_}
-use mathlib.Core.Bool.{Bool, true, false, _&&_, cond}
+use mathlib.Core.Path.{_≡_, refl, sym, ap, subst, _∙_}
+use mathlib.Core.Bool.{true, false, _&&_}
 use mathlib.Core.List.{List}
 use mathlib.Core.Option.{none, some}
 use Prim.Native.Nat.{ℕ, _≤_}
 use native.Mathlib.Nat.{max-eq-left, max-eq-right}
 use borrow.Author.Tests.{ltb-true, lt-leb}
 use lib.Dec.{eqb, ltb, leb}
+use lib.ListN.{length}
 use Rattle.pubkey.specs.declared.Pubkey.{Pubkey}
-use Rattle.refusal.specs.Refusal.{unsound, overflow}
-use Rattle.table.specs.Table.{look, store, erase}
-use Rattle.table.specs.TableLaws.{true-is-not-false, both-parts}
+use Rattle.refusal.specs.Refusal.{unsound}
+use Rattle.table.specs.Table.{ascending, look, store, erase}
+use Rattle.table.specs.TableLaws.{by-test, both-parts}
 use Rattle.peer_settings.specs.declared.config.PeerMessagePolicyConfig.{PeerMessagePolicyConfig}
 use Rattle.peer_state.specs.declared.entry.PeerMessagePolicyEntry.{PeerMessagePolicyEntry}
 use Rattle.peer_state.specs.declared.ingress.FiberIngressBudget.{FiberIngressBudget}
-use Rattle.peer_verdict.specs.declared.verdict.Cause.{Cause}
 use Rattle.peer_verdict.specs.declared.verdict.Cause.the-variants as Cause
 use Rattle.peer_verdict.specs.declared.verdict.Decision.{Decision}
-use Rattle.peer_state.specs.Entry.{entryNew, entryUsed, entryIsBanned, entryIsSpent, entryExpireWindows, entryToJudge}
+use Rattle.peer_verdict.specs.declared.verdict.InvalidCause.the-variants as InvalidCause
+use Rattle.peer_verdict.specs.declared.verdict.InvalidDecision.{InvalidDecision}
+use Rattle.peer_settings.specs.Config.{limit}
+use Rattle.peer_state.specs.Entry.{entryNew, entryIsBanned, entryIsSpent, entryExpireWindows, entryToJudge}
 use Rattle.peer_verdict.specs.Verdict.{judged, judgedInvalid, overflows}
-use Rattle.peer_verdict.specs.VerdictLaws.{noted-ways}
 use Rattle.peer_rows.specs.Rows.{Peers}
 use Rattle.peer_table.specs.Room.{makeRoom}
 use Rattle.peer_message_policy.specs.declared.policy.PeerMessagePolicy.{PeerMessagePolicy}
@@ -36,40 +38,34 @@ use Rattle.peer_message_policy.specs.declared.answer.HeldTime.the-varian
 use Rattle.peer_message_policy.specs.Policy.{rowsOf, sound, carriedOut, update, entryForUpdate, admit, recordInvalid, isBannedChange, disconnectedChange}
 use Rattle.peer_message_policy.specs.Calls.{admissionOf, invalidOf, admitOutcome, AdmitMeets, recordInvalidOutcome, RecordInvalidMeets}
 use Rattle.peer_message_policy.specs.Calls.{isBannedOutcome, IsBannedMeets, onDisconnectedOutcome, OnDisconnectedMeets, HeldTimeMeets}
-use Rattle.peer_message_policy.specs.Carry.{Carried, Left}
+use Rattle.peer_message_policy.specs.Carry.{Left}
+use Rattle.peer_message_policy.specs.UpdateLaws.{spent-in-place}
 
 -- ════ What is judged ══════════════════════════════════════════════════════════════════════════════
 
-update-by : (b : Bool) (e f : PeerMessagePolicyEntry) (rs : Peers) → cond b (update e rs) (update f rs) ≡ update (cond b e f) rs
-update-by true e f rs = refl
-update-by false e f rs = refl
+-- a call goes on with this entry, and what it stores is stored as among all rows
+pub record GoesOn (c : PeerMessagePolicyConfig) (now : ℕ) (rs : Peers) (k : List ℕ) (x : PeerMessagePolicyEntry) : Type 0 where
+  pub among : Peers
+  pub found : entryForUpdate c now rs k (look k rs) ≡ update x among
+  pub stores : (e : PeerMessagePolicyEntry) → store k e among ≡ store k e rs
 
--- a known peer that is not banned is judged on its entry, or on a new one
-pub update-known : (c : PeerMessagePolicyConfig) (now : ℕ) (rs : Peers) (k : List ℕ) (e : PeerMessagePolicyEntry) → look k rs ≡ some e → entryIsBanned e now ≡ false → (x : PeerMessagePolicyEntry) → x ≡ entryToJudge c e now → entryForUpdate c now rs (look k rs) ≡ update x rs
+-- a known peer that is not banned is judged on its entry, or on a new one, which is stored in its place
+pub update-known : (c : PeerMessagePolicyConfig) (now : ℕ) (rs : Peers) (k : List ℕ) → length rs ≤ limit c → ascending rs ≡ true → (e : PeerMessagePolicyEntry) → look k rs ≡ some e → entryIsBanned e now ≡ false → (x : PeerMessagePolicyEntry) → x ≡ entryToJudge c e now → GoesOn c now rs k x
 unfolding entryForUpdate
-update-known c now rs k e found free x v = rw (v, found, free) (update-by (entryIsSpent e now) (entryNew c now) e rs)
+update-known c now rs k few order e found free x v =
+    by-test (entryIsSpent e now)
+    (λ spent.
+    record { among = makeRoom c now (erase k rs); found = rw (v, found, free, spent); stores = spent-in-place c now k rs few order found })
+    (λ unspent. record { among = rs; found = rw (v, found, free, unspent); stores = λ y. refl })
 
 -- a peer without a row on a new one, and gets room
-pub update-new : (c : PeerMessagePolicyConfig) (now : ℕ) (rs : Peers) (k : List ℕ) → look k rs ≡ none → (x : PeerMessagePolicyEntry) → x ≡ entryNew c now → entryForUpdate c now rs (look k rs) ≡ update x (makeRoom c now rs)
+pub update-new : (c : PeerMessagePolicyConfig) (now : ℕ) (rs : Peers) (k : List ℕ) → look k rs ≡ none → (x : PeerMessagePolicyEntry) → x ≡ entryNew c now → entryForUpdate c now rs k (look k rs) ≡ update x (makeRoom c now rs)
 unfolding entryForUpdate
 update-new c now rs k missing x v = rw (v, missing)
 
--- refusal 4 is the answer to an overflow alone
-overflow-answer : (q : PeerMessagePolicy) (x : Cause) → overflows x ≡ true → Admission.Refused overflow ≡ admissionOf q x
-overflow-answer q Cause.Allowed o = absurd (true-is-not-false o refl)
-overflow-answer q Cause.MessagesShort o = absurd (true-is-not-false o refl)
-overflow-answer q (Cause.BytesShort k) o = absurd (true-is-not-false o refl)
-overflow-answer q Cause.NoSlot o = absurd (true-is-not-false o refl)
-overflow-answer q (Cause.CeilingShort k) o = absurd (true-is-not-false o refl)
-overflow-answer q Cause.LiveBan o = absurd (true-is-not-false o refl)
-overflow-answer q Cause.BanBegun o = absurd (true-is-not-false o refl)
-overflow-answer q Cause.Overflow o = refl
-
--- an invalid message never overflows
-invalid-fits : (c : PeerMessagePolicyConfig) (i : FiberIngressBudget) (e : PeerMessagePolicyEntry) (now : ℕ) → overflows (judgedInvalid c i e now .cause) ≡ false
-unfolding judgedInvalid
-invalid-fits c i e now =
-    noted-ways (λ (d : Decision). overflows (d .cause) ≡ false) c i (entryUsed e now (c .«ban_duration_ms»)) now (λ t. refl) (λ t. refl)
+-- rows that are equal are left
+pub left-same : {p q : PeerMessagePolicy} {i : FiberIngressBudget} {s t : List ℕ} {rs xs : Peers} → xs ≡ rs → Left p i s rs q t → Left p i s xs q t
+left-same {p} {q} {i} {s} {t} e h = subst (λ (l : Peers). Left p i s l q t) (sym e) h
 
 -- ════ admit ═══════════════════════════════════════════════════════════════════════════════════════
 
@@ -80,20 +76,20 @@ module _ (p : PeerMessagePolicy) (s : List ℕ) (k : Pubkey) (size now : ℕ) wh
   admit-unsound h = rw h (record { answers = refl; leaves = refl })
 
   module _ (h : sound p s ≡ true) where
-    pub admit-live : (e : PeerMessagePolicyEntry) → look (k .bytes) (rowsOf p s) ≡ some e → entryIsBanned e now ≡ true → AdmitMeets p s k size now (Admission.Ban p) s
+    pub admit-live : (e : PeerMessagePolicyEntry) → look (k .bytes) (rowsOf p s) ≡ some e → entryIsBanned e now ≡ true → (r : PeerMessageAdmission) → r ≡ admissionOf p Cause.LiveBan → AdmitMeets p s k size now r s
     unfolding AdmitMeets admitOutcome admit entryForUpdate
-    admit-live e found banned = rw (h, found, banned) (record { answers = refl; leaves = refl })
+    admit-live e found banned r answer = rw (h, found, banned) (record { answers = answer; leaves = refl })
 
-    module _ (e : PeerMessagePolicyEntry) (rs : Peers) (u : entryForUpdate (p .config) now (rowsOf p s) (look (k .bytes) (rowsOf p s)) ≡ update e rs) (d : Decision) (v : d ≡ judged (p .config) (p .ingress) e size now) where
-      pub admit-overflow : overflows (d .cause) ≡ true → AdmitMeets p s k size now (Admission.Refused overflow) s
+    module _ (e : PeerMessagePolicyEntry) (rs : Peers) (u : entryForUpdate (p .config) now (rowsOf p s) (k .bytes) (look (k .bytes) (rowsOf p s)) ≡ update e rs) (d : Decision) (v : d ≡ judged (p .config) (p .ingress) e size now) where
+      pub admit-overflow : overflows (d .cause) ≡ true → (r : PeerMessageAdmission) → r ≡ admissionOf p (d .cause) → AdmitMeets p s k size now r s
       unfolding AdmitMeets admitOutcome admit carriedOut
-      admit-overflow o = rw (h, u, sym v, o) (record { answers = overflow-answer _ (d .cause) o; leaves = refl })
+      admit-overflow o r answer = rw (h, u, sym v, o) (record { answers = answer; leaves = refl })
 
-      pub admit-carried : overflows (d .cause) ≡ false → (q : PeerMessagePolicy) (t : List ℕ) → Carried p s (k .bytes) rs d q t → (r : PeerMessageAdmission) → r ≡ admissionOf q (d .cause) → AdmitMeets p s k size now r t
+      pub admit-carried : overflows (d .cause) ≡ false → (q : PeerMessagePolicy) (t : List ℕ) → Left p (d .ingress) s (store (k .bytes) (d .entry) rs) q t → (r : PeerMessageAdmission) → r ≡ admissionOf q (d .cause) → AdmitMeets p s k size now r t
       unfolding AdmitMeets admitOutcome admit carriedOut
-      admit-carried o q t carried r answer =
+      admit-carried o q t left r answer =
           rw (h, u, sym v, o)
-          (record { answers = answer ∙ ap (λ (x : PeerMessagePolicy). admissionOf x (d .cause)) (carried .policy); leaves = carried .memory })
+          (record { answers = answer ∙ ap (λ (x : PeerMessagePolicy). admissionOf x (d .cause)) (left .policy); leaves = left .memory })
 
 -- ════ record_invalid ══════════════════════════════════════════════════════════════════════════════
 
@@ -103,17 +99,15 @@ module _ (p : PeerMessagePolicy) (s : List ℕ) (k : Pubkey) (now : ℕ) where
   invalid-unsound h = rw h (record { answers = refl; leaves = refl })
 
   module _ (h : sound p s ≡ true) where
-    pub invalid-live : (e : PeerMessagePolicyEntry) → look (k .bytes) (rowsOf p s) ≡ some e → entryIsBanned e now ≡ true → RecordInvalidMeets p s k now (Invalid.Banned p) s
+    pub invalid-live : (e : PeerMessagePolicyEntry) → look (k .bytes) (rowsOf p s) ≡ some e → entryIsBanned e now ≡ true → (r : Invalid) → r ≡ invalidOf p InvalidCause.LiveBan → RecordInvalidMeets p s k now r s
     unfolding RecordInvalidMeets recordInvalidOutcome recordInvalid entryForUpdate
-    invalid-live e found banned = rw (h, found, banned) (record { answers = refl; leaves = refl })
+    invalid-live e found banned r answer = rw (h, found, banned) (record { answers = answer; leaves = refl })
 
-    pub invalid-carried : (e : PeerMessagePolicyEntry) (rs : Peers) → entryForUpdate (p .config) now (rowsOf p s) (look (k .bytes) (rowsOf p s)) ≡ update e rs → (d : Decision) → d ≡ judgedInvalid (p .config) (p .ingress) e now → (q : PeerMessagePolicy) (t : List ℕ) → Carried p s (k .bytes) rs d q t → (r : Invalid) → r ≡ invalidOf q (d .cause) → RecordInvalidMeets p s k now r t
-    unfolding RecordInvalidMeets recordInvalidOutcome recordInvalid carriedOut
-    invalid-carried e rs u d v q t carried r answer =
-        let fits : overflows (d .cause) ≡ false =
-        ap (λ (x : Decision). overflows (x .cause)) v ∙ invalid-fits (p .config) (p .ingress) e now in
-        rw (h, u, sym v, fits)
-        (record { answers = answer ∙ ap (λ (x : PeerMessagePolicy). invalidOf x (d .cause)) (carried .policy); leaves = carried .memory })
+    pub invalid-carried : (e : PeerMessagePolicyEntry) (rs : Peers) → entryForUpdate (p .config) now (rowsOf p s) (k .bytes) (look (k .bytes) (rowsOf p s)) ≡ update e rs → (d : InvalidDecision) → d ≡ judgedInvalid (p .config) e now → (q : PeerMessagePolicy) (t : List ℕ) → Left p (p .ingress) s (store (k .bytes) (d .entry) rs) q t → (r : Invalid) → r ≡ invalidOf q (d .cause) → RecordInvalidMeets p s k now r t
+    unfolding RecordInvalidMeets recordInvalidOutcome recordInvalid
+    invalid-carried e rs u d v q t left r answer =
+        rw (h, u, sym v)
+        (record { answers = answer ∙ ap (λ (x : PeerMessagePolicy). invalidOf x (d .cause)) (left .policy); leaves = left .memory })
 
 -- ════ is_banned ═══════════════════════════════════════════════════════════════════════════════════
 
@@ -143,7 +137,7 @@ module _ (p : PeerMessagePolicy) (s : List ℕ) (k : Pubkey) (now : ℕ) where
       unfolding IsBannedMeets isBannedOutcome isBannedChange
       standing-kept free unspent = rw (h, found, free, unspent) (record { answers = refl; leaves = refl })
 
-      pub standing-dropped : entryIsBanned e now ≡ false → entryIsSpent e now ≡ true → (q : PeerMessagePolicy) (t : List ℕ) → Left p s (erase (k .bytes) (rowsOf p s)) q t → IsBannedMeets p s k now (Standing.Free q) t
+      pub standing-dropped : entryIsBanned e now ≡ false → entryIsSpent e now ≡ true → (q : PeerMessagePolicy) (t : List ℕ) → Left p (p .ingress) s (erase (k .bytes) (rowsOf p s)) q t → IsBannedMeets p s k now (Standing.Free q) t
       unfolding IsBannedMeets isBannedOutcome isBannedChange
       standing-dropped free spent q t left =
           rw (h, found, free, spent) (record { answers = ap Standing.Free (left .policy); leaves = left .memory })
@@ -165,12 +159,12 @@ module _ (p : PeerMessagePolicy) (s : List ℕ) (k : Pubkey) (now : ℕ) where
       unfolding OnDisconnectedMeets onDisconnectedOutcome disconnectedChange
       disconnected-live banned = rw (h, found, banned) (record { answers = refl; leaves = refl })
 
-      pub disconnected-dropped : entryIsBanned e now ≡ false → entryIsSpent e now ≡ true → (q : PeerMessagePolicy) (t : List ℕ) → Left p s (erase (k .bytes) (rowsOf p s)) q t → OnDisconnectedMeets p s k now (Changed.Policy q) t
+      pub disconnected-dropped : entryIsBanned e now ≡ false → entryIsSpent e now ≡ true → (q : PeerMessagePolicy) (t : List ℕ) → Left p (p .ingress) s (erase (k .bytes) (rowsOf p s)) q t → OnDisconnectedMeets p s k now (Changed.Policy q) t
       unfolding OnDisconnectedMeets onDisconnectedOutcome disconnectedChange
       disconnected-dropped free spent q t left =
           rw (h, found, free, spent) (record { answers = ap Changed.Policy (left .policy); leaves = left .memory })
 
-      pub disconnected-expired : entryIsBanned e now ≡ false → entryIsSpent e now ≡ false → (q : PeerMessagePolicy) (t : List ℕ) → Left p s (store (k .bytes) (entryExpireWindows e now (p .config .«ban_duration_ms»)) (rowsOf p s)) q t → OnDisconnectedMeets p s k now (Changed.Policy q) t
+      pub disconnected-expired : entryIsBanned e now ≡ false → entryIsSpent e now ≡ false → (q : PeerMessagePolicy) (t : List ℕ) → Left p (p .ingress) s (store (k .bytes) (entryExpireWindows e now (p .config .«ban_duration_ms»)) (rowsOf p s)) q t → OnDisconnectedMeets p s k now (Changed.Policy q) t
       unfolding OnDisconnectedMeets onDisconnectedOutcome disconnectedChange
       disconnected-expired free unspent q t left =
           rw (h, found, free, unspent) (record { answers = ap Changed.Policy (left .policy); leaves = left .memory })

@@ -5,16 +5,19 @@ use mathlib.Core.Bool.{Bool, true, false, cond}
 use mathlib.Core.List.{List, [], _∷_}
 use Prim.Native.Nat.{ℕ}
 use lib.Dec.{eqb, ltb}
-use lib.ListN.{length}
 use Rattle.pubkey.specs.declared.Pubkey.{Pubkey}
 use Rattle.refusal.specs.Refusal.{Said, gives, refused, tooShort, limitTooLarge, unsound, overflow}
 use Rattle.table.specs.Table.{look}
-use Rattle.table.specs.Memory.{Holds}
+use Rattle.table.specs.Outcome as lent
+pub use Rattle.table.specs.Outcome.{changedRows, rowsAfter}
 use Rattle.peer_settings.specs.declared.config.PeerMessagePolicyConfig.{PeerMessagePolicyConfig}
+use Rattle.peer_state.specs.declared.entry.PeerMessagePolicyEntry.{PeerMessagePolicyEntry}
 use Rattle.peer_state.specs.declared.ingress.FiberIngressBudget.{FiberIngressBudget}
 use Rattle.peer_message_policy.specs.declared.policy.PeerMessagePolicy.{PeerMessagePolicy}
 use Rattle.peer_verdict.specs.declared.verdict.Cause.{Cause}
 use Rattle.peer_verdict.specs.declared.verdict.Cause.the-variants as Cause
+use Rattle.peer_verdict.specs.declared.verdict.InvalidCause.{InvalidCause}
+use Rattle.peer_verdict.specs.declared.verdict.InvalidCause.the-variants as InvalidCause
 use Rattle.peer_message_policy.specs.declared.answer.Made.{Made}
 use Rattle.peer_message_policy.specs.declared.answer.Made.the-variants as Made
 use Rattle.peer_message_policy.specs.declared.answer.PeerMessageAdmission.{PeerMessageAdmission}
@@ -31,7 +34,7 @@ use Rattle.peer_message_policy.specs.declared.answer.HeldTime.{HeldTime}
 use Rattle.peer_message_policy.specs.declared.answer.HeldTime.the-variants as HeldTime
 use Rattle.peer_settings.specs.Config.{limit}
 use Rattle.peer_state.specs.Ingress.{inFlight, ingressReleased}
-use Rattle.peer_rows.specs.Rows.{Peers, peerLayout}
+use Rattle.peer_rows.specs.Rows.{peerLayout}
 use Rattle.peer_message_policy.specs.Policy.{rowsOf, policySound, longEnough, sound, Change, same, become, Turn, admit, recordInvalid, isBanned, isBannedChange, disconnectedChange, heldTime}
 
 -- ════ What the answers say ════════════════════════════════════════════════════════════════════════
@@ -90,34 +93,25 @@ heldTimeSays (HeldTime.Refused n) = refused n
 
 -- ════ Answers and memory ══════════════════════════════════════════════════════════════════════════
 
--- the rows after a change
-abbrev pub changedRows : Peers → Change → Peers
-changedRows rs same = rs
-changedRows rs (become xs) = xs
-
--- how many rows there are after a change
-abbrev pub rowsAfter : ℕ → Change → ℕ
-rowsAfter n same = n
-rowsAfter n (become rs) = length rs
+-- the policy with this load in flight and so many rows
+abbrev pub policyWith : PeerMessagePolicy → FiberIngressBudget → ℕ → PeerMessagePolicy
+policyWith p i n = record { config = p .config; ingress = i; rows = n }
 
 -- the policy with this load in flight, after a change of its rows
 abbrev pub policyAfter : PeerMessagePolicy → FiberIngressBudget → Change → PeerMessagePolicy
-policyAfter p i change = record { config = p .config; ingress = i; rows = rowsAfter (p .rows) change }
+policyAfter p i change = policyWith p i (rowsAfter (p .rows) change)
 
 -- lent memory that held n rows, after a change: every byte of it
 abbrev pub Memory : List ℕ → List ℕ → ℕ → Change → Type 0
-Memory before after n same = after ≡ before
-Memory before after n (become rs) = Holds peerLayout before after n rs
+Memory before after n change = lent.Memory peerLayout before after n change
 
 -- an answer, and what becomes of the rows
-pub record Outcome (A : Type 0) : Type 0 where
-  pub answer : A
-  pub change : Change
+abbrev pub Outcome : Type 0 → Type 0
+Outcome A = lent.Outcome PeerMessagePolicyEntry A
 
 -- a call gave this answer and left this memory
-pub record Meets {A : Type 0} (answer : A) (before after : List ℕ) (n : ℕ) (o : Outcome A) : Type 0 where
-  pub answers : answer ≡ o .answer
-  pub leaves : Memory before after n (o .change)
+abbrev pub Meets : {A : Type 0} → A → List ℕ → List ℕ → ℕ → Outcome A → Type 0
+Meets answer before after n o = lent.Meets peerLayout answer before after n o
 
 -- a refusal changes nothing
 abbrev pub refuse : {A : Type 0} → A → Outcome A
@@ -150,7 +144,7 @@ admissionOf p Cause.LiveBan = Admission.Ban p
 admissionOf p Cause.BanBegun = Admission.Ban p
 admissionOf p Cause.Overflow = Admission.Refused overflow
 
-abbrev pub admissionTurn : PeerMessagePolicy → Turn → Outcome PeerMessageAdmission
+abbrev pub admissionTurn : PeerMessagePolicy → Turn Cause → Outcome PeerMessageAdmission
 admissionTurn p t = record { answer = admissionOf (policyAfter p (t .ingress) (t .change)) (t .cause); change = t .change }
 
 unfoldable pub admitOutcome : PeerMessagePolicy → List ℕ → Pubkey → ℕ → ℕ → Outcome PeerMessageAdmission
@@ -161,18 +155,13 @@ admitOutcome p s k size now =
 unfoldable pub AdmitMeets : PeerMessagePolicy → List ℕ → Pubkey → ℕ → ℕ → PeerMessageAdmission → List ℕ → Type 0
 AdmitMeets p before k size now r after = Meets r before after (p .rows) (admitOutcome p before k size now)
 
--- a ban, live or begun, is answered Banned; anything else is noted
-abbrev pub invalidOf : PeerMessagePolicy → Cause → Invalid
-invalidOf p Cause.Allowed = Invalid.Noted p
-invalidOf p Cause.MessagesShort = Invalid.Noted p
-invalidOf p (Cause.BytesShort k) = Invalid.Noted p
-invalidOf p Cause.NoSlot = Invalid.Noted p
-invalidOf p (Cause.CeilingShort k) = Invalid.Noted p
-invalidOf p Cause.LiveBan = Invalid.Banned p
-invalidOf p Cause.BanBegun = Invalid.Banned p
-invalidOf p Cause.Overflow = Invalid.Noted p
+-- a ban, live or begun, is answered Banned
+abbrev pub invalidOf : PeerMessagePolicy → InvalidCause → Invalid
+invalidOf p InvalidCause.Noted = Invalid.Noted p
+invalidOf p InvalidCause.LiveBan = Invalid.Banned p
+invalidOf p InvalidCause.BanBegun = Invalid.Banned p
 
-abbrev pub invalidTurn : PeerMessagePolicy → Turn → Outcome Invalid
+abbrev pub invalidTurn : PeerMessagePolicy → Turn InvalidCause → Outcome Invalid
 invalidTurn p t = record { answer = invalidOf (policyAfter p (t .ingress) (t .change)) (t .cause); change = t .change }
 
 unfoldable pub recordInvalidOutcome : PeerMessagePolicy → List ℕ → Pubkey → ℕ → Outcome Invalid

@@ -4,9 +4,9 @@ use mathlib.Core.Bool.{true}
 use mathlib.Core.List.{List}
 use Prim.Native.Nat.{ℕ}
 use Rattle.table.specs.declared.seek.Seek.the-variants.{At, Gap}
-use Rattle.table.specs.Table.{placeFrom, store}
+use Rattle.table.specs.Table.{placeFrom}
 use Rattle.table.specs.Memory.{Holds}
-use Rattle.peer_verdict.specs.declared.verdict.Decision.{Decision}
+use Rattle.peer_state.specs.declared.ingress.FiberIngressBudget.{FiberIngressBudget}
 use Rattle.peer_rows.specs.Rows.{Peers, peerLayout}
 use Rattle.peer_message_policy.specs.declared.policy.PeerMessagePolicy.{PeerMessagePolicy}
 use Rattle.peer_message_policy.specs.Policy.{rowsOf, sound, become}
@@ -22,12 +22,7 @@ pub record Unknown (p : PeerMessagePolicy) (s : List ℕ) (k : List ℕ) (i : �
   pub is-sound : sound p s ≡ true
   pub place : placeFrom 0 k (rowsOf p s) ≡ Gap i
 
--- a decision is carried out: its entry is stored among these rows, and the policy goes on with its load in flight
-pub record Carried (p : PeerMessagePolicy) (s : List ℕ) (k : List ℕ) (rs : Peers) (d : Decision) (q : PeerMessagePolicy) (t : List ℕ) : Type 0 where
-  pub policy : q ≡ policyAfter p (d .ingress) (become (store k (d .entry) rs))
-  pub memory : Holds peerLayout s t (p .rows) (store k (d .entry) rs)
-
--- the rows become these, and the load in flight stays
-pub record Left (p : PeerMessagePolicy) (s : List ℕ) (rs : Peers) (q : PeerMessagePolicy) (t : List ℕ) : Type 0 where
-  pub policy : q ≡ policyAfter p (p .ingress) (become rs)
+-- the rows become these, and the policy goes on with this load in flight
+pub record Left (p : PeerMessagePolicy) (i : FiberIngressBudget) (s : List ℕ) (rs : Peers) (q : PeerMessagePolicy) (t : List ℕ) : Type 0 where
+  pub policy : q ≡ policyAfter p i (become rs)
   pub memory : Holds peerLayout s t (p .rows) rs

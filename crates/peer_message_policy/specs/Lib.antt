@@ -2,3 +2,4 @@ pub mod Policy
 pub mod Calls
 pub mod Sought
 pub mod Carry
+pub mod UpdateLaws

@@ -6,10 +6,10 @@ use Prim.Native.Nat.{ℕ}
 use Rattle.table.specs.declared.seek.Seek.{Seek}
 use Rattle.table.specs.declared.seek.Seek.the-variants.{Unsound}
 use Rattle.table.specs.Table.{seek}
-use Rattle.peer_state.specs.Entry.{entrySound}
+use Rattle.peer_rows.specs.Rows.{peerSound}
 use Rattle.peer_message_policy.specs.declared.policy.PeerMessagePolicy.{PeerMessagePolicy}
 use Rattle.peer_message_policy.specs.Policy.{rowsOf, policySound, longEnough}
 
 unfoldable pub soughtIn : PeerMessagePolicy → List ℕ → List ℕ → Seek
 soughtIn p s k =
-    cond (policySound p && longEnough (p .config) s) (seek (entrySound (p .config)) k (rowsOf p s)) Unsound
+    cond (policySound p && longEnough (p .config) s) (seek (peerSound (p .config)) k (rowsOf p s)) Unsound

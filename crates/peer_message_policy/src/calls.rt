@@ -10,6 +10,8 @@ use super::answer::Standing;
 use super::carry;
 use super::policy::PeerMessagePolicy;
 use peer_state::entry::PeerMessagePolicyEntry;
+use peer_verdict::verdict::Cause;
+use peer_verdict::verdict::InvalidCause;
 use pubkey::Pubkey;
 
 pub(crate) fn admit_known(
@@ -27,15 +29,20 @@ pub(crate) fn admit_known(
     let ingress = p.ingress;
     let entry = peer_rows::row::entry_at(table, index);
     if entry.is_banned(now_ms) {
-        return PeerMessageAdmission::Ban(p);
+        return carry::admission_of(p, Cause::LiveBan);
     }
     let judged = peer_state::entry::entry_to_judge(config, entry, now_ms);
     let d = peer_verdict::verdict::judged(config, ingress, judged, bytes, now_ms);
     let cause = d.cause;
     if peer_verdict::verdict::overflows(cause) {
-        return PeerMessageAdmission::Refused(refusal::OVERFLOW);
+        return carry::admission_of(p, cause);
     }
-    carry::admission_of(carry::store_known(p, table, peer, index, d), cause)
+    let after = d.entry;
+    let load = d.ingress;
+    carry::admission_of(
+        carry::store_known(p, table, peer, index, after, load),
+        cause,
+    )
 }
 
 pub(crate) fn admit_new(
@@ -55,9 +62,14 @@ pub(crate) fn admit_new(
     let d = peer_verdict::verdict::judged(config, ingress, entry, bytes, now_ms);
     let cause = d.cause;
     if peer_verdict::verdict::overflows(cause) {
-        return PeerMessageAdmission::Refused(refusal::OVERFLOW);
+        return carry::admission_of(p, cause);
     }
-    carry::admission_of(carry::store_new(p, table, peer, gap, d, now_ms), cause)
+    let after = d.entry;
+    let load = d.ingress;
+    carry::admission_of(
+        carry::store_new(p, table, peer, gap, after, load, now_ms),
+        cause,
+    )
 }
 
 pub(crate) fn invalid_known(
@@ -74,12 +86,16 @@ pub(crate) fn invalid_known(
     let ingress = p.ingress;
     let entry = peer_rows::row::entry_at(table, index);
     if entry.is_banned(now_ms) {
-        return Invalid::Banned(p);
+        return carry::invalid_of(p, InvalidCause::LiveBan);
     }
     let judged = peer_state::entry::entry_to_judge(config, entry, now_ms);
-    let d = peer_verdict::verdict::judged_invalid(config, ingress, judged, now_ms);
+    let d = peer_verdict::verdict::judged_invalid(config, judged, now_ms);
     let cause = d.cause;
-    carry::invalid_of(carry::store_known(p, table, peer, index, d), cause)
+    let after = d.entry;
+    carry::invalid_of(
+        carry::store_known(p, table, peer, index, after, ingress),
+        cause,
+    )
 }
 
 pub(crate) fn invalid_new(
@@ -95,9 +111,13 @@ pub(crate) fn invalid_new(
     let config = p.config;
     let ingress = p.ingress;
     let entry = PeerMessagePolicyEntry::new(now_ms, config);
-    let d = peer_verdict::verdict::judged_invalid(config, ingress, entry, now_ms);
+    let d = peer_verdict::verdict::judged_invalid(config, entry, now_ms);
     let cause = d.cause;
-    carry::invalid_of(carry::store_new(p, table, peer, gap, d, now_ms), cause)
+    let after = d.entry;
+    carry::invalid_of(
+        carry::store_new(p, table, peer, gap, after, ingress, now_ms),
+        cause,
+    )
 }
 
 pub(crate) fn standing_known(

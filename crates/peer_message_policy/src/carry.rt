@@ -1,8 +1,8 @@
-// Carrying a decision out: its entry is stored, and the policy goes on with its load in flight.
+// Carrying a decision out: its entry is stored, and the policy goes on with the load in flight.
 ghost use mathlib.Core.Path.{_≡_};
 ghost use Rattle.peer_message_policy.specs.Calls.{admissionOf, invalidOf};
 ghost use Rattle.table.specs.Table.{store, erase};
-ghost use Rattle.peer_message_policy.specs.Carry.{Known, Unknown, Carried, Left};
+ghost use Rattle.peer_message_policy.specs.Carry.{Known, Unknown, Left};
 ghost use Prim.Native.Nat.{_*_};
 ghost use Rattle.lent_bytes.specs.LentBytes.{part};
 ghost use Rattle.table.specs.Memory.{rowOf};
@@ -14,8 +14,9 @@ use super::answer::Invalid;
 use super::answer::PeerMessageAdmission;
 use super::policy::PeerMessagePolicy;
 use peer_state::entry::PeerMessagePolicyEntry;
+use peer_state::ingress::FiberIngressBudget;
 use peer_verdict::verdict::Cause;
-use peer_verdict::verdict::Decision;
+use peer_verdict::verdict::InvalidCause;
 use pubkey::Pubkey;
 
 // The public answer merges the causes.
@@ -35,18 +36,13 @@ pub(crate) fn admission_of(p: PeerMessagePolicy, cause: Cause) -> PeerMessageAdm
 }
 
 // Banned where a ban is live or begins, else noted.
-pub(crate) fn invalid_of(p: PeerMessagePolicy, cause: Cause) -> Invalid
+pub(crate) fn invalid_of(p: PeerMessagePolicy, cause: InvalidCause) -> Invalid
     ensures { λ r. ⌜ r ≡ invalidOf p cause ⌝ }
 {
     match cause {
-        Cause::Allowed => Invalid::Noted(p),
-        Cause::MessagesShort => Invalid::Noted(p),
-        Cause::BytesShort(_) => Invalid::Noted(p),
-        Cause::NoSlot => Invalid::Noted(p),
-        Cause::CeilingShort(_) => Invalid::Noted(p),
-        Cause::LiveBan => Invalid::Banned(p),
-        Cause::BanBegun => Invalid::Banned(p),
-        Cause::Overflow => Invalid::Noted(p),
+        InvalidCause::Noted => Invalid::Noted(p),
+        InvalidCause::LiveBan => Invalid::Banned(p),
+        InvalidCause::BanBegun => Invalid::Banned(p),
     }
 }
 
@@ -56,44 +52,38 @@ pub(crate) fn store_known(
     table: &mut [u8],
     peer: Pubkey,
     index: usize,
-    d: Decision,
+    entry: PeerMessagePolicyEntry,
+    ingress: FiberIngressBudget,
 ) -> PeerMessagePolicy
     requires { ⌜ Known p (now table) (peer .bytes) index ⌝ }
-    ensures { λ r. ⌜ Carried p (now (table .entry)) (peer .bytes) (rowsOf p (now (table .entry))) d r (now (table .exit)) ⌝ }
+    ensures { λ r. ⌜ Left p ingress (now (table .entry)) (store (peer .bytes) entry (rowsOf p (now (table .entry)))) r (now (table .exit)) ⌝ }
 {
-    let entry = d.entry;
-    let ingress = d.ingress;
-    let config = p.config;
     peer_table::places::overwrite_at(table, p.rows as usize, index, entry);
-    PeerMessagePolicy {
-        config,
-        ingress,
-        rows: p.rows,
-    }
+    p.after(ingress, p.rows)
 }
 
-// Makes room for a peer that has no row, and stores its decided entry.
+// Stores the decided entry of a peer that has no row: at its gap, or where the table is full, in room that is made for it. Rows go
+// then, so that its place is sought again.
 pub(crate) fn store_new(
     p: PeerMessagePolicy,
     table: &mut [u8],
     peer: Pubkey,
     gap: usize,
-    d: Decision,
+    entry: PeerMessagePolicyEntry,
+    ingress: FiberIngressBudget,
     now_ms: u64,
 ) -> PeerMessagePolicy
     requires { ⌜ Unknown p (now table) (peer .bytes) gap ⌝ }
-    ensures { λ r. ⌜ Carried p (now (table .entry)) (peer .bytes) (makeRoom (p .config) «now_ms» (rowsOf p (now (table .entry)))) d r (now (table .exit)) ⌝ }
+    ensures { λ r. ⌜ Left p ingress (now (table .entry)) (store (peer .bytes) entry (makeRoom (p .config) «now_ms» (rowsOf p (now (table .entry))))) r (now (table .exit)) ⌝ }
 {
-    let entry = d.entry;
-    let ingress = d.ingress;
     let config = p.config;
+    if p.rows < config.limit() {
+        peer_table::places::insert_at(table, p.rows as usize, gap, peer, entry);
+        return p.after(ingress, p.rows + 1);
+    }
     let count = peer_table::room::make_room(config, table, p.rows as usize, now_ms);
     let rows = peer_table::places::store(table, count, peer, entry);
-    PeerMessagePolicy {
-        config,
-        ingress,
-        rows: rows as u64,
-    }
+    p.after(ingress, rows as u64)
 }
 
 // Takes a known peer's row out.
@@ -104,16 +94,11 @@ pub(crate) fn drop_known(
     index: usize,
 ) -> PeerMessagePolicy
     requires { ⌜ Known p (now table) (peer .bytes) index ⌝ }
-    ensures { λ r. ⌜ Left p (now (table .entry)) (erase (peer .bytes) (rowsOf p (now (table .entry)))) r (now (table .exit)) ⌝ }
+    ensures { λ r. ⌜ Left p (p .ingress) (now (table .entry)) (erase (peer .bytes) (rowsOf p (now (table .entry)))) r (now (table .exit)) ⌝ }
 {
-    let config = p.config;
     let ingress = p.ingress;
     peer_table::places::remove_at(table, p.rows as usize, index);
-    PeerMessagePolicy {
-        config,
-        ingress,
-        rows: p.rows - 1,
-    }
+    p.after(ingress, p.rows - 1)
 }
 
 // Lets the violation windows of a known peer's entry expire. A row that this leaves as it is, is not written: a window that
@@ -128,7 +113,7 @@ pub(crate) fn expire_known(
 ) -> PeerMessagePolicy
     requires { ⌜ Known p (now table) (peer .bytes) index ⌝ }
     requires { ⌜ entry ≡ rowOf peerLayout (part (now table) (121 * index) 121) .entry ⌝ }
-    ensures { λ r. ⌜ Left p (now (table .entry)) (store (peer .bytes) (entryExpireWindows entry «now_ms» (p .config .«ban_duration_ms»)) (rowsOf p (now (table .entry)))) r (now (table .exit)) ⌝ }
+    ensures { λ r. ⌜ Left p (p .ingress) (now (table .entry)) (store (peer .bytes) (entryExpireWindows entry «now_ms» (p .config .«ban_duration_ms»)) (rowsOf p (now (table .entry)))) r (now (table .exit)) ⌝ }
 {
     let config = p.config;
     let expired = peer_state::entry::entry_left(config, entry, now_ms);

@@ -1,7 +1,7 @@
 // The policy by value: how one is made, and its calls. Each call judges and finds; what follows is in `calls`.
 ghost use mathlib.Core.Path.{_≡_};
 ghost use Rattle.peer_settings.specs.Config.{configDefault, configWithLimits};
-ghost use Rattle.peer_message_policy.specs.Calls.{NewMeets, AdmitMeets, RecordInvalidMeets, IsBannedMeets, OnDisconnectedMeets, ReleaseIngressMeets, InFlightMeets, HeldTimeMeets};
+ghost use Rattle.peer_message_policy.specs.Calls.{fresh, policyWith, NewMeets, AdmitMeets, RecordInvalidMeets, IsBannedMeets, OnDisconnectedMeets, ReleaseIngressMeets, InFlightMeets, HeldTimeMeets};
 use super::answer::Changed;
 use super::answer::HeldTime;
 use super::answer::InFlight;
@@ -37,14 +37,33 @@ impl PeerMessagePolicy {
             return Made::Refused(refusal::TOO_SHORT);
         }
         table::rows::zero_rows(table, judge::ROW_WIDTH, 0, limit as usize);
-        Made::Policy(PeerMessagePolicy {
+        Made::Policy(PeerMessagePolicy::fresh(config))
+    }
+
+    // The record alone of a policy with no peer and nothing in flight.
+    pub fn fresh(config: PeerMessagePolicyConfig) -> PeerMessagePolicy
+        ensures { λ r. ⌜ r ≡ fresh config ⌝ }
+    {
+        PeerMessagePolicy {
             config,
             ingress: FiberIngressBudget {
                 in_flight_messages: 0,
                 in_flight_bytes: 0,
             },
             rows: 0,
-        })
+        }
+    }
+
+    // The record as a call leaves it: the settings stay.
+    pub(crate) fn after(self, ingress: FiberIngressBudget, rows: u64) -> PeerMessagePolicy
+        ensures { λ r. ⌜ r ≡ policyWith self ingress rows ⌝ }
+    {
+        let config = self.config;
+        PeerMessagePolicy {
+            config,
+            ingress,
+            rows,
+        }
     }
 
     // A policy with the default settings.
@@ -132,14 +151,9 @@ impl PeerMessagePolicy {
         if !judge::is_sound(self) {
             return Changed::Refused(refusal::UNSOUND);
         }
-        let config = self.config;
         let load = self.ingress;
         let ingress = load.release(bytes);
-        Changed::Policy(PeerMessagePolicy {
-            config,
-            ingress,
-            rows: self.rows,
-        })
+        Changed::Policy(self.after(ingress, self.rows))
     }
 
     // How many messages and bytes are in flight.

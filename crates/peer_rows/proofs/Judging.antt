@@ -18,8 +18,7 @@ use Rattle.table.specs.PlaceLaws.{search-ends, search-before, search-finds, sea
 use Rattle.table.specs.MemoryLaws.{length-rows, rows-cons, key-rows, key-rowOf}
 use Rattle.peer_settings.specs.declared.config.PeerMessagePolicyConfig.{PeerMessagePolicyConfig}
 use Rattle.peer_state.specs.declared.entry.PeerMessagePolicyEntry.{PeerMessagePolicyEntry}
-use Rattle.peer_state.specs.Entry.{entrySound}
-use Rattle.peer_rows.specs.Rows.{Peers, peerLayout}
+use Rattle.peer_rows.specs.Rows.{Peers, peerLayout, peerSound}
 use Rattle.peer_rows.specs.RowsLaws.{peer-faithful}
 
 -- ---- picking ----
@@ -41,7 +40,7 @@ peer s i = rowOf peerLayout (part s (121 * i) 121)
 
 -- whether the rows from the i-th on are sound
 abbrev pub soundFrom : PeerMessagePolicyConfig → List ℕ → ℕ → ℕ → Bool
-soundFrom c s n i = every (entrySound c) (drop i (peers s n)) && ascending (drop i (peers s n))
+soundFrom c s n i = every (peerSound c) (drop i (peers s n)) && ascending (drop i (peers s n))
 
 module _ (s : List ℕ) (n i : ℕ) where
   -- the last row is in order
@@ -66,21 +65,21 @@ module _ (c : PeerMessagePolicyConfig) (s : List ℕ) (n i : ℕ) where
       rw (drop-of-length-le (peers s n) most)
 
   module _ (inside : i < n) where
-    sound-step : soundFrom c s n i ≡ (entrySound c (peer s i .entry) && (below (peer s i .key) (drop (i + 1) (peers s n)) && soundFrom c s n (i + 1)))
+    sound-step : soundFrom c s n i ≡ (peerSound c (peer s i) && (below (peer s i .key) (drop (i + 1) (peers s n)) && soundFrom c s n (i + 1)))
     sound-step =
-        ap (λ (rs : Peers). every (entrySound c) rs && ascending rs) (rows-cons peerLayout s n i inside)
-        ∙ sound-cons (entrySound c) (peer s i) (drop (i + 1) (peers s n))
+        ap (λ (rs : Peers). every (peerSound c) rs && ascending rs) (rows-cons peerLayout s n i inside)
+        ∙ sound-cons (peerSound c) (peer s i) (drop (i + 1) (peers s n))
 
     -- the i-th row breaks a rule
-    pub sound-breaks-rule : entrySound c (peer s i .entry) ≡ false → soundFrom c s n i ≡ false
+    pub sound-breaks-rule : peerSound c (peer s i) ≡ false → soundFrom c s n i ≡ false
     sound-breaks-rule h = sound-step ∙ rw h
 
     -- the i-th row is not before the next
     pub sound-breaks-order : below (peer s i .key) (drop (i + 1) (peers s n)) ≡ false → soundFrom c s n i ≡ false
-    sound-breaks-order h = sound-step ∙ second-fails (entrySound c (peer s i .entry)) (rw h)
+    sound-breaks-order h = sound-step ∙ second-fails (peerSound c (peer s i)) (rw h)
 
     -- the i-th row is sound
-    pub sound-goes-on : entrySound c (peer s i .entry) ≡ true → below (peer s i .key) (drop (i + 1) (peers s n)) ≡ true
+    pub sound-goes-on : peerSound c (peer s i) ≡ true → below (peer s i .key) (drop (i + 1) (peers s n)) ≡ true
         → soundFrom c s n i ≡ soundFrom c s n (i + 1)
     sound-goes-on h k = sound-step ∙ rw (h, k)
 
@@ -114,16 +113,16 @@ module _ (k s : List ℕ) (n i : ℕ) (from : placeFrom 0 k (peers s n) ≡ plac
 
 module _ (c : PeerMessagePolicyConfig) (k s : List ℕ) (n : ℕ) where
   -- the rows are unsound
-  pub seek-fails : soundFrom c s n 0 ≡ false → Unsound ≡ seek (entrySound c) k (peers s n)
-  seek-fails h = sym (seek-unsound (entrySound c) k (peers s n) .1 h)
+  pub seek-fails : soundFrom c s n 0 ≡ false → Unsound ≡ seek (peerSound c) k (peers s n)
+  seek-fails h = sym (seek-unsound (peerSound c) k (peers s n) .1 h)
 
   -- the rows are sound
-  pub seek-ends : {found : Seek} → soundFrom c s n 0 ≡ true → placeFrom 0 k (peers s n) ≡ found → found ≡ seek (entrySound c) k (peers s n)
-  seek-ends h e = sym (seek-sound (entrySound c) k (peers s n) h ∙ e)
+  pub seek-ends : {found : Seek} → soundFrom c s n 0 ≡ true → placeFrom 0 k (peers s n) ≡ found → found ≡ seek (peerSound c) k (peers s n)
+  seek-ends h e = sym (seek-sound (peerSound c) k (peers s n) h ∙ e)
 
   -- the place is known, and the rows from the i-th on are judged
   pub seek-judged : (i : ℕ) (found r : Seek) → soundFrom c s n 0 ≡ soundFrom c s n i → placeFrom 0 k (peers s n) ≡ found
-      → r ≡ cond (soundFrom c s n i) found Unsound → r ≡ seek (entrySound c) k (peers s n)
+      → r ≡ cond (soundFrom c s n i) found Unsound → r ≡ seek (peerSound c) k (peers s n)
   unfolding seek
   seek-judged i found r h e judged =
       judged ∙ sym (ap (λ (b : Bool). cond b (placeFrom 0 k (peers s n)) Unsound) h ∙ ap (λ (q : Seek). cond (soundFrom c s n i) q Unsound) e)

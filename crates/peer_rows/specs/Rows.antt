@@ -1,10 +1,12 @@
--- The peers' rows: how an entry stands in its 88 bytes behind the key. Definitions only.
+-- The peers' rows: how an entry stands in its 88 bytes behind the key, and the rule that each row keeps. Definitions only.
+use mathlib.Core.Bool.{Bool}
 use mathlib.Core.List.{List, [], _∷_}
 use Prim.Native.Nat.{ℕ}
 use Rattle.table.specs.Table.{Row}
 use Rattle.table.specs.Memory.{Layout, wordBytes, wordOf}
+use Rattle.peer_settings.specs.declared.config.PeerMessagePolicyConfig.{PeerMessagePolicyConfig}
 use Rattle.peer_state.specs.declared.entry.PeerMessagePolicyEntry.{PeerMessagePolicyEntry}
-use Rattle.peer_state.specs.Entry.{level, window}
+use Rattle.peer_state.specs.Entry.{level, window, entrySound}
 
 -- the eleven numbers of an entry, in the order of the row
 unfoldable pub entryWords : PeerMessagePolicyEntry → List ℕ
@@ -41,3 +43,7 @@ peerLayout = record { keyWidth = 33; width = 121; encode = λ e. wordBytes (entr
 -- the rows of a policy, each peer's by its key
 abbrev pub Peers : Type 0
 Peers = List (Row PeerMessagePolicyEntry)
+
+-- the rule of a peer's row: its entry keeps the entry's own rules
+abbrev pub peerSound : PeerMessagePolicyConfig → Row PeerMessagePolicyEntry → Bool
+peerSound c r = entrySound c (r .entry)

@@ -3,7 +3,7 @@
 use mathlib.Core.Path.{_≡_, refl, ap, _∙_}
 use mathlib.Core.Bool.{_&&_, _||_}
 use mathlib.Core.List.{List, [], _∷_}
-use Prim.Native.Nat.{ℕ, zero, suc, _+_, _-_, _*_, _^_, _<_, _≤_}
+use Prim.Native.Nat.{ℕ, zero, suc, _+_, _-_, _*_, _^_, _<_, _≤_, max}
 use native.Mathlib.Omega.{arith}
 use lib.Dec.{leb, eqb}
 use lib.ListN.{length, drop, getD}
@@ -15,7 +15,7 @@ use Rattle.table.specs.MemoryLaws.{Words, Faithful, Fit, length-wordBytes, Byte
 use Rattle.peer_settings.specs.declared.config.PeerMessagePolicyConfig.{PeerMessagePolicyConfig}
 use Rattle.peer_state.specs.declared.entry.PeerMessagePolicyEntry.{PeerMessagePolicyEntry}
 use Rattle.peer_state.specs.Entry.{level, window, entrySound, entryIsSpent}
-use Rattle.peer_rows.specs.Rows.{entryWords, entryOf, peerLayout, Peers}
+use Rattle.peer_rows.specs.Rows.{entryWords, entryOf, peerLayout, Peers, peerSound}
 use Rattle.peer_rows.specs.Peer.{peerRow, ban}
 
 -- ---- entries and their bytes ----
@@ -155,7 +155,7 @@ pub fit-peerRow : (k : List ℕ) (e : PeerMessagePolicyEntry) → length k ≡ 3
 fit-peerRow k e h b f = record { key-length = h; key-bytes = b; entry-good = f }
 
 -- of two calls the second decides, where it wipes or covers what the first wrote behind the n rows
-pub holds-holds : (s t u : List ℕ) (n : ℕ) (rs qs : Peers) → AllFit peerLayout EntryFits rs → length rs ≤ n + (length qs - n)
+pub holds-holds : (s t u : List ℕ) (n : ℕ) (rs qs : Peers) → AllFit peerLayout EntryFits rs → length rs ≤ max n (length qs)
     → Holds peerLayout s t n rs → Holds peerLayout t u (length rs) qs → Holds peerLayout s u n qs
 holds-holds s t u n rs qs f h first second =
     record {
@@ -173,9 +173,10 @@ word-place s at i p h e =
     ap (λ (l : List ℕ). wordOf l i) (drop-part s at 121 33 (omega arith))
     ∙ ap le (part-part s (at + 33) 88 (8 * i) 8 (omega arith) ∙ ap (λ (k : ℕ). part s k 8) e)
 
--- the entry of the row at a place
-pub entry-places : (s : List ℕ) (at : ℕ) → rowOf peerLayout (part s at 121) .entry
-    ≡ record {
+-- the entry whose numbers stand behind the key of the row at a place
+abbrev pub entryPlaces : List ℕ → ℕ → PeerMessagePolicyEntry
+entryPlaces s at =
+    record {
       messages = level (le (part s (at + 33) 8)) (le (part s (at + 33 + 8) 8));
       bytes = level (le (part s (at + 49) 8)) (le (part s (at + 49 + 8) 8));
       «rate_limit_violations» = window (le (part s (at + 65) 8)) (le (part s (at + 65 + 8) 8));
@@ -183,6 +184,9 @@ pub entry-places : (s : List ℕ) (at : ℕ) → rowOf peerLayout (part s at 121
       ban = ban (le (part s (at + 97) 8)) (le (part s (at + 97 + 8) 8));
       «last_used_ms» = le (part s (at + 113) 8);
     }
+
+-- the entry of the row at a place
+pub entry-places : (s : List ℕ) (at : ℕ) → rowOf peerLayout (part s at 121) .entry ≡ entryPlaces s at
 unfolding rowOf entryOf
 entry-places s at =
     rw (
@@ -199,8 +203,12 @@ entry-places s at =
       word-place s at 10 (at + 113) (omega arith) (omega arith),
     )
 
--- whether the entry of the row at a place keeps its rules
-pub sound-places : (c : PeerMessagePolicyConfig) (s : List ℕ) (at : ℕ) → entrySound c (rowOf peerLayout (part s at 121) .entry)
+-- the row at a place
+pub row-places : (s : List ℕ) (at : ℕ) → rowOf peerLayout (part s at 121) ≡ peerRow (rowOf peerLayout (part s at 121) .key) (entryPlaces s at)
+row-places s at = ap (peerRow (rowOf peerLayout (part s at 121) .key)) (entry-places s at)
+
+-- whether the row at a place keeps its rule
+pub sound-places : (c : PeerMessagePolicyConfig) (s : List ℕ) (at : ℕ) → peerSound c (rowOf peerLayout (part s at 121))
     ≡ (leb (le (part s (at + 33) 8)) (c .«peer_message_burst»)
     && (leb (le (part s (at + 49) 8)) (c .«peer_message_burst_bytes»)
     && (leb (le (part s (at + 65) 8)) 4294967295

@@ -7,8 +7,8 @@ ghost use lib.Dec.{eqb};
 ghost use lib.ListN.{length};
 ghost use Rattle.lent_bytes.specs.LentBytes.{part, le};
 ghost use Rattle.table.specs.Memory.{rowOf};
-ghost use Rattle.peer_state.specs.Entry.{level, window, entrySound, entryIsSpent};
-ghost use Rattle.peer_rows.specs.Rows.{entryWords, peerLayout};
+ghost use Rattle.peer_state.specs.Entry.{level, window, entryIsSpent};
+ghost use Rattle.peer_rows.specs.Rows.{entryWords, peerLayout, peerSound};
 ghost use Rattle.peer_rows.specs.Peer.{ban};
 use lent_bytes::number::get_u64;
 use peer_settings::config::PeerMessagePolicyConfig;
@@ -103,7 +103,7 @@ fn ban_sound(table: &[u8], at: usize) -> bool
 // Whether the entry of the row at the place keeps its rules. It reads the six numbers that are judged and no other.
 pub(crate) fn row_sound(config: PeerMessagePolicyConfig, table: &[u8], at: usize) -> bool
     requires { ⌜ at + 121 ≤ length (now table) ⌝ }
-    ensures { λ r. ⌜ r ≡ entrySound config (rowOf peerLayout (part (now (table .entry)) at 121) .entry) ⌝ }
+    ensures { λ r. ⌜ r ≡ peerSound config (rowOf peerLayout (part (now (table .entry)) at 121)) ⌝ }
 {
     let message_burst = config.peer_message_burst as u64;
     if get_u64(table, at + 33) > message_burst {

@@ -7,8 +7,7 @@ ghost use Rattle.lent_bytes.specs.LentBytes.{part};
 ghost use Rattle.pubkey.specs.Order.{compareBytes};
 ghost use Rattle.table.specs.Table.{below, ascending, every, placeFrom, seek};
 ghost use Rattle.table.specs.Memory.{rowOf, rows};
-ghost use Rattle.peer_state.specs.Entry.{entrySound};
-ghost use Rattle.peer_rows.specs.Rows.{peerLayout};
+ghost use Rattle.peer_rows.specs.Rows.{peerLayout, peerSound};
 ghost use Rattle.peer_rows.specs.Peer.{front};
 ghost use Rattle.table.specs.declared.seek.Seek.the-variants.{Unsound};
 use super::row::row_sound;
@@ -77,7 +76,7 @@ fn judged(
 ) -> Seek
     requires { ⌜ 121 * count ≤ length (now table) ⌝ }
     requires { ⌜ from ≤ count ⌝ }
-    ensures { λ r. ⌜ r ≡ cond (every (entrySound config) (drop from (rows peerLayout (now (table .entry)) count)) && ascending (drop from (rows peerLayout (now (table .entry)) count))) found Unsound ⌝ }
+    ensures { λ r. ⌜ r ≡ cond (every (peerSound config) (drop from (rows peerLayout (now (table .entry)) count)) && ascending (drop from (rows peerLayout (now (table .entry)) count))) found Unsound ⌝ }
 {
     let mut i = from;
     while i < count {
@@ -95,7 +94,7 @@ fn judged(
 // Judges rows and compares their keys with the key until its place is known, and then judges the others.
 fn walked(config: PeerMessagePolicyConfig, table: &[u8], count: usize, key: &[u8]) -> Seek
     requires { ⌜ 121 * count ≤ length (now table) ⌝ }
-    ensures { λ r. ⌜ r ≡ seek (entrySound config) (now (key .entry)) (rows peerLayout (now (table .entry)) count) ⌝ }
+    ensures { λ r. ⌜ r ≡ seek (peerSound config) (now (key .entry)) (rows peerLayout (now (table .entry)) count) ⌝ }
 {
     let mut i: usize = 0;
     while i < count {
@@ -118,7 +117,7 @@ fn walked(config: PeerMessagePolicyConfig, table: &[u8], count: usize, key: &[u8
 // Whether the rows are sound, and where the key stands or would stand: one walk, which judges each row once.
 pub fn sought(config: PeerMessagePolicyConfig, table: &[u8], count: usize, key: Pubkey) -> Seek
     requires { ⌜ 121 * count ≤ length (now table) ⌝ }
-    ensures { λ r. ⌜ r ≡ seek (entrySound config) (key .bytes) (rows peerLayout (now (table .entry)) count) ⌝ }
+    ensures { λ r. ⌜ r ≡ seek (peerSound config) (key .bytes) (rows peerLayout (now (table .entry)) count) ⌝ }
 {
     let bytes = key.bytes;
     walked(config, table, count, &bytes)

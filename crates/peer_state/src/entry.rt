@@ -6,7 +6,7 @@ ghost use mathlib.Core.Bool.{cond};
 ghost use Prim.Native.Nat.{_+_, min};
 ghost use lib.Dec.{eqb};
 ghost use Rattle.peer_state.specs.Entry.{window, windowExpire, windowCounted, windowRecord, entryNew, entryIsBanned, entryIsSpent};
-ghost use Rattle.peer_state.specs.Entry.{entryBan, entryExpireWindows, entryUsed, entrySound, entryToJudge, sameCounts};
+ghost use Rattle.peer_state.specs.Entry.{entryBan, entryExpireWindows, entryUsed, entryToJudge, sameCounts};
 use super::saturating::saturating_add;
 use super::saturating::saturating_sub;
 use peer_settings::config::PeerMessagePolicyConfig;
@@ -192,25 +192,6 @@ impl PeerMessagePolicyEntry {
             ban,
             last_used_ms: now_ms,
         }
-    }
-
-    // Whether a call may have left this entry behind.
-    pub fn is_sound(self, config: PeerMessagePolicyConfig) -> bool
-        ensures { λ r. ⌜ r ≡ entrySound config self ⌝ }
-    {
-        if self.messages.available > config.peer_message_burst as u64 {
-            return false;
-        }
-        if self.bytes.available > config.peer_message_burst_bytes {
-            return false;
-        }
-        if self.rate_limit_violations.count > 4_294_967_295 {
-            return false;
-        }
-        if self.invalid_messages.count > 4_294_967_295 {
-            return false;
-        }
-        self.ban.mark == 1 || (self.ban.mark == 0 && self.ban.until_ms == 0)
     }
 }
 

@@ -9,8 +9,9 @@ use Rattle.lent_bytes.specs.LentBytesLaws.{length-part, Bytes-part}
 use Rattle.table.specs.declared.seek.Seek.the-variants.{At, Gap}
 use Rattle.table.specs.Table.{Row, placeFrom, store, insertAt, removeAt}
 use Rattle.table.specs.Memory.{wordBytes, rowBytes, rowOf, rows, Holds}
+use Rattle.table.specs.TableLaws.{sub-removeAt}
 use Rattle.table.specs.PlaceLaws.{at-inside, at-key, at-store, at-length-store, gap-inside, gap-store, gap-length-store}
-use Rattle.table.specs.MemoryLaws.{AllFit, Fit, length-rows, fit-rows, fit-append, fit-take, fit-drop, fit-insertAt, fit-removeAt}
+use Rattle.table.specs.MemoryLaws.{AllFit, Fit, length-rows, fit-rows, fit-append, fit-take, fit-drop, fit-insertAt, sub-fit}
 use Rattle.table.specs.MemoryLaws.{put-remove, put-insert, put-entry, holds, key-rows, laid-rows}
 use Rattle.peer_state.specs.declared.entry.PeerMessagePolicyEntry.{PeerMessagePolicyEntry}
 use Rattle.peer_rows.specs.Rows.{entryWords, Peers, peerLayout}
@@ -25,7 +26,7 @@ module _ (s t : List ℕ) (n : ℕ) (b : Bytes s) (h : 121 * n ≤ length s) whe
   pub removed : (i : ℕ) → i < n → t ≡ put s (121 * i) (part s (121 * (i + 1)) (121 * (n - (i + 1))) ++ zeros 121)
       → Holds peerLayout s t n (removeAt i (rows peerLayout s n))
   removed i k e =
-      holds peer-faithful s t n (removeAt i (rows peerLayout s n)) (fit-removeAt peer-faithful i (rows peerLayout s n) all-fit)
+      holds peer-faithful s t n (removeAt i (rows peerLayout s n)) (sub-fit peer-faithful (sub-removeAt i (rows peerLayout s n)) all-fit)
       (e ∙ put-remove peer-faithful s n i b h k)
 
   -- an entry written over

@@ -29,10 +29,10 @@ module _ (banned : Bool) (s : List ℕ) (n i : ℕ) (found : Best)
   first-ends h = sym (least-ends (measureBy banned) (peers s n) i found (omega (arith, length-rows peerLayout s n)) from)
 
   -- the i-th row is taken in
-  pub first-goes-on : (m : Option ℕ) (next : Best) → i < n → m ≡ measureBy banned (peer s i .entry) → next ≡ better found i m
+  pub first-goes-on : (m : Option ℕ) (next : Best) → i < n → m ≡ measureBy banned (peer s i) → next ≡ better found i m
       → leastFrom (measureBy banned) nothing 0 (peers s n) ≡ leastFrom (measureBy banned) next (i + 1) (drop (i + 1) (peers s n))
   first-goes-on m next h e f =
       least-goes-on (measureBy banned) (peers s n) i found (peer s i) (omega (arith, length-rows peerLayout s n)) from
-      ∙ ap (λ (r : Row PeerMessagePolicyEntry). leastFrom (measureBy banned) (better found i (measureBy banned (r .entry))) (i + 1) (drop (i + 1) (peers s n)))
+      ∙ ap (λ (r : Row PeerMessagePolicyEntry). leastFrom (measureBy banned) (better found i (measureBy banned r)) (i + 1) (drop (i + 1) (peers s n)))
       (getD-rows peerLayout s n i (peer s i) h)
       ∙ ap (λ (b : Best). leastFrom (measureBy banned) b (i + 1) (drop (i + 1) (peers s n))) (sym (f ∙ ap (better found i) e))

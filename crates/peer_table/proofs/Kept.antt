@@ -17,7 +17,7 @@ use Rattle.peer_state.specs.declared.entry.PeerMessagePolicyEntry.{PeerMessageP
 use Rattle.peer_state.specs.Entry.{entryIsSpent}
 use Rattle.peer_rows.specs.Rows.{Peers, peerLayout}
 use Rattle.peer_rows.specs.RowsLaws.{EntryFits, peer-faithful}
-use Rattle.peer_table.specs.Room.{pruneExpiredBans}
+use Rattle.peer_table.specs.Room.{unspent, pruneExpiredBans}
 
 -- the rows kept of the first i
 abbrev pub keptOf : ℕ → List ℕ → ℕ → ℕ → Peers
@@ -26,7 +26,7 @@ keptOf now s n i = pruneExpiredBans now (take i (rows peerLayout s n))
 module _ (now : ℕ) (s : List ℕ) (n : ℕ) where
   -- no more rows are kept than were tried
   pub kept-most : (i : ℕ) → length (keptOf now s n i) ≤ i
-  kept-most i = length-retain-tried (λ e. not (entryIsSpent e now)) (rows peerLayout s n) i
+  kept-most i = length-retain-tried (unspent now) (rows peerLayout s n) i
 
   -- the walk begins: nothing is kept
   pub kept-begins : (s ≡ put s 0 (tableBytes peerLayout (keptOf now s n 0))) × (0 ≡ length (keptOf now s n 0))
@@ -35,17 +35,17 @@ module _ (now : ℕ) (s : List ℕ) (n : ℕ) where
 
   -- the walk ends: all rows have been tried
   pub kept-ends : (i : ℕ) → n ≤ i → keptOf now s n i ≡ pruneExpiredBans now (rows peerLayout s n)
-  kept-ends i h = retain-ends (λ e. not (entryIsSpent e now)) (rows peerLayout s n) i (omega (arith, length-rows peerLayout s n))
+  kept-ends i h = retain-ends (unspent now) (rows peerLayout s n) i (omega (arith, length-rows peerLayout s n))
 
 module _ (now : ℕ) (s : List ℕ) (n : ℕ) (b : Bytes s) (h : 121 * n ≤ length s) where
   kept-fit : (i : ℕ) → AllFit peerLayout EntryFits (keptOf now s n i)
   kept-fit i =
-      fit-retain peer-faithful (λ e. not (entryIsSpent e now)) (take i (rows peerLayout s n))
+      fit-retain peer-faithful (unspent now) (take i (rows peerLayout s n))
       (fit-take peer-faithful i (rows peerLayout s n) (fit-rows peer-faithful s n b h))
 
   -- the rows left can stand in the table
   pub prune-fit : AllFit peerLayout EntryFits (pruneExpiredBans now (rows peerLayout s n))
-  prune-fit = fit-retain peer-faithful (λ e. not (entryIsSpent e now)) (rows peerLayout s n) (fit-rows peer-faithful s n b h)
+  prune-fit = fit-retain peer-faithful (unspent now) (rows peerLayout s n) (fit-rows peer-faithful s n b h)
 
   -- the row at the i-th place of memory is as it was
   kept-row : (i : ℕ) (t : List ℕ) → t ≡ put s 0 (tableBytes peerLayout (keptOf now s n i)) → part t (121 * i) 121 ≡ part s (121 * i) 121
@@ -60,14 +60,14 @@ module _ (now : ℕ) (s : List ℕ) (n : ℕ) (b : Bytes s) (h : 121 * n ≤ len
     -- the i-th row is spent: the rows kept stay
     kept-drops : entryIsSpent (rowOf peerLayout (part s (121 * i) 121) .entry) now ≡ true → keptOf now s n (i + 1) ≡ keptOf now s n i
     kept-drops h =
-        retain-drops (λ e. not (entryIsSpent e now)) (rows peerLayout s n) i (rowOf peerLayout []) (omega (arith, length-rows peerLayout s n))
+        retain-drops (unspent now) (rows peerLayout s n) i (rowOf peerLayout []) (omega (arith, length-rows peerLayout s n))
         (ap (λ (r : Row PeerMessagePolicyEntry). not (entryIsSpent (r .entry) now)) row-is ∙ ap not h)
 
     -- the i-th row is not spent: it comes behind those kept
     kept-more : entryIsSpent (rowOf peerLayout (part s (121 * i) 121) .entry) now ≡ false
         → keptOf now s n (i + 1) ≡ keptOf now s n i ++ (rowOf peerLayout (part s (121 * i) 121) ∷ [])
     kept-more h =
-        retain-keeps (λ e. not (entryIsSpent e now)) (rows peerLayout s n) i (rowOf peerLayout []) (omega (arith, length-rows peerLayout s n))
+        retain-keeps (unspent now) (rows peerLayout s n) i (rowOf peerLayout []) (omega (arith, length-rows peerLayout s n))
         (ap (λ (r : Row PeerMessagePolicyEntry). not (entryIsSpent (r .entry) now)) row-is ∙ ap not h)
         ∙ ap (λ (r : Row PeerMessagePolicyEntry). keptOf now s n i ++ (r ∷ [])) row-is
 

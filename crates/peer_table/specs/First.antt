@@ -2,7 +2,7 @@
 use mathlib.Core.Bool.{Bool, true, false}
 use mathlib.Core.Option.{Option, none, some}
 use Prim.Native.Nat.{ℕ}
-use Rattle.table.specs.Table.{Best, nothing, best}
+use Rattle.table.specs.Table.{Row, Best, nothing, best}
 use Rattle.peer_state.specs.declared.entry.PeerMessagePolicyEntry.{PeerMessagePolicyEntry}
 use Rattle.peer_table.specs.declared.first.First.{First}
 use Rattle.peer_table.specs.declared.first.First.the-variants.{Nothing, At}
@@ -21,6 +21,6 @@ measureOf Absent = none
 measureOf (Present m) = some m
 
 -- what a search goes by: the ends of the bans, or the last use of those without one
-abbrev pub measureBy : Bool → PeerMessagePolicyEntry → Option ℕ
+abbrev pub measureBy : Bool → Row PeerMessagePolicyEntry → Option ℕ
 measureBy true = bannedExpirations
 measureBy false = ordinaryLru

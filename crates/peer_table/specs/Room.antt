@@ -1,27 +1,31 @@
 -- Making room among the peers' rows, as peer_message_policy.rs makes it. Definitions only.
-use mathlib.Core.Bool.{not, cond}
+use mathlib.Core.Bool.{Bool, not, cond}
 use mathlib.Core.Option.{Option, none, some}
 use Prim.Native.Nat.{ℕ}
 use lib.Dec.{ltb, eqb}
 use lib.ListN.{length}
-use Rattle.table.specs.Table.{Best, nothing, best, leastFrom, retain, removeAt}
+use Rattle.table.specs.Table.{Row, Best, nothing, best, leastFrom, retain, removeAt}
 use Rattle.peer_settings.specs.declared.config.PeerMessagePolicyConfig.{PeerMessagePolicyConfig}
 use Rattle.peer_state.specs.declared.entry.PeerMessagePolicyEntry.{PeerMessagePolicyEntry}
 use Rattle.peer_settings.specs.Config.{limit}
 use Rattle.peer_state.specs.Entry.{entryIsSpent}
 use Rattle.peer_rows.specs.Rows.{Peers}
 
+-- a row whose ban is not over, or that has none
+abbrev pub unspent : ℕ → Row PeerMessagePolicyEntry → Bool
+unspent now r = not (entryIsSpent (r .entry) now)
+
 -- prune_expired_bans: all spent bans go
 abbrev pub pruneExpiredBans : ℕ → Peers → Peers
-pruneExpiredBans now rs = retain (λ e. not (entryIsSpent e now)) rs
+pruneExpiredBans now rs = retain (unspent now) rs
 
 -- ordinary_lru: peers without a ban, by their last use
-abbrev pub ordinaryLru : PeerMessagePolicyEntry → Option ℕ
-ordinaryLru e = cond (eqb (e .ban .mark) 1) none (some (e .«last_used_ms»))
+abbrev pub ordinaryLru : Row PeerMessagePolicyEntry → Option ℕ
+ordinaryLru r = cond (eqb (r .entry .ban .mark) 1) none (some (r .entry .«last_used_ms»))
 
 -- banned_expirations: banned peers, by the end of their ban
-abbrev pub bannedExpirations : PeerMessagePolicyEntry → Option ℕ
-bannedExpirations e = cond (eqb (e .ban .mark) 1) (some (e .ban .«until_ms»)) none
+abbrev pub bannedExpirations : Row PeerMessagePolicyEntry → Option ℕ
+bannedExpirations r = cond (eqb (r .entry .ban .mark) 1) (some (r .entry .ban .«until_ms»)) none
 
 -- the row that was found goes, or that of the other search if nothing was
 abbrev pub evictFound : Best → Best → Peers → Peers

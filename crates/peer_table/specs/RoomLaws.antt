@@ -1,8 +1,8 @@
 -- Laws of making room, which callers' proofs cite: rows stay sound, there is room for one more, and what is found for a key is as
--- before or gone. In order: rows taken out; spent bans; the row evicted; making room. Assumes nothing.
-use mathlib.Core.Bool.{Bool, true, false, not, cond}
-use mathlib.Core.Logic.{_⊎_, inl, inr, ⊎-elim}
-use mathlib.Core.Path.{_≡_, refl, sym, _∙_, subst}
+-- before or gone. In order: spent bans; the row evicted; making room. Assumes nothing.
+use mathlib.Core.Bool.{Bool, true, false, cond}
+use mathlib.Core.Logic.{_⊎_}
+use mathlib.Core.Path.{_≡_, refl, sym, subst}
 use mathlib.Core.List.{List, [], _∷_}
 use mathlib.Core.Option.{Option, none, some}
 use Prim.Native.Nat.{ℕ, _+_, _≤_, _<_}
@@ -10,78 +10,32 @@ use native.Mathlib.Omega.{arith}
 use borrow.Author.Tests.{ltb-true, ltb-false, lt-ltb, le-ltb}
 use lib.Dec.{ltb, eqb}
 use lib.ListN.{length}
-use Rattle.pubkey.specs.Order.{compareBytes}
 use Rattle.table.specs.Table.{Row, Best, nothing, best, leastFrom, ascending, every, look, removeAt}
-use Rattle.table.specs.TableLaws.{Sub, done, keep, leave, sub-all, sub-length, sub-every, sub-ascending, sub-below, sub-retain, sub-removeAt}
-use Rattle.table.specs.TableLaws.{by-answer, by-test, ascending-parts, before-below, equal-below}
-use Rattle.table.specs.LookLaws.{look-before, look-first, look-later, look-below, some-is-not-none}
+use Rattle.table.specs.TableLaws.{by-test, Sub, sub-all, sub-length, sub-every, sub-ascending, sub-retain, sub-removeAt, sub-trans}
+use Rattle.table.specs.LookLaws.{some-is-not-none, sub-look, sub-look-none, sub-look-some}
 use Rattle.table.specs.LeastLaws.{least-found, least-nothing}
 use Rattle.table.specs.PlaceLaws.{length-removeAt}
-use Rattle.table.specs.Memory.{Layout}
-use Rattle.table.specs.MemoryLaws.{AllFit}
+use Rattle.table.specs.MemoryLaws.{AllFit, sub-fit}
 use Rattle.peer_settings.specs.declared.config.PeerMessagePolicyConfig.{PeerMessagePolicyConfig}
 use Rattle.peer_state.specs.declared.entry.PeerMessagePolicyEntry.{PeerMessagePolicyEntry}
 use Rattle.peer_settings.specs.Config.{limit}
-use Rattle.peer_state.specs.Entry.{entryIsSpent}
 use Rattle.peer_rows.specs.Rows.{Peers, peerLayout}
-use Rattle.peer_rows.specs.RowsLaws.{EntryFits}
-use Rattle.peer_table.specs.Room.{pruneExpiredBans, ordinaryLru, bannedExpirations, evict, makeRoom}
-
--- ---- rows taken out ----
-
-module _ {A : Type 0} where
-  -- what is found after rows are taken out of ascending rows is what was found, or nothing
-  pub sub-look : {xs ys : List (Row A)} → Sub xs ys → ascending ys ≡ true → (k : List ℕ) → (look k xs ≡ look k ys) ⊎ (look k xs ≡ none)
-  sub-look done order k = inl refl
-  sub-look (keep {r} {xs} {ys} s) order k =
-      let rest = sub-look s (ascending-parts r ys order .1) k in
-      by-answer (compareBytes k (r .key))
-      (λ o. inl (look-before k r xs o ∙ sym (look-before k r ys o)))
-      (λ o. inl (look-first k r xs o ∙ sym (look-first k r ys o)))
-      (λ o. ⊎-elim (λ e. inl (look-later k r xs o ∙ e ∙ sym (look-later k r ys o))) (λ e. inr (look-later k r xs o ∙ e)) rest)
-  sub-look (leave {r} {xs} {ys} s) order k =
-      let behind : ascending ys ≡ true = ascending-parts r ys order .1 in
-      let rest = sub-look s behind k in
-      by-answer (compareBytes k (r .key))
-      (λ o. inr (look-below k xs (sub-below k s behind (before-below r ys k order o))))
-      (λ o. inr (look-below k xs (sub-below k s behind (equal-below r ys k order o))))
-      (λ o. ⊎-elim (λ e. inl (e ∙ sym (look-later k r ys o))) inr rest)
-
-  -- what was not found is not found
-  pub sub-look-none : {xs ys : List (Row A)} → Sub xs ys → ascending ys ≡ true → (k : List ℕ) → look k ys ≡ none → look k xs ≡ none
-  sub-look-none s order k h = ⊎-elim (λ e. e ∙ h) (λ e. e) (sub-look s order k)
-
-  -- what was found is found as it was, or not at all
-  pub sub-look-some : {xs ys : List (Row A)} → Sub xs ys → ascending ys ≡ true → (k : List ℕ) {e : A} → look k ys ≡ some e
-      → (look k xs ≡ some e) ⊎ (look k xs ≡ none)
-  sub-look-some s order k h = ⊎-elim (λ e. inl (e ∙ h)) inr (sub-look s order k)
-
-  -- rows taken out of rows taken out
-  pub sub-trans : {xs ys zs : List (Row A)} → Sub xs ys → Sub ys zs → Sub xs zs
-  sub-trans s done = s
-  sub-trans (keep s) (keep t) = keep (sub-trans s t)
-  sub-trans (leave s) (keep t) = leave (sub-trans s t)
-  sub-trans s (leave t) = leave (sub-trans s t)
-
-  -- rows left can stand in the table where the rows could
-  pub sub-fit : (L : Layout A) (Good : A → Type 0) {xs ys : List (Row A)} → Sub xs ys → AllFit L Good ys → AllFit L Good xs
-  sub-fit L Good done f = f
-  sub-fit L Good (keep s) f = (f .0, sub-fit L Good s (f .1))
-  sub-fit L Good (leave s) f = sub-fit L Good s (f .1)
+use Rattle.peer_rows.specs.RowsLaws.{EntryFits, peer-faithful}
+use Rattle.peer_table.specs.Room.{unspent, pruneExpiredBans, ordinaryLru, bannedExpirations, evict, makeRoom}
 
 -- ---- spent bans ----
 
 module _ (now : ℕ) (rs : Peers) where
   -- the spent bans are taken out
   pub sub-prune : Sub (pruneExpiredBans now rs) rs
-  sub-prune = sub-retain (λ e. not (entryIsSpent e now)) rs
+  sub-prune = sub-retain (unspent now) rs
 
   -- ascending rows stay so
   pub ascending-prune : ascending rs ≡ true → ascending (pruneExpiredBans now rs) ≡ true
   ascending-prune = sub-ascending sub-prune
 
   -- rows that keep a rule keep it
-  pub every-prune : (rule : PeerMessagePolicyEntry → Bool) → every rule rs ≡ true → every rule (pruneExpiredBans now rs) ≡ true
+  pub every-prune : (rule : Row PeerMessagePolicyEntry → Bool) → every rule rs ≡ true → every rule (pruneExpiredBans now rs) ≡ true
   every-prune rule = sub-every rule sub-prune
 
   -- there are no more rows than before
@@ -111,11 +65,11 @@ module _ (rs : Peers) where
   unfolding evict
   evict-nobody h k = rw (h, k)
 
--- every entry is an ordinary one or a banned one
-ordinary-or-banned : (e : PeerMessagePolicyEntry) → ordinaryLru e ≡ none → bannedExpirations e ≡ none → ⊥
-ordinary-or-banned e h k = by-mark (eqb (e .ban .mark) 1) h k
+-- every row is an ordinary one or a banned one
+ordinary-or-banned : (r : Row PeerMessagePolicyEntry) → ordinaryLru r ≡ none → bannedExpirations r ≡ none → ⊥
+ordinary-or-banned r h k = by-mark (eqb (r .entry .ban .mark) 1) h k
   where
-    by-mark : (b : Bool) → _≡_ {A = Option ℕ} (cond b none (some (e .«last_used_ms»))) none → _≡_ {A = Option ℕ} (cond b (some (e .ban .«until_ms»)) none) none → ⊥
+    by-mark : (b : Bool) → _≡_ {A = Option ℕ} (cond b none (some (r .entry .«last_used_ms»))) none → _≡_ {A = Option ℕ} (cond b (some (r .entry .ban .«until_ms»)) none) none → ⊥
     by-mark true h k = some-is-not-none refl k
     by-mark false h k = some-is-not-none refl h
 
@@ -130,7 +84,7 @@ length-evict [] h = absurd (omega arith)
 length-evict (r ∷ rs) h =
     by-best (leastFrom ordinaryLru nothing 0 (r ∷ rs))
     (λ e. by-best (leastFrom bannedExpirations nothing 0 (r ∷ rs))
-    (λ f. absurd (ordinary-or-banned (r .entry) (least-nothing ordinaryLru (r ∷ rs) r e 0 h) (least-nothing bannedExpirations (r ∷ rs) r f 0 h)))
+    (λ f. absurd (ordinary-or-banned r (least-nothing ordinaryLru (r ∷ rs) r e 0 h) (least-nothing bannedExpirations (r ∷ rs) r f 0 h)))
     (λ j n f. rw (evict-banned (r ∷ rs) e f) (length-removeAt j (r ∷ rs) (least-found bannedExpirations (r ∷ rs) r f .inside))))
     (λ j n e. rw (evict-ordinary (r ∷ rs) e) (length-removeAt j (r ∷ rs) (least-found ordinaryLru (r ∷ rs) r e .inside)))
 
@@ -149,7 +103,7 @@ module _ (rs : Peers) where
   ascending-evict = sub-ascending sub-evict
 
   -- rows that keep a rule keep it
-  pub every-evict : (rule : PeerMessagePolicyEntry → Bool) → every rule rs ≡ true → every rule (evict rs) ≡ true
+  pub every-evict : (rule : Row PeerMessagePolicyEntry → Bool) → every rule rs ≡ true → every rule (evict rs) ≡ true
   every-evict rule = sub-every rule sub-evict
 
   -- what is found for a key is as before, or gone
@@ -211,12 +165,12 @@ module _ (c : PeerMessagePolicyConfig) (now : ℕ) (rs : Peers) where
   ascending-makeRoom = sub-ascending sub-makeRoom
 
   -- rows that keep a rule keep it
-  pub every-makeRoom : (rule : PeerMessagePolicyEntry → Bool) → every rule rs ≡ true → every rule (makeRoom c now rs) ≡ true
+  pub every-makeRoom : (rule : Row PeerMessagePolicyEntry → Bool) → every rule rs ≡ true → every rule (makeRoom c now rs) ≡ true
   every-makeRoom rule = sub-every rule sub-makeRoom
 
   -- the rows left can stand in the table
   pub fit-makeRoom : AllFit peerLayout EntryFits rs → AllFit peerLayout EntryFits (makeRoom c now rs)
-  fit-makeRoom = sub-fit peerLayout EntryFits sub-makeRoom
+  fit-makeRoom = sub-fit peer-faithful sub-makeRoom
 
   -- what is found for a key is as before, or gone
   pub look-makeRoom : ascending rs ≡ true → (k : List ℕ) → (look k (makeRoom c now rs) ≡ look k rs) ⊎ (look k (makeRoom c now rs) ≡ none)

@@ -27,7 +27,7 @@ pub enum Measure {
 // for takes part.
 fn measure_at(table: &[u8], at: usize, banned: bool) -> Measure
     requires { ⌜ at + 121 ≤ length (now table) ⌝ }
-    ensures { λ r. ⌜ measureOf r ≡ measureBy banned (rowOf peerLayout (part (now (table .entry)) at 121) .entry) ⌝ }
+    ensures { λ r. ⌜ measureOf r ≡ measureBy banned (rowOf peerLayout (part (now (table .entry)) at 121)) ⌝ }
 {
     let ban = at + 97;
     let mark = get_u64(table, ban);

@@ -20,7 +20,9 @@ use Rattle.peer_state.specs.declared.ingress.Room.{Room}
 use Rattle.peer_state.specs.declared.ingress.Room.the-variants as Room
 use Rattle.peer_verdict.specs.declared.verdict.Cause.{Cause}
 use Rattle.peer_verdict.specs.declared.verdict.Cause.the-variants as Cause
+use Rattle.peer_verdict.specs.declared.verdict.InvalidCause.the-variants as InvalidCause
 use Rattle.peer_verdict.specs.declared.verdict.Decision.{Decision}
+use Rattle.peer_verdict.specs.declared.verdict.InvalidDecision.{InvalidDecision}
 use Rattle.peer_verdict.specs.declared.verdict.Take.{Take}
 use Rattle.peer_settings.specs.Config.{messageLimitDisabled, banDisabled, bytesOf}
 use Rattle.peer_state.specs.Entry.{level, windowRecord, entryBan, entryUsed}
@@ -153,16 +155,16 @@ unfoldable pub judged : PeerMessagePolicyConfig → FiberIngressBudget → PeerM
 judged c i e size now = weighed c i (entryUsed e now (c .«ban_duration_ms»)) size now
 
 -- an invalid message counted on an entry whose windows are expired and whose last use is now
-unfoldable pub noted : PeerMessagePolicyConfig → FiberIngressBudget → PeerMessagePolicyEntry → ℕ → Decision
-noted c i e now =
+unfoldable pub noted : PeerMessagePolicyConfig → PeerMessagePolicyEntry → ℕ → InvalidDecision
+noted c e now =
     let w = windowRecord (e .«invalid_messages») now (c .«ban_duration_ms»)
     in cond (reachesBan c w)
-    (record { cause = Cause.BanBegun; entry = entryBan (withInvalidWindow e w) now (c .«ban_duration_ms»); ingress = i })
-    (record { cause = Cause.Allowed; entry = withInvalidWindow e w; ingress = i })
+    (record { cause = InvalidCause.BanBegun; entry = entryBan (withInvalidWindow e w) now (c .«ban_duration_ms») })
+    (record { cause = InvalidCause.Noted; entry = withInvalidWindow e w })
 
 -- record_invalid on an entry that is not banned
-unfoldable pub judgedInvalid : PeerMessagePolicyConfig → FiberIngressBudget → PeerMessagePolicyEntry → ℕ → Decision
-judgedInvalid c i e now = noted c i (entryUsed e now (c .«ban_duration_ms»)) now
+unfoldable pub judgedInvalid : PeerMessagePolicyConfig → PeerMessagePolicyEntry → ℕ → InvalidDecision
+judgedInvalid c e now = noted c (entryUsed e now (c .«ban_duration_ms»)) now
 
 -- whether the decision is refusal 4: it would be an Allow, and the numbers in flight have no room
 abbrev pub overflows : Cause → Bool

@@ -12,7 +12,9 @@ use Rattle.peer_state.specs.declared.ingress.Room.{Room}
 use Rattle.peer_state.specs.declared.ingress.Room.the-variants as Room
 use Rattle.peer_verdict.specs.declared.verdict.Cause.{Cause}
 use Rattle.peer_verdict.specs.declared.verdict.Cause.the-variants as Cause
+use Rattle.peer_verdict.specs.declared.verdict.InvalidCause.the-variants as InvalidCause
 use Rattle.peer_verdict.specs.declared.verdict.Decision.{Decision}
+use Rattle.peer_verdict.specs.declared.verdict.InvalidDecision.{InvalidDecision}
 use Rattle.peer_settings.specs.Config.{banDisabled, unlimited}
 use Rattle.peer_state.specs.Entry.{windowRecord, entryBan, entryUsed, entrySound}
 use Rattle.peer_state.specs.Ingress.{ingressReserved, tryReserve, ingressSound}
@@ -54,10 +56,6 @@ module _ (P : Decision → Type 0) (c : PeerMessagePolicyConfig) (i : FiberIngre
   unfolding violated
   violated-ways now cause begun counted = chosen P (reachesBan c (rateCounted c e now)) begun counted
 
-  pub noted-ways : (now : ℕ) → (reachesBan c (invalidCounted c e now) ≡ true → P (banBegun c i (withInvalidWindow e (invalidCounted c e now)) now)) → (reachesBan c (invalidCounted c e now) ≡ false → P (record { cause = Cause.Allowed; entry = withInvalidWindow e (invalidCounted c e now); ingress = i })) → P (noted c i e now)
-  unfolding noted
-  noted-ways now begun counted = chosen P (reachesBan c (invalidCounted c e now)) begun counted
-
   pub weighed-in-ways : (size now : ℕ) (room : Room)
       → (takeMessage c (e .messages) now .passes ≡ false → P (violated c i e now Cause.MessagesShort))
       → (takeMessage c (e .messages) now .passes ≡ true → takeBytes c (e .bytes) size now .passes ≡ false
@@ -81,6 +79,16 @@ module _ (P : Decision → Type 0) (c : PeerMessagePolicyConfig) (i : FiberIngre
   unfolding weighed
   weighed-ways size now messages bytes passed = weighed-in-ways size now (tryReserve c i size) messages bytes passed
 
+-- the same of an invalid message
+pub noted-ways : (P : InvalidDecision → Type 0) (c : PeerMessagePolicyConfig) (e : PeerMessagePolicyEntry) (now : ℕ)
+    → (reachesBan c (invalidCounted c e now) ≡ true
+    → P (record { cause = InvalidCause.BanBegun; entry = entryBan (withInvalidWindow e (invalidCounted c e now)) now (c .«ban_duration_ms») }))
+    → (reachesBan c (invalidCounted c e now) ≡ false
+    → P (record { cause = InvalidCause.Noted; entry = withInvalidWindow e (invalidCounted c e now) }))
+    → P (noted c e now)
+unfolding noted
+noted-ways P c e now begun counted = chosen P (reachesBan c (invalidCounted c e now)) begun counted
+
 -- ════ The entry stays sound ═══════════════════════════════════════════════════════════════════════
 
 rate-holds : {c : PeerMessagePolicyConfig} {e : PeerMessagePolicyEntry} {w : ViolationWindow} → EntryHolds c e → w .count ≤ 4294967295 → EntryHolds c (withRateWindow e w)
@@ -101,12 +109,12 @@ violated-holds c i e now cause h =
     in
     violated-ways (Keeps c) c i e now cause (λ t. ban-holds now (c .«ban_duration_ms») counted) (λ t. counted)
 
-noted-holds : (c : PeerMessagePolicyConfig) (i : FiberIngressBudget) (e : PeerMessagePolicyEntry) (now : ℕ) → EntryHolds c e → Keeps c (noted c i e now)
-noted-holds c i e now h =
+noted-holds : (c : PeerMessagePolicyConfig) (e : PeerMessagePolicyEntry) (now : ℕ) → EntryHolds c e → EntryHolds c (noted c e now .entry)
+noted-holds c e now h =
     let counted : EntryHolds c (withInvalidWindow e (invalidCounted c e now)) =
     invalid-holds h (count-record (e .«invalid_messages») now (c .«ban_duration_ms»))
     in
-    noted-ways (Keeps c) c i e now (λ t. ban-holds now (c .«ban_duration_ms») counted) (λ t. counted)
+    noted-ways (λ d. EntryHolds c (d .entry)) c e now (λ t. ban-holds now (c .«ban_duration_ms») counted) (λ t. counted)
 
 roomed-holds : {c : PeerMessagePolicyConfig} (i : FiberIngressBudget) {e : PeerMessagePolicyEntry} {m b : Level} (r : Room) → EntryHolds c e → EntryHolds c (withLevels e m b) → Keeps c (roomed i e m b r)
 roomed-holds i (Room.Left after) h charged = charged
@@ -135,11 +143,11 @@ judged-sound c i e size now h =
     let used = entryUsed e now (c .«ban_duration_ms») in
     holds-sound (weighed-holds c i used size now (used-holds now (c .«ban_duration_ms») (sound-holds h)))
 
-pub judged-invalid-sound : (c : PeerMessagePolicyConfig) (i : FiberIngressBudget) (e : PeerMessagePolicyEntry) (now : ℕ) → entrySound c e ≡ true → entrySound c (judgedInvalid c i e now .entry) ≡ true
+pub judged-invalid-sound : (c : PeerMessagePolicyConfig) (e : PeerMessagePolicyEntry) (now : ℕ) → entrySound c e ≡ true → entrySound c (judgedInvalid c e now .entry) ≡ true
 unfolding judgedInvalid
-judged-invalid-sound c i e now h =
+judged-invalid-sound c e now h =
     let used = entryUsed e now (c .«ban_duration_ms») in
-    holds-sound (noted-holds c i used now (used-holds now (c .«ban_duration_ms») (sound-holds h)))
+    holds-sound (noted-holds c used now (used-holds now (c .«ban_duration_ms») (sound-holds h)))
 
 -- ════ The causes, and what each leaves ════════════════════════════════════════════════════════════
 

@@ -36,11 +36,24 @@ pub enum Cause {
     Overflow,
 }
 
+// Whether an invalid message is only noted, or its sender is banned: since an earlier call, or from now on.
+pub enum InvalidCause {
+    Noted,
+    LiveBan,
+    BanBegun,
+}
+
 // The cause, the entry as it is to be stored, and the load in flight.
 pub struct Decision {
     pub cause: Cause,
     pub entry: PeerMessagePolicyEntry,
     pub ingress: FiberIngressBudget,
+}
+
+// Of an invalid message: the cause, and the entry as it is to be stored. It leaves the load in flight.
+pub struct InvalidDecision {
+    pub cause: InvalidCause,
+    pub entry: PeerMessagePolicyEntry,
 }
 
 fn passes(answer: Consumed) -> bool
@@ -274,37 +287,36 @@ pub fn judged(
 // An invalid message is counted in a window of its own, and may begin a ban too.
 pub fn noted(
     config: PeerMessagePolicyConfig,
-    ingress: FiberIngressBudget,
     entry: PeerMessagePolicyEntry,
     now_ms: u64,
-) -> Decision
-    ensures { λ r. ⌜ r ≡ noted config ingress entry «now_ms» ⌝ }
+) -> InvalidDecision
+    ensures { λ r. ⌜ r ≡ noted config entry «now_ms» ⌝ }
 {
     let window = entry.invalid_messages;
     let counted = window.record(now_ms, config.ban_duration_ms);
     let noticed = with_invalid_window(entry, counted);
     if reaches_ban(config, counted) {
         let banned = noticed.ban(now_ms, config.ban_duration_ms);
-        return decided(Cause::BanBegun, banned, ingress);
+        return InvalidDecision {
+            cause: InvalidCause::BanBegun,
+            entry: banned,
+        };
     }
-    decided(Cause::Allowed, noticed, ingress)
+    InvalidDecision {
+        cause: InvalidCause::Noted,
+        entry: noticed,
+    }
 }
 
 // An invalid message on an entry that is not banned.
 pub fn judged_invalid(
     config: PeerMessagePolicyConfig,
-    ingress: FiberIngressBudget,
     entry: PeerMessagePolicyEntry,
     now_ms: u64,
-) -> Decision
-    ensures { λ r. ⌜ r ≡ judgedInvalid config ingress entry «now_ms» ⌝ }
+) -> InvalidDecision
+    ensures { λ r. ⌜ r ≡ judgedInvalid config entry «now_ms» ⌝ }
 {
-    noted(
-        config,
-        ingress,
-        entry.used(now_ms, config.ban_duration_ms),
-        now_ms,
-    )
+    noted(config, entry.used(now_ms, config.ban_duration_ms), now_ms)
 }
 
 // Whether the decision is refusal 4.

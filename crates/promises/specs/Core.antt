@@ -10,14 +10,17 @@ use Rattle.peer_settings.specs.declared.config.PeerMessagePolicyConfig.{PeerMes
 use Rattle.peer_state.specs.declared.entry.PeerMessagePolicyEntry.{PeerMessagePolicyEntry}
 use Rattle.peer_state.specs.declared.ingress.FiberIngressBudget.{FiberIngressBudget}
 use Rattle.peer_state.specs.declared.ingress.Room.{Room}
+use Rattle.peer_verdict.specs.declared.verdict.Cause.{Cause}
+use Rattle.peer_verdict.specs.declared.verdict.Cause.the-variants as Cause
 use Rattle.peer_verdict.specs.declared.verdict.Decision.{Decision}
+use Rattle.peer_verdict.specs.declared.verdict.InvalidCause.{InvalidCause}
 use Rattle.peer_state.specs.Entry.{entryUsed}
 use Rattle.peer_state.specs.Ingress.{inFlight}
-use Rattle.peer_verdict.specs.Verdict.{weighedIn, judgedInvalid}
+use Rattle.peer_verdict.specs.Verdict.{weighedIn}
 use Rattle.peer_rows.specs.Rows.{Peers}
 use Rattle.peer_message_policy.specs.declared.answer.Changed.the-variants as Changed
 use Rattle.peer_message_policy.specs.Policy as Policy
-use Rattle.peer_message_policy.specs.Policy.{Change, Turn, turnOf, entryForUpdate, isBannedChange, disconnectedChange}
+use Rattle.peer_message_policy.specs.Policy.{Change, Turn, turnOf, carriedOut, entryForUpdate, isBannedChange, disconnectedChange}
 use Rattle.peer_message_policy.specs.Calls.{changedRows, fresh, admissionOf, admissionSays, invalidOf, invalidSays, standingOf, standingSays, changedSays}
 
 -- a call of a peer, judged at this time; admit in this room
@@ -37,25 +40,26 @@ idle = inFlight 0 0
 abbrev pub admits : PeerMessagePolicyConfig → ℕ → ℕ → Room → PeerMessagePolicyEntry → Decision
 admits c size now room e = weighedIn c idle (entryUsed e now (c .«ban_duration_ms»)) size now room
 
--- what record_invalid decides on an entry that is not banned
-abbrev pub notes : PeerMessagePolicyConfig → ℕ → PeerMessagePolicyEntry → Decision
-notes c now e = judgedInvalid c idle e now
+-- a message's turn: its peer's entry is found or made, and what admit decides on it is carried out
+abbrev pub messageTurn : PeerMessagePolicyConfig → Pubkey → ℕ → ℕ → Room → Peers → Turn Cause
+messageTurn c k size now room rs =
+    turnOf idle Cause.LiveBan (λ e xs. carriedOut idle (k .bytes) xs (admits c size now room e)) (entryForUpdate c now rs (k .bytes) (look (k .bytes) rs))
 
--- a peer's entry is found or made, and the decision on it is carried out
-abbrev pub turnIn : PeerMessagePolicyConfig → Pubkey → ℕ → (PeerMessagePolicyEntry → Decision) → Peers → Turn
-turnIn c k now decide rs = turnOf idle (k .bytes) decide (entryForUpdate c now rs (look (k .bytes) rs))
+-- an invalid message's turn
+abbrev pub invalidTurn : PeerMessagePolicyConfig → Pubkey → ℕ → Peers → Turn InvalidCause
+invalidTurn c k now rs = Policy.recordInvalid c idle rs (k .bytes) now
 
 -- what a call does to the rows
 abbrev pub changeIn : PeerMessagePolicyConfig → CoreCall → Peers → Change
-changeIn c (admit k size now room) rs = turnIn c k now (admits c size now room) rs .change
-changeIn c (recordInvalid k now) rs = turnIn c k now (notes c now) rs .change
+changeIn c (admit k size now room) rs = messageTurn c k size now room rs .change
+changeIn c (recordInvalid k now) rs = invalidTurn c k now rs .change
 changeIn c (isBanned k now) rs = isBannedChange rs (k .bytes) now (look (k .bytes) rs)
 changeIn c (onDisconnected k now) rs = disconnectedChange c rs (k .bytes) now (look (k .bytes) rs)
 
 -- what it says; the policy that an answer carries says nothing
 abbrev pub saysIn : PeerMessagePolicyConfig → CoreCall → Peers → Said
-saysIn c (admit k size now room) rs = admissionSays (admissionOf (fresh c) (turnIn c k now (admits c size now room) rs .cause))
-saysIn c (recordInvalid k now) rs = invalidSays (invalidOf (fresh c) (turnIn c k now (notes c now) rs .cause))
+saysIn c (admit k size now room) rs = admissionSays (admissionOf (fresh c) (messageTurn c k size now room rs .cause))
+saysIn c (recordInvalid k now) rs = invalidSays (invalidOf (fresh c) (invalidTurn c k now rs .cause))
 saysIn c (isBanned k now) rs = standingSays (standingOf (Policy.isBanned (look (k .bytes) rs) now) (fresh c))
 saysIn c (onDisconnected k now) rs = changedSays (Changed.Policy (fresh c))
 

@@ -15,23 +15,25 @@ use Rattle.peer_state.specs.declared.ingress.FiberIngressBudget.{FiberIngressBu
 use Rattle.peer_verdict.specs.declared.verdict.Cause.{Cause}
 use Rattle.peer_verdict.specs.declared.verdict.Cause.the-variants as Cause
 use Rattle.peer_verdict.specs.declared.verdict.Decision.{Decision}
+use Rattle.peer_verdict.specs.declared.verdict.InvalidCause.{InvalidCause}
+use Rattle.peer_verdict.specs.declared.verdict.InvalidCause.the-variants as InvalidCause
+use Rattle.peer_verdict.specs.declared.verdict.InvalidDecision.{InvalidDecision}
 use Rattle.peer_state.specs.Ingress.{tryReserve}
-use Rattle.peer_verdict.specs.Verdict.{overflows}
+use Rattle.peer_verdict.specs.Verdict.{judgedInvalid, overflows}
 use Rattle.peer_rows.specs.Rows.{Peers}
 use Rattle.peer_message_policy.specs.declared.policy.PeerMessagePolicy.{PeerMessagePolicy}
 use Rattle.peer_message_policy.specs.declared.answer.Made.the-variants as Made
 use Rattle.peer_message_policy.specs.Policy
-use Rattle.peer_message_policy.specs.Policy.{rowsOf, Turn, carriedOut, Update, banned, update, turnOf, entryForUpdate, isBannedChange}
+use Rattle.peer_message_policy.specs.Policy.{rowsOf, Turn, carriedOut, notedDown, Update, banned, update, turnOf, entryForUpdate, isBannedChange}
 use Rattle.peer_message_policy.specs.Calls.{changedRows, policyAfter, fresh, admissionOf, admissionSays, invalidOf, invalidSays, standingOf, standingSays, changedSays, NewMeets, IsBannedMeets, OnDisconnectedMeets}
-use Rattle.peer_laws.specs.SoundLaws.{admit-turn, record-invalid-turn}
 use Rattle.peer_laws.specs.CallLaws.{admit-answer, record-invalid-answer, is-banned-outcome, on-disconnected-outcome, new-fresh}
 use Rattle.promises.specs.Core as Core
-use Rattle.promises.specs.Core.{idle, admits, notes, turnIn, after}
+use Rattle.promises.specs.Core.{idle, messageTurn, invalidTurn, after}
 use Rattle.promises.specs.Trails.{rowsAt, callsOf, trailOf}
 use Rattle.promises.specs.Lives.{logIn}
 use Rattle.promises.specs.Runs.{Call, admit, recordInvalid, isBanned, onDisconnected, releaseIngress, inFlight, heldTime, State, rowsIn, Step, KeyFits, Fits, Run, made, then}
 use Rattle.promises.specs.RunLives.{coreOf, trail, coreCalls, logOf}
-use Rattle.promises.specs.DecisionLaws.{Alike, judged-alike, judged-invalid-alike}
+use Rattle.promises.specs.DecisionLaws.{Alike, judged-alike}
 use Rattle.promises.specs.CoreRowLaws.{trail-rows}
 use Rattle.promises.specs.MirrorLaws.{Mirrors, MirrorsIf, mirrored-rows, mirrored-trail}
 use Rattle.promises.specs.SoundRunLaws.{StateHolds, admit-left, record-invalid-left, is-banned-left, on-disconnected-left, release-ingress-left, run-holds}
@@ -49,15 +51,10 @@ module _ (p q : PeerMessagePolicy) where
   admission-says Cause.BanBegun = refl
   admission-says Cause.Overflow = refl
 
-  invalid-says : (cause : Cause) → invalidSays (invalidOf p cause) ≡ invalidSays (invalidOf q cause)
-  invalid-says Cause.Allowed = refl
-  invalid-says Cause.MessagesShort = refl
-  invalid-says (Cause.BytesShort k) = refl
-  invalid-says Cause.NoSlot = refl
-  invalid-says (Cause.CeilingShort k) = refl
-  invalid-says Cause.LiveBan = refl
-  invalid-says Cause.BanBegun = refl
-  invalid-says Cause.Overflow = refl
+  invalid-says : (cause : InvalidCause) → invalidSays (invalidOf p cause) ≡ invalidSays (invalidOf q cause)
+  invalid-says InvalidCause.Noted = refl
+  invalid-says InvalidCause.LiveBan = refl
+  invalid-says InvalidCause.BanBegun = refl
 
   standing-says : (b : Bool) → standingSays (standingOf b p) ≡ standingSays (standingOf b q)
   standing-says true = refl
@@ -66,11 +63,11 @@ module _ (p q : PeerMessagePolicy) where
 -- ════ A turn, whatever load it carries ════════════════════════════════════════════════════════════
 
 -- the same cause and the same rows
-pub record SameTurn (a b : Turn) : Type 0 where
+pub record SameTurn {C : Type 0} (a b : Turn C) : Type 0 where
   pub cause : a .cause ≡ b .cause
   pub change : a .change ≡ b .change
 
-same-chosen : (t : Bool) {a b x y : Turn} → SameTurn a x → SameTurn b y → SameTurn (cond t a b) (cond t x y)
+same-chosen : (t : Bool) {a b x y : Turn Cause} → SameTurn a x → SameTurn b y → SameTurn (cond t a b) (cond t x y)
 same-chosen true h k = h
 same-chosen false h k = k
 
@@ -81,22 +78,26 @@ module _ (i j : FiberIngressBudget) (k : List ℕ) where
       rw (h .cause, h .entry)
       (same-chosen (overflows (b .cause)) (record { cause = refl; change = refl }) (record { cause = refl; change = refl }))
 
-  turn-alike : {f g : PeerMessagePolicyEntry → Decision} → ((e : PeerMessagePolicyEntry) → Alike (f e) (g e)) → (u : Update)
-      → SameTurn (turnOf i k f u) (turnOf j k g u)
-  turn-alike h banned = record { cause = refl; change = refl }
-  turn-alike h (update e rs) = carried-alike rs (h e)
+  message-alike : {f g : PeerMessagePolicyEntry → Decision} → ((e : PeerMessagePolicyEntry) → Alike (f e) (g e)) → (u : Update)
+      → SameTurn (turnOf i Cause.LiveBan (λ e xs. carriedOut i k xs (f e)) u) (turnOf j Cause.LiveBan (λ e xs. carriedOut j k xs (g e)) u)
+  message-alike h banned = record { cause = refl; change = refl }
+  message-alike h (update e rs) = carried-alike rs (h e)
+
+  noted-alike : (f : PeerMessagePolicyEntry → InvalidDecision) (u : Update)
+      → SameTurn (turnOf i InvalidCause.LiveBan (λ e xs. notedDown i k xs (f e)) u) (turnOf j InvalidCause.LiveBan (λ e xs. notedDown j k xs (f e)) u)
+  noted-alike f banned = record { cause = refl; change = refl }
+  noted-alike f (update e rs) = record { cause = refl; change = refl }
 
 module _ (c : PeerMessagePolicyConfig) (i : FiberIngressBudget) (rs : Peers) (k : Pubkey) (now : ℕ) where
   -- admit's turn is that of the core, in the room which the load leaves
-  admit-core : (size : ℕ) → SameTurn (Policy.admit c i rs (k .bytes) size now) (turnIn c k now (admits c size now (tryReserve c i size)) rs)
+  admit-core : (size : ℕ) → SameTurn (Policy.admit c i rs (k .bytes) size now) (messageTurn c k size now (tryReserve c i size) rs)
+  unfolding Policy.admit
   admit-core size =
-      rw (admit-turn c i (k .bytes) rs size now)
-      (turn-alike i idle (k .bytes) (λ e. judged-alike c i idle now e size) (entryForUpdate c now rs (look (k .bytes) rs)))
+      message-alike i idle (k .bytes) (λ e. judged-alike c i idle now e size) (entryForUpdate c now rs (k .bytes) (look (k .bytes) rs))
 
-  invalid-core : SameTurn (Policy.recordInvalid c i rs (k .bytes) now) (turnIn c k now (notes c now) rs)
-  invalid-core =
-      rw (record-invalid-turn c i (k .bytes) rs now)
-      (turn-alike i idle (k .bytes) (λ e. judged-invalid-alike c i idle now e) (entryForUpdate c now rs (look (k .bytes) rs)))
+  invalid-core : SameTurn (Policy.recordInvalid c i rs (k .bytes) now) (invalidTurn c k now rs)
+  unfolding Policy.recordInvalid
+  invalid-core = noted-alike i idle (k .bytes) (λ e. judgedInvalid c e now) (entryForUpdate c now rs (k .bytes) (look (k .bytes) rs))
 
 -- ════ One call ════════════════════════════════════════════════════════════════════════════════════
 
@@ -109,8 +110,8 @@ module _ (s : State) (said : Said) (t : State) where
     admit-mirrors : (k : Pubkey) (size now : ℕ) → KeyFits k → Step s (admit k size now) said t
         → Mirrors (p .config) (Core.admit k size now (tryReserve (p .config) (p .ingress) size)) (rowsIn s) said (rowsIn t)
     admit-mirrors k size now key step =
-        let turn : Turn = Policy.admit (p .config) (p .ingress) (rowsIn s) (k .bytes) size now in
-        let core : SameTurn turn (turnIn (p .config) k now (admits (p .config) size now (tryReserve (p .config) (p .ingress) size)) (rowsIn s)) =
+        let turn : Turn Cause = Policy.admit (p .config) (p .ingress) (rowsIn s) (k .bytes) size now in
+        let core : SameTurn turn (messageTurn (p .config) k size now (tryReserve (p .config) (p .ingress) size) (rowsIn s)) =
         admit-core (p .config) (p .ingress) (rowsIn s) k now size
         in
         record {
@@ -125,8 +126,8 @@ module _ (s : State) (said : Said) (t : State) where
     invalid-mirrors : (k : Pubkey) (now : ℕ) → KeyFits k → Step s (recordInvalid k now) said t
         → Mirrors (p .config) (Core.recordInvalid k now) (rowsIn s) said (rowsIn t)
     invalid-mirrors k now key step =
-        let turn : Turn = Policy.recordInvalid (p .config) (p .ingress) (rowsIn s) (k .bytes) now in
-        let core : SameTurn turn (turnIn (p .config) k now (notes (p .config) now) (rowsIn s)) =
+        let turn : Turn InvalidCause = Policy.recordInvalid (p .config) (p .ingress) (rowsIn s) (k .bytes) now in
+        let core : SameTurn turn (invalidTurn (p .config) k now (rowsIn s)) =
         invalid-core (p .config) (p .ingress) (rowsIn s) k now
         in
         record {

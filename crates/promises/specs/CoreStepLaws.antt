@@ -20,7 +20,7 @@ use Rattle.peer_state.specs.declared.ingress.Room.{Room}
 use Rattle.peer_state.specs.declared.ingress.Room.the-variants as Room
 use Rattle.peer_verdict.specs.declared.verdict.Cause.{Cause}
 use Rattle.peer_verdict.specs.declared.verdict.Cause.the-variants as Cause
-use Rattle.peer_verdict.specs.declared.verdict.Decision.{Decision}
+use Rattle.peer_verdict.specs.declared.verdict.InvalidCause.{InvalidCause}
 use Rattle.peer_settings.specs.Fits.{ConfigFits}
 use Rattle.peer_state.specs.Entry.{entryNew, entryIsBanned, entryExpireWindows}
 use Rattle.peer_verdict.specs.Verdict.{overflows}
@@ -28,8 +28,8 @@ use Rattle.peer_verdict.specs.VerdictLaws.{NotAllowed}
 use Rattle.peer_rows.specs.Rows.{Peers}
 use Rattle.peer_message_policy.specs.Policy
 use Rattle.peer_message_policy.specs.Calls.{changedRows, fresh, admissionOf, admissionSays}
-use Rattle.peer_laws.specs.PeerLaws.{Fate, stayed, gone, expired, Lands, kept, absent, remade, Own, live, undone, carried, live-not-spent, own-turn, turn-fate, is-banned-fate, disconnected-fate}
-use Rattle.promises.specs.Core.{CoreCall, admit, recordInvalid, isBanned, onDisconnected, idle, admits, notes, turnIn, changeIn, saysIn, SizeFits}
+use Rattle.peer_laws.specs.PeerLaws.{Fate, stayed, gone, expired, Lands, kept, absent, remade, Own, live, undone, carried, OwnInvalid, barred, counted, live-not-spent, own-message, own-invalid, message-fate, record-invalid-fate, is-banned-fate, disconnected-fate}
+use Rattle.promises.specs.Core.{CoreCall, admit, recordInvalid, isBanned, onDisconnected, idle, admits, messageTurn, invalidTurn, changeIn, saysIn, SizeFits}
 use Rattle.promises.specs.Lives.{Allow, sameKey, partOf, OwnTime, logFor, logged, keptLog, logAfter, lastUsed, Within, ceilingSays}
 use Rattle.promises.specs.FairLaws.{NotAfter, Fair, fair-new, fair-allow, fair-least}
 use Rattle.promises.specs.DecisionLaws.{roomCause, decided, judged-invalid-noted}
@@ -100,7 +100,7 @@ module _ (c : PeerMessagePolicyConfig) (fits : ConfigFits c) (size now : ℕ) (s
   pub least-here : (k : Pubkey) (rs : Peers) (log : List Allow) → EntryFair c (look (k .bytes) rs) log → lastUsed (look (k .bytes) rs) ≤ now
       → Policy.isBanned (look (k .bytes) rs) now ≡ false → Within c now size (logFor (look (k .bytes) rs) now log)
       → saysIn c (admit k size now room) rs ≡ ceilingSays room
-  least-here k rs log = own-least log (own-turn (k .bytes) rs c idle (admits c size now room) now)
+  least-here k rs log = own-least log (own-message (k .bytes) rs c idle (admits c size now room) now)
 
 -- ════ What an own call leaves ═════════════════════════════════════════════════════════════════════
 
@@ -171,13 +171,11 @@ module _ (c : PeerMessagePolicyConfig) (fits : ConfigFits c) where
         rw now-entry (carried-fair e (logFor found now log) (lands-ready c fits now found e log lands h used) cause (sym why))
 
   -- the peer's own record_invalid
-  invalid-fair : (now : ℕ) {found left : Option PeerMessagePolicyEntry} {cause : Cause} (log : List Allow) → Own c now (notes c now) found left cause
+  invalid-fair : (now : ℕ) {found left : Option PeerMessagePolicyEntry} {cause : InvalidCause} (log : List Allow) → OwnInvalid c now found left cause
       → EntryFair c found log → lastUsed found ≤ now → EntryFair c left (keptLog left (logFor found now log))
-  invalid-fair now {found} {left} log (live e q ban why same-entry) h used = live-fair now found left e log q ban same-entry h
-  invalid-fair now log (undone e lands o why same-entry) h used =
-      absurd (true-is-not-false o (judged-invalid-noted c idle e now .stands))
-  invalid-fair now {found} log (carried e lands o why now-entry) h used =
-      let n = judged-invalid-noted c idle e now in
+  invalid-fair now {found} {left} log (barred e q ban why same-entry) h used = live-fair now found left e log q ban same-entry h
+  invalid-fair now {found} log (counted e lands why now-entry) h used =
+      let n = judged-invalid-noted c e now in
       rw (now-entry, n .messages, n .bytes, n .used) (lands-ready c fits now found e log lands h used)
 
 -- ════ What any call leaves ════════════════════════════════════════════════════════════════════════
@@ -198,18 +196,28 @@ abbrev pub leftIn : PeerMessagePolicyConfig → Pubkey → Peers → CoreCall �
 leftIn c k rs call = look (k .bytes) (changedRows rs (changeIn c call rs))
 
 module _ (c : PeerMessagePolicyConfig) (k : Pubkey) (rs : Peers) where
-  -- a turn of the peer's own
-  pub own-here : (peer : Pubkey) (now : ℕ) (decide : PeerMessagePolicyEntry → Decision) → k ≡ peer
-      → Own c now decide (look (k .bytes) rs) (look (k .bytes) (changedRows rs (turnIn c peer now decide rs .change))) (turnIn c peer now decide rs .cause)
-  own-here peer now decide q =
-      subst (λ (x : Pubkey). Own c now decide (look (x .bytes) rs) (look (x .bytes) (changedRows rs (turnIn c peer now decide rs .change))) (turnIn c peer now decide rs .cause))
-      (sym q) (own-turn (peer .bytes) rs c idle decide now)
+  -- an admit and a record_invalid of the peer's own
+  pub own-here : (peer : Pubkey) (size now : ℕ) (room : Room) → k ≡ peer
+      → Own c now (admits c size now room) (look (k .bytes) rs) (leftIn c k rs (admit peer size now room)) (messageTurn c peer size now room rs .cause)
+  own-here peer size now room q =
+      subst (λ (x : Pubkey). Own c now (admits c size now room) (look (x .bytes) rs) (leftIn c x rs (admit peer size now room)) (messageTurn c peer size now room rs .cause))
+      (sym q) (own-message (peer .bytes) rs c idle (admits c size now room) now)
+
+  pub own-invalid-here : (peer : Pubkey) (now : ℕ) → k ≡ peer
+      → OwnInvalid c now (look (k .bytes) rs) (leftIn c k rs (recordInvalid peer now)) (invalidTurn c peer now rs .cause)
+  own-invalid-here peer now q =
+      subst (λ (x : Pubkey). OwnInvalid c now (look (x .bytes) rs) (leftIn c x rs (recordInvalid peer now)) (invalidTurn c peer now rs .cause))
+      (sym q) (own-invalid (peer .bytes) rs c idle now)
 
   module _ (order : ascending rs ≡ true) where
-    -- a turn of another peer
-    pub other-here : (peer : Pubkey) (now : ℕ) (decide : PeerMessagePolicyEntry → Decision) → sameKey k peer ≡ false
-        → Fate (look (k .bytes) rs) (look (k .bytes) (changedRows rs (turnIn c peer now decide rs .change)))
-    other-here peer now decide other = turn-fate (k .bytes) (peer .bytes) (other-key k peer other) rs order c idle decide now
+    -- an admit and a record_invalid of another peer
+    pub other-here : (peer : Pubkey) (size now : ℕ) (room : Room) → sameKey k peer ≡ false
+        → Fate (look (k .bytes) rs) (leftIn c k rs (admit peer size now room))
+    other-here peer size now room other =
+        message-fate (k .bytes) (peer .bytes) (other-key k peer other) rs order c idle (admits c size now room) now
+
+    pub other-invalid-here : (peer : Pubkey) (now : ℕ) → sameKey k peer ≡ false → Fate (look (k .bytes) rs) (leftIn c k rs (recordInvalid peer now))
+    other-invalid-here peer now other = record-invalid-fate (k .bytes) (peer .bytes) (other-key k peer other) rs order c idle now
 
     pub is-banned-here : (peer : Pubkey) (now : ℕ) → Fate (look (k .bytes) rs) (leftIn c k rs (isBanned peer now))
     is-banned-here peer now = is-banned-fate (k .bytes) (peer .bytes) rs order now (look (peer .bytes) rs)
@@ -243,13 +251,13 @@ module _ (c : PeerMessagePolicyConfig) (fits : ConfigFits c) (k : Pubkey) (rs : 
       by-test (sameKey k peer)
       (λ own.
       let before : lastUsed (look (k .bytes) rs) ≤ now = rw own at used in
-      rw own (admit-fair c fits size now size-fits room log (own-here c k rs peer now (admits c size now room) (same-key k peer own)) xs given fair before))
-      (λ other. rw other (fate-fair c log (other-here c k rs order peer now (admits c size now room) other) fair))
+      rw own (admit-fair c fits size now size-fits room log (own-here c k rs peer size now room (same-key k peer own)) xs given fair before))
+      (λ other. rw other (fate-fair c log (other-here c k rs order peer size now room other) fair))
   step-fair (recordInvalid peer now) size-fits xs given used =
       by-test (sameKey k peer)
       (λ own.
       let before : lastUsed (look (k .bytes) rs) ≤ now = rw own at used in
-      rw own (invalid-fair c fits now log (own-here c k rs peer now (notes c now) (same-key k peer own)) fair before))
-      (λ other. rw other (fate-fair c log (other-here c k rs order peer now (notes c now) other) fair))
+      rw own (invalid-fair c fits now log (own-invalid-here c k rs peer now (same-key k peer own)) fair before))
+      (λ other. rw other (fate-fair c log (other-invalid-here c k rs order peer now other) fair))
   step-fair (isBanned peer now) size-fits xs given used = fate-fair c log (is-banned-here c k rs order peer now) fair
   step-fair (onDisconnected peer now) size-fits xs given used = fate-fair c log (disconnected-here c k rs order peer now) fair

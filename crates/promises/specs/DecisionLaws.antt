@@ -13,10 +13,11 @@ use Rattle.peer_state.specs.declared.ingress.Room.the-variants as Room
 use Rattle.peer_verdict.specs.declared.verdict.Cause.{Cause}
 use Rattle.peer_verdict.specs.declared.verdict.Cause.the-variants as Cause
 use Rattle.peer_verdict.specs.declared.verdict.Decision.{Decision}
+use Rattle.peer_verdict.specs.declared.verdict.InvalidDecision.{InvalidDecision}
 use Rattle.peer_state.specs.Entry.{entryBan, entryUsed}
 use Rattle.peer_state.specs.Ingress.{tryReserve}
-use Rattle.peer_verdict.specs.Verdict.{takeMessage, takeBytes, reachesBan, violated, roomed, weighedIn, weighed, judged, noted, judgedInvalid, overflows}
-use Rattle.peer_verdict.specs.VerdictLaws.{NotAllowed, rateCounted, invalidCounted, violated-ways, noted-ways, weighed-in-ways}
+use Rattle.peer_verdict.specs.Verdict.{takeMessage, takeBytes, reachesBan, violated, roomed, weighedIn, weighed, judged, judgedInvalid}
+use Rattle.peer_verdict.specs.VerdictLaws.{NotAllowed, rateCounted, violated-ways, noted-ways, weighed-in-ways}
 
 -- ════ A message ═══════════════════════════════════════════════════════════════════════════════════
 
@@ -100,20 +101,18 @@ decided c i e size now room =
 
 -- ════ An invalid message ══════════════════════════════════════════════════════════════════════════
 
--- it charges no bucket, is never refused, and is a use
-pub record Noted (e : PeerMessagePolicyEntry) (now : ℕ) (d : Decision) : Type 0 where
+-- it charges no bucket, and is a use
+pub record Noted (e : PeerMessagePolicyEntry) (now : ℕ) (d : InvalidDecision) : Type 0 where
   pub messages : d .entry .messages ≡ e .messages
   pub bytes : d .entry .bytes ≡ e .bytes
   pub used : d .entry .«last_used_ms» ≡ now
-  pub stands : overflows (d .cause) ≡ false
 
-pub judged-invalid-noted : (c : PeerMessagePolicyConfig) (i : FiberIngressBudget) (e : PeerMessagePolicyEntry) (now : ℕ)
-    → Noted e now (judgedInvalid c i e now)
+pub judged-invalid-noted : (c : PeerMessagePolicyConfig) (e : PeerMessagePolicyEntry) (now : ℕ) → Noted e now (judgedInvalid c e now)
 unfolding judgedInvalid entryUsed entryBan
-judged-invalid-noted c i e now =
-    noted-ways (Noted e now) c i (entryUsed e now (c .«ban_duration_ms»)) now
-    (λ t. record { messages = refl; bytes = refl; used = refl; stands = refl })
-    (λ t. record { messages = refl; bytes = refl; used = refl; stands = refl })
+judged-invalid-noted c e now =
+    noted-ways (Noted e now) c (entryUsed e now (c .«ban_duration_ms»)) now
+    (λ t. record { messages = refl; bytes = refl; used = refl })
+    (λ t. record { messages = refl; bytes = refl; used = refl })
 
 -- ════ The load plays no part ══════════════════════════════════════════════════════════════════════
 
@@ -152,9 +151,3 @@ module _ (c : PeerMessagePolicyConfig) (i j : FiberIngressBudget) (now : ℕ) wh
       → Alike (judged c i e size now) (weighedIn c j (entryUsed e now (c .«ban_duration_ms»)) size now (tryReserve c i size))
   unfolding judged weighed
   judged-alike e size = weighed-alike (entryUsed e now (c .«ban_duration_ms»)) size (tryReserve c i size)
-
-  pub judged-invalid-alike : (e : PeerMessagePolicyEntry) → Alike (judgedInvalid c i e now) (judgedInvalid c j e now)
-  unfolding judgedInvalid noted
-  judged-invalid-alike e =
-      alike-chosen (reachesBan c (invalidCounted c (entryUsed e now (c .«ban_duration_ms»)) now)) (record { cause = refl; entry = refl })
-      (record { cause = refl; entry = refl })

@@ -21,6 +21,7 @@ use Rattle.peer_settings.specs.Fits.{ConfigFits}
 use Rattle.peer_state.specs.declared.entry.PeerMessagePolicyEntry.{PeerMessagePolicyEntry}
 use Rattle.peer_state.specs.Entry.{level, window, windowExpire, windowCounted, entryNew, entryBan, entryUsed}
 use Rattle.peer_state.specs.Ingress.{tryReserve, inFlight}
+use Rattle.peer_verdict.specs.declared.verdict.Cause.{Cause}
 use Rattle.peer_verdict.specs.declared.verdict.Cause.the-variants as Cause
 use Rattle.peer_verdict.specs.Verdict.{takeMessage, takeBytes, violated, weighed, judged}
 use Rattle.peer_rows.specs.Rows.{Peers, peerLayout}
@@ -69,11 +70,11 @@ abbrev afterwards : State → PeerMessageAdmission → List ℕ → State
 afterwards s r memory = record { policy = afterAdmit (s .policy) r; memory = memory }
 
 -- the answer of a turn
-abbrev answerOf : PeerMessagePolicy → Turn → PeerMessageAdmission
+abbrev answerOf : PeerMessagePolicy → Turn Cause → PeerMessageAdmission
 answerOf p turn = admissionOf (policyAfter p (turn .ingress) (turn .change)) (turn .cause)
 
 -- a sound state goes on by the turn that the policy takes in it
-admit-goes : (s : State) → sound (s .policy) (s .memory) ≡ true → (k : Pubkey) (size now : ℕ) (turn : Turn) (memory : List ℕ)
+admit-goes : (s : State) → sound (s .policy) (s .memory) ≡ true → (k : Pubkey) (size now : ℕ) (turn : Turn Cause) (memory : List ℕ)
     → Policy.admit (s .policy .config) (s .policy .ingress) (rowsIn s) (k .bytes) size now ≡ turn
     → Memory (s .memory) memory (s .policy .rows) (turn .change)
     → Step s (admit k size now) (admissionSays (answerOf (s .policy) turn)) (afterwards s (answerOf (s .policy) turn) memory)
@@ -102,7 +103,7 @@ rowAt bytes now =
     }
 
 -- an Allow that leaves this load and this row
-abbrev allowedTo : ℕ → ℕ → Row PeerMessagePolicyEntry → Turn
+abbrev allowedTo : ℕ → ℕ → Row PeerMessagePolicyEntry → Turn Cause
 allowedTo messages bytes row = record { cause = Cause.Allowed; ingress = inFlight messages bytes; change = become (row ∷ []) }
 
 row-fits : (bytes now : ℕ) → bytes < 256 → now < 10000 → AllFit peerLayout EntryFits (rowAt bytes now ∷ [])

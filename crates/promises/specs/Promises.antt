@@ -30,7 +30,11 @@ most fits run = FairRunLaws.ordered-most fits run
 -- The lower bound: a call that is entitled to it (by a peer that is not banned, within the smaller allowance counted from every Allow of
 -- its life) gets the ceiling's answer: Allow where there is room, Disconnect where there is none, refusal 4 where the numbers in flight
 -- have no room.
-pub least : {c : PeerMessagePolicyConfig} {h : List Call} {s : State} → ConfigFits c → (run : Run c h s) → (k : Pubkey) (size now : ℕ) → Ordered (admit k size now ∷ h) → Entitled run k size now → (said : Said) (t : State) → Step s (admit k size now) said t → said ≡ ceilingSays (tryReserve c (s .policy .ingress) size)
+pub least : {c : PeerMessagePolicyConfig} {h : List Call} {s : State} → ConfigFits c → (run : Run c h s) → (k : Pubkey) (size now : ℕ)
+    → Ordered (admit k size now ∷ h)
+    → Entitled run k size now
+    → (said : Said) (t : State) → Step s (admit k size now) said t
+    → said ≡ ceilingSays (tryReserve c (s .policy .ingress) size)
 least fits run = FairRunLaws.ordered-least fits run
 
 -- From fresh, after any calls with any times, policy and memory are sound: refusal 3 never comes.
@@ -40,7 +44,8 @@ sound run = SoundRunLaws.run-sound run
 -- Both bounds under any clock, for a peer whose own admits and record_invalids never lie before its last-used time, however all
 -- other times run; and a caller who passes held_time's answer on to that peer's admits and record_invalids is such a caller, whose
 -- next admit at a time that held_time answers has the lower bound.
-pub shielded : {c : PeerMessagePolicyConfig} {h : List Call} {s : State} → ConfigFits c → (k : Pubkey) (run : Run c h s) → (Shielded k run → Shield k run) × (Held k run → Shielded k run) × (Held k run → HeldShield k run)
+pub shielded : {c : PeerMessagePolicyConfig} {h : List Call} {s : State} → ConfigFits c → (k : Pubkey) (run : Run c h s)
+    → (Shielded k run → Shield k run) × (Held k run → Shielded k run) × (Held k run → HeldShield k run)
 shielded fits k run = (FairRunLaws.shielded-both fits k run, HeldRunLaws.held-shields k run, HeldRunLaws.held-both k fits run)
 
 -- Samples A to F, I and J of document 01 hold of the definitions (G and H come with gossip).

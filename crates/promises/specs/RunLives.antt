@@ -93,7 +93,11 @@ pub record Entitled {c : PeerMessagePolicyConfig} {h : List Call} {s : State} (r
 -- both bounds for a peer in the state that a run leads to, the lower one for a call at such a time
 pub record Bounds {c : PeerMessagePolicyConfig} {h : List Call} {s : State} (Such : ℕ → Type 0) (k : Pubkey) (run : Run c h s) : Type 0 where
   pub upper : AtMost c (logOf k run)
-  pub lower : (size now : ℕ) → Such now → Entitled run k size now → (said : Said) (t : State) → Step s (admit k size now) said t → said ≡ ceilingSays (tryReserve c (s .policy .ingress) size)
+  pub lower : (size now : ℕ)
+      → Such now
+      → Entitled run k size now
+      → (said : Said) (t : State) → Step s (admit k size now) said t
+      → said ≡ ceilingSays (tryReserve c (s .policy .ingress) size)
 
 -- for a call that does not lie before the peer's last-used time
 abbrev pub Shield : {c : PeerMessagePolicyConfig} {h : List Call} {s : State} → Pubkey → Run c h s → Type 0

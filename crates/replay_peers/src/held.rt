@@ -1,7 +1,6 @@
 // What the records drive: a policy, how many bytes of the table are lent to it, and the settings that the next one is made with.
 use peer_message_policy::policy::PeerMessagePolicy;
 use peer_settings::config::PeerMessagePolicyConfig;
-use peer_state::ingress::FiberIngressBudget;
 use replay::line::Line;
 
 pub struct Held {
@@ -20,14 +19,7 @@ impl Held {
     pub(crate) fn nothing() -> Held {
         let config = PeerMessagePolicyConfig::with_limits(0, 0, 0);
         Held {
-            policy: PeerMessagePolicy {
-                config,
-                ingress: FiberIngressBudget {
-                    in_flight_messages: 0,
-                    in_flight_bytes: 0,
-                },
-                rows: 0,
-            },
+            policy: PeerMessagePolicy::fresh(config),
             next: config,
             lent: 0,
         }

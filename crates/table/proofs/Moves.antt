@@ -20,9 +20,9 @@ next-place w i = omega (arith, mul-add w i 1)
 pub places : (w n i : ℕ) → i ≤ n → w * i + w * (n - i) ≡ w * n
 places w n i h = sym (mul-add w i (n - i)) ∙ ap (λ (k : ℕ). w * k) (add-sub-of-le h)
 
--- i places, one more, and the rest of them are n places
-pub places-around : (w n i : ℕ) → i < n → w * i + w + w * (n - (i + 1)) ≡ w * n
-places-around w n i h = omega (arith, next-place w i, places w n (i + 1) (omega arith))
+-- i places, m more, and the rest of them are n places
+pub places-around : (w n i m : ℕ) → i + m ≤ n → w * i + w * m + w * (n - (i + m)) ≡ w * n
+places-around w n i m h = omega (arith, mul-add w i m, places w n (i + m) h)
 
 -- i places, the rest of n, and one more are n + 1 places
 pub places-gap : (w n i : ℕ) → i ≤ n → w * i + w * (n - i) + w ≡ w * (n + 1)
@@ -55,17 +55,17 @@ inserted s w n i key numbers h k e =
     ∙ put-under s (w * i) (key ++ numbers) behind (omega arith)
 
 -- the rows behind move down, and zeros are written behind them
-pub removed : (s : List ℕ) (w n i : ℕ) → i < n → w * n ≤ length s
-    → put (put s (w * (i + 1) - w) (part s (w * (i + 1)) (w * (n - (i + 1))))) (w * i + w * (n - (i + 1))) (zeros w)
-    ≡ put s (w * i) (part s (w * (i + 1)) (w * (n - (i + 1))) ++ zeros w)
-removed s w n i h k =
-    let behind : List ℕ = part s (w * (i + 1)) (w * (n - (i + 1))) in
-    let p : w * (i + 1) - w ≡ w * i = omega (arith, next-place w i) in
-    let q : w * (i + 1) + w * (n - (i + 1)) ≡ w * n = places w n (i + 1) (omega arith) in
-    let l : w * (n - (i + 1)) ≡ length behind = sym (length-part s (w * (i + 1)) (w * (n - (i + 1))) (omega arith)) in
-    ap (λ (m : ℕ). put (put s m behind) (w * i + w * (n - (i + 1))) (zeros w)) p
-    ∙ ap (λ (m : ℕ). put (put s (w * i) behind) (w * i + m) (zeros w)) l
-    ∙ put-put s (w * i) behind (zeros w) (omega (arith, next-place w i))
+pub removed : (s : List ℕ) (w n i m : ℕ) → i + m ≤ n → w * n ≤ length s
+    → put (put s (w * (i + m) - w * m) (part s (w * (i + m)) (w * (n - (i + m))))) (w * i + w * (n - (i + m))) (zeros (w * m))
+    ≡ put s (w * i) (part s (w * (i + m)) (w * (n - (i + m))) ++ zeros (w * m))
+removed s w n i m h k =
+    let behind : List ℕ = part s (w * (i + m)) (w * (n - (i + m))) in
+    let p : w * (i + m) - w * m ≡ w * i = omega (arith, mul-add w i m) in
+    let q : w * (i + m) + w * (n - (i + m)) ≡ w * n = places w n (i + m) h in
+    let l : w * (n - (i + m)) ≡ length behind = sym (length-part s (w * (i + m)) (w * (n - (i + m))) (omega arith)) in
+    ap (λ (j : ℕ). put (put s j behind) (w * i + w * (n - (i + m))) (zeros (w * m))) p
+    ∙ ap (λ (j : ℕ). put (put s (w * i) behind) (w * i + j) (zeros (w * m))) l
+    ∙ put-put s (w * i) behind (zeros (w * m)) (omega (arith, mul-add w i m))
 
 -- from one place down by as many places as lie between is the other place
 pub down : (w from to : ℕ) → to ≤ from → w * from - w * (from - to) ≡ w * to

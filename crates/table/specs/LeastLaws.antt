@@ -69,12 +69,12 @@ module _ (f : ℕ → Option ℕ) (i : ℕ) where
   pub right-better : (b : Best) → RightBefore f i b → RightBefore f (i + 1) (better b i (f i))
   right-better b = right-better-by b (f i) refl
 
-module _ {A : Type 0} (measure : A → Option ℕ) where
+module _ {A : Type 0} (measure : Row A → Option ℕ) where
   -- ---- the search as a loop, whose invariant says that what is found is that of b and the rows from the i-th on ----
 
   -- a first row is taken in
   least-cons : (b : Best) (i : ℕ) (r : Row A) (rs : List (Row A))
-      → leastFrom measure b i (r ∷ rs) ≡ leastFrom measure (better b i (measure (r .entry))) (i + 1) rs
+      → leastFrom measure b i (r ∷ rs) ≡ leastFrom measure (better b i (measure r)) (i + 1) rs
   unfolding leastFrom
   least-cons b i r rs = refl
 
@@ -86,12 +86,12 @@ module _ {A : Type 0} (measure : A → Option ℕ) where
 
     module _ (d : Row A) (inside : i < length rs) where
       -- the i-th row is taken in
-      pub least-from : leastFrom measure b i (drop i rs) ≡ leastFrom measure (better b i (measure (getD rs i d .entry))) (i + 1) (drop (i + 1) rs)
+      pub least-from : leastFrom measure b i (drop i rs) ≡ leastFrom measure (better b i (measure (getD rs i d))) (i + 1) (drop (i + 1) rs)
       least-from = rw (drop-cons rs i d) (least-cons b i (getD rs i d) (drop (suc i) rs) ∙ rw (add-one i))
 
       -- the i-th row is taken in: the invariant at the next
       pub least-goes-on : leastFrom measure nothing 0 rs ≡ leastFrom measure b i (drop i rs)
-          → leastFrom measure nothing 0 rs ≡ leastFrom measure (better b i (measure (getD rs i d .entry))) (i + 1) (drop (i + 1) rs)
+          → leastFrom measure nothing 0 rs ≡ leastFrom measure (better b i (measure (getD rs i d))) (i + 1) (drop (i + 1) rs)
       least-goes-on from = from ∙ least-from
 
   module _ (rs : List (Row A)) (d : Row A) where
@@ -99,7 +99,7 @@ module _ {A : Type 0} (measure : A → Option ℕ) where
 
     -- the measure of the row at an index
     abbrev pub measureAt : ℕ → Option ℕ
-    measureAt i = measure (getD rs i d .entry)
+    measureAt i = measure (getD rs i d)
 
     -- the search goes on rightly from what was right before the index i
     right-after : (left i : ℕ) (b : Best) → i + left ≡ length rs → RightBefore measureAt i b
@@ -122,5 +122,5 @@ module _ {A : Type 0} (measure : A → Option ℕ) where
     least-found h = rw h at least-right
 
     -- where nothing is found no row has a measure
-    pub least-nothing : leastFrom measure nothing 0 rs ≡ nothing → (q : ℕ) → q < length rs → measure (getD rs q d .entry) ≡ none
+    pub least-nothing : leastFrom measure nothing 0 rs ≡ nothing → (q : ℕ) → q < length rs → measure (getD rs q d) ≡ none
     least-nothing h = rw h at least-right

@@ -7,3 +7,5 @@ pub mod LeastLaws
 pub mod Memory
 pub mod PutLaws
 pub mod MemoryLaws
+pub mod Outcome
+pub mod OutcomeLaws

@@ -1,6 +1,7 @@
--- Laws of looking a key up in a table: what is found by the first row, and after a store or an erase. Another key is one that is not
--- equal: `other ≡ k → ⊥`. After a retain: `RetainLaws`; after a row is taken out at an index: `PlaceLaws`. Assumes nothing.
-use mathlib.Core.Bool.{true}
+-- Laws of looking a key up in a table: what is found by the first row, after a store or an erase, what rule it keeps, and what is found
+-- after rows are taken out. Another key is one that is not equal: `other ≡ k → ⊥`. After a retain: `RetainLaws`; after a row is taken out at an index: `PlaceLaws`. Assumes nothing.
+use mathlib.Core.Bool.{Bool, true}
+use mathlib.Core.Logic.{_⊎_, inl, inr, ⊎-elim}
 use mathlib.Core.Path.{_≡_, refl, sym, _∙_}
 use mathlib.Core.List.{List, [], _∷_}
 use mathlib.Core.Option.{Option, none, some}
@@ -10,8 +11,8 @@ use Rattle.pubkey.specs.declared.Ordering.{Ordering}
 use Rattle.pubkey.specs.declared.Ordering.the-variants.{Less, Equal, Greater}
 use Rattle.pubkey.specs.Order.{compareBytes}
 use Rattle.pubkey.specs.OrderLaws.{compare-self, compare-equal, transitive}
-use Rattle.table.specs.Table.{Row, byOrder, below, ascending, look, store, erase}
-use Rattle.table.specs.TableLaws.{by-answer, below-less, ascending-parts, equal-below, before-below}
+use Rattle.table.specs.Table.{Row, rowUnder, byOrder, below, ascending, every, look, store, erase}
+use Rattle.table.specs.TableLaws.{by-answer, below-less, ascending-parts, equal-below, before-below, every-parts, Sub, done, keep, leave, sub-below}
 
 module _ {A : Type 0} where
   -- an entry is not both found and not found
@@ -111,3 +112,44 @@ module _ {A : Type 0} where
         (λ o. rw o (sym (look-skip other r rs (λ q. ne (q ∙ sym (compare-equal k (r .key) o)))
         (λ p. look-below other rs (before-below r rs other order p)))))
         (λ o. rw o (look-same-first other r (erase k rs) rs rest))
+
+  -- ---- what rule it keeps ----
+
+  -- what is found keeps what rule all rows keep
+  pub look-rule : (rule : Row A → Bool) (k : List ℕ) (rs : List (Row A)) {e : A} → every rule rs ≡ true → look k rs ≡ some e
+      → rule (rowUnder k e) ≡ true
+  look-rule rule k [] h found = absurd (some-is-not-none found (look-below k [] refl))
+  look-rule rule k (r ∷ rs) {e} h found =
+      let parts = every-parts rule r rs h in
+      by-answer (compareBytes k (r .key))
+      (λ o. absurd (some-is-not-none found (look-before k r rs o)))
+      (λ o. let z : r .entry ≡ e = cc (look-first k r rs o) in rw (compare-equal k (r .key) o, ← z) (parts .0))
+      (λ o. look-rule rule k rs (parts .1) (sym (look-later k r rs o) ∙ found))
+
+  -- ---- after rows are taken out ----
+
+  -- what is found after rows are taken out of ascending rows is what was found, or nothing
+  pub sub-look : {xs ys : List (Row A)} → Sub xs ys → ascending ys ≡ true → (k : List ℕ) → (look k xs ≡ look k ys) ⊎ (look k xs ≡ none)
+  sub-look done order k = inl refl
+  sub-look (keep {r} {xs} {ys} s) order k =
+      let rest = sub-look s (ascending-parts r ys order .1) k in
+      by-answer (compareBytes k (r .key))
+      (λ o. inl (look-before k r xs o ∙ sym (look-before k r ys o)))
+      (λ o. inl (look-first k r xs o ∙ sym (look-first k r ys o)))
+      (λ o. ⊎-elim (λ e. inl (look-later k r xs o ∙ e ∙ sym (look-later k r ys o))) (λ e. inr (look-later k r xs o ∙ e)) rest)
+  sub-look (leave {r} {xs} {ys} s) order k =
+      let behind : ascending ys ≡ true = ascending-parts r ys order .1 in
+      let rest = sub-look s behind k in
+      by-answer (compareBytes k (r .key))
+      (λ o. inr (look-below k xs (sub-below k s behind (before-below r ys k order o))))
+      (λ o. inr (look-below k xs (sub-below k s behind (equal-below r ys k order o))))
+      (λ o. ⊎-elim (λ e. inl (e ∙ sym (look-later k r ys o))) inr rest)
+
+  -- what was not found is not found
+  pub sub-look-none : {xs ys : List (Row A)} → Sub xs ys → ascending ys ≡ true → (k : List ℕ) → look k ys ≡ none → look k xs ≡ none
+  sub-look-none s order k h = ⊎-elim (λ e. e ∙ h) (λ e. e) (sub-look s order k)
+
+  -- what was found is found as it was, or not at all
+  pub sub-look-some : {xs ys : List (Row A)} → Sub xs ys → ascending ys ≡ true → (k : List ℕ) {e : A} → look k ys ≡ some e
+      → (look k xs ≡ some e) ⊎ (look k xs ≡ none)
+  sub-look-some s order k h = ⊎-elim (λ e. inl (e ∙ h)) inr (sub-look s order k)

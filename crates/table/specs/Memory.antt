@@ -2,7 +2,7 @@
 -- in `MemoryLaws`.
 use mathlib.Core.Path.{_≡_}
 use mathlib.Core.List.{List, [], _∷_, _++_}
-use Prim.Native.Nat.{ℕ, zero, suc, _+_, _-_, _*_}
+use Prim.Native.Nat.{ℕ, zero, suc, _-_, _*_, max}
 use lib.ListN.{length, take, drop}
 use Rattle.lent_bytes.specs.LentBytes.{bytes, le, part, zeros}
 use Rattle.table.specs.Table.{Row}
@@ -51,7 +51,7 @@ module _ {A : Type 0} (L : Layout A) where
   unfoldable pub laid : List ℕ → ℕ → List (Row A) → List ℕ
   laid s n rs =
       tableBytes rs
-      ++ (zeros (L .width * (n - length rs)) ++ drop (L .width * (n + (length rs - n))) s)
+      ++ (zeros (L .width * (n - length rs)) ++ drop (L .width * max n (length rs)) s)
 
   -- memory that held n rows now holds these, and they read back
   pub record Holds (before after : List ℕ) (n : ℕ) (rs : List (Row A)) : Type 0 where

@@ -2,10 +2,10 @@
 --
 -- In order: numbers and their eight bytes; what a layout must satisfy; rows; rows that fit their layout; the bytes of rows;
 -- memory after a call, `laid`; from a write, `put`, to `laid`. The width of a row is `L .width` throughout.
-use mathlib.Core.Bool.{Bool, true, false, cond}
+use mathlib.Core.Bool.{Bool}
 use mathlib.Core.Path.{_≡_, refl, sym, ap, _∙_, subst}
 use mathlib.Core.List.{List, [], _∷_, _++_, append-assoc, append-nil}
-use Prim.Native.Nat.{ℕ, zero, suc, _+_, _-_, _*_, _^_, _≤_, _<_}
+use Prim.Native.Nat.{ℕ, zero, suc, _+_, _-_, _*_, _^_, _≤_, _<_, max}
 use native.Mathlib.Nat.{zero-add, suc-add, add-sub-of-le, mul-zero, mul-one, mul-suc, mul-add, mul-sub, sub-zero, mul-le-mul-left, le-of-suc-le-suc}
 use native.Mathlib.Omega.{arith}
 use lib.ListN.{length, take, drop, getD, length-append, length-take, length-drop, take-append-drop}
@@ -16,7 +16,8 @@ use Rattle.lent_bytes.specs.LentBytesLaws.{Bytes-nil, Bytes-append, Bytes-take,
 use Rattle.pubkey.specs.declared.Ordering.{Ordering}
 use Rattle.pubkey.specs.declared.Ordering.the-variants.{Less, Equal, Greater}
 use Rattle.pubkey.specs.Order.{compareBytes}
-use Rattle.table.specs.Table.{Row, byOrder, store, erase, insertAt, removeAt, retain}
+use Rattle.table.specs.Table.{Row, byOrder, store, erase, insertAt, removeRun, removeAt, retain}
+use Rattle.table.specs.TableLaws.{Sub, done, keep, leave, sub-erase, sub-retain}
 use Rattle.table.specs.Memory.{Layout, wordBytes, wordOf, words, rowBytes, tableBytes, rowOf, rows, laid, Holds}
 use Rattle.table.specs.PutLaws.{put-earlier, put-later, put-front, put-whole, drop-take, zeros-append, drop-zeros}
 
@@ -194,12 +195,18 @@ module _ {A : Type 0} (L : Layout A) where
       ap (λ (l : List ℕ). rowBytes L r ++ l) (tableBytes-append rs qs) ∙ sym (append-assoc (rowBytes L r) (tableBytes L rs) (tableBytes L qs))
 
 -- the places that two calls free, of a table of n rows, then r, then q
-places-freed : (n r q : ℕ) → r ≤ n + (q - n) → (r - q) + ((n - r) - (q - r)) ≡ n - q
+places-freed : (n r q : ℕ) → r ≤ max n q → (r - q) + ((n - r) - (q - r)) ≡ n - q
 places-freed n r q h = omega arith
 
 -- the places that two calls use or free
-places-used : (n r q : ℕ) → r ≤ n + (q - n) → n + (r - n) + ((q - r) - (n - r)) ≡ n + (q - n)
+places-used : (n r q : ℕ) → r ≤ max n q → max n r + ((q - r) - (n - r)) ≡ max n q
 places-used n r q h = omega arith
+
+-- the bytes of the places that n rows and then r have used: those of the n, and of what r has beyond them
+pub bytes-used : (w n r : ℕ) → w * max n r ≡ w * n + w * (r - n)
+bytes-used w n r =
+    let e : max n r ≡ n + (r - n) = omega arith in
+    ap (λ (m : ℕ). w * m) e ∙ mul-add w n (r - n)
 
 -- ---- rows that fit their layout
 
@@ -238,20 +245,15 @@ module _ {A : Type 0} {L : Layout A} {Good : A → Type 0} (ok : Faithful L Good
   unfolding insertAt
   fit-insertAt i r rs g f = fit-append (take i rs) (r ∷ drop i rs) (fit-take i rs f) (g, fit-drop i rs f)
 
-  -- rows with one less
-  pub fit-removeAt : (i : ℕ) (rs : List (Row A)) → AllFit L Good rs → AllFit L Good (removeAt i rs)
-  unfolding removeAt
-  fit-removeAt i rs f = fit-append (take i rs) (drop (i + 1) rs) (fit-take i rs f) (fit-drop (i + 1) rs f)
+  -- rows left
+  pub sub-fit : {xs ys : List (Row A)} → Sub xs ys → AllFit L Good ys → AllFit L Good xs
+  sub-fit done f = f
+  sub-fit (keep s) f = (f .0, sub-fit s (f .1))
+  sub-fit (leave s) f = sub-fit s (f .1)
 
   -- the rows that a test keeps
-  pub fit-retain : (test : A → Bool) (rs : List (Row A)) → AllFit L Good rs → AllFit L Good (retain test rs)
-  unfolding retain
-  fit-retain test [] f = tt
-  fit-retain test (r ∷ rs) f = kept (test (r .entry)) (retain test rs) (fit-retain test rs (f .1))
-    where
-      kept : (b : Bool) (rest : List (Row A)) → AllFit L Good rest → AllFit L Good (cond b (r ∷ rest) rest)
-      kept true rest more = (f .0, more)
-      kept false rest more = more
+  pub fit-retain : (test : Row A → Bool) (rs : List (Row A)) → AllFit L Good rs → AllFit L Good (retain test rs)
+  fit-retain test rs = sub-fit (sub-retain test rs)
 
   -- rows with a row stored
   pub fit-store : (k : List ℕ) (e : A) (rs : List (Row A)) → Fit L Good (record { key = k; entry = e }) → AllFit L Good rs → AllFit L Good (store k e rs)
@@ -267,14 +269,7 @@ module _ {A : Type 0} {L : Layout A} {Good : A → Type 0} (ok : Faithful L Good
 
   -- rows with a row erased
   pub fit-erase : (k : List ℕ) (rs : List (Row A)) → AllFit L Good rs → AllFit L Good (erase k rs)
-  unfolding erase
-  fit-erase k [] f = tt
-  fit-erase k (r ∷ rs) f = erased (compareBytes k (r .key)) (erase k rs) (fit-erase k rs (f .1))
-    where
-      erased : (o : Ordering) (rest : List (Row A)) → AllFit L Good rest → AllFit L Good (byOrder o (r ∷ rs) rs (r ∷ rest))
-      erased Less rest more = f
-      erased Equal rest more = f .1
-      erased Greater rest more = (f .0, more)
+  fit-erase k rs = sub-fit (sub-erase k rs)
 
   -- ---- the bytes of rows
 
@@ -384,18 +379,18 @@ module _ {A : Type 0} {L : Layout A} {Good : A → Type 0} (ok : Faithful L Good
   laid-put s n rs f =
       let w : ℕ = L .width in
       let freed : List ℕ = zeros (w * (n - length rs)) in
-      let e : length (tableBytes L rs ++ freed) ≡ w * (n + (length rs - n)) =
+      let e : length (tableBytes L rs ++ freed) ≡ w * max n (length rs) =
       length-append (tableBytes L rs) freed
       ∙ omega (
         arith,
         length-tableBytes rs f,
         length-zeros (w * (n - length rs)),
-        mul-add w n (length rs - n),
+        bytes-used w n (length rs),
         mul-sub w n (length rs),
         mul-sub w (length rs) n,
       ) in
       sym (put-front s (tableBytes L rs ++ freed) ∙ ap (λ (k : ℕ). tableBytes L rs ++ freed ++ drop k s) e
-      ∙ append-assoc (tableBytes L rs) freed (drop (w * (n + (length rs - n))) s))
+      ∙ append-assoc (tableBytes L rs) freed (drop (w * max n (length rs)) s))
 
   -- the length of what is written
   length-written : (n : ℕ) (rs : List (Row A)) → AllFit L Good rs
@@ -415,14 +410,14 @@ module _ {A : Type 0} {L : Layout A} {Good : A → Type 0} (ok : Faithful L Good
   unfolding laid
   Bytes-laid s n rs f b =
       let freed : List ℕ = zeros (L .width * (n - length rs)) in
-      let behind : List ℕ = drop (L .width * (n + (length rs - n))) s in
+      let behind : List ℕ = drop (L .width * max n (length rs)) s in
       Bytes-append (tableBytes L rs) (freed ++ behind) (Bytes-tableBytes rs f)
-      (Bytes-append freed behind (Bytes-zeros (L .width * (n - length rs))) (Bytes-drop (L .width * (n + (length rs - n))) s b))
+      (Bytes-append freed behind (Bytes-zeros (L .width * (n - length rs))) (Bytes-drop (L .width * max n (length rs)) s b))
 
   -- the rows that memory holds read back
   pub rows-laid : (s : List ℕ) (n : ℕ) (rs : List (Row A)) → AllFit L Good rs → rows L (laid L s n rs) (length rs) ≡ rs
   unfolding laid
-  rows-laid s n rs f = rows-tableBytes rs (zeros (L .width * (n - length rs)) ++ drop (L .width * (n + (length rs - n))) s) f
+  rows-laid s n rs f = rows-tableBytes rs (zeros (L .width * (n - length rs)) ++ drop (L .width * max n (length rs)) s) f
 
   -- memory that is laid holds its rows
   pub holds : (before after : List ℕ) (n : ℕ) (rs : List (Row A)) → AllFit L Good rs → after ≡ laid L before n rs → Holds L before after n rs
@@ -435,38 +430,38 @@ module _ {A : Type 0} {L : Layout A} {Good : A → Type 0} (ok : Faithful L Good
   laid-rows s n b h =
       let w : ℕ = L .width in
       let none : w * (n - n) ≡ 0 = omega (arith, mul-sub w n n) in
-      let all : w * (n + (n - n)) ≡ w * n = omega (arith, mul-add w n (n - n)) in
+      let all : w * max n n ≡ w * n = ap (λ (m : ℕ). w * m) (omega arith) in
       rw (length-rows L s n, none, all, tableBytes-rows s n b h, take-append-drop (w * n) s)
 
   -- of two calls the second decides, where it wipes or covers what the first wrote behind the n rows
-  pub laid-laid : (s : List ℕ) (n : ℕ) (rs qs : List (Row A)) → AllFit L Good rs → length rs ≤ n + (length qs - n) → laid L (laid L s n rs) (length rs) qs ≡ laid L s n qs
+  pub laid-laid : (s : List ℕ) (n : ℕ) (rs qs : List (Row A)) → AllFit L Good rs → length rs ≤ max n (length qs) → laid L (laid L s n rs) (length rs) qs ≡ laid L s n qs
   unfolding laid
   laid-laid s n rs qs f h =
       let w : ℕ = L .width in
       let r : ℕ = length rs in
       let q : ℕ = length qs in
-      let behind : List ℕ = drop (w * (n + (r - n))) s in
-      let place : w * (r + (q - r)) ≡ w * r + w * (q - r) = mul-add w r (q - r) in
+      let behind : List ℕ = drop (w * max n r) s in
+      let place : w * max r q ≡ w * r + w * (q - r) = bytes-used w r q in
       let freed : w * (n - r) - w * (q - r) ≡ w * ((n - r) - (q - r)) = sym (mul-sub w (n - r) (q - r)) in
       let passed : w * (q - r) - w * (n - r) ≡ w * ((q - r) - (n - r)) = sym (mul-sub w (q - r) (n - r)) in
       let zeroed : w * (r - q) + w * ((n - r) - (q - r)) ≡ w * (n - q) =
       sym (mul-add w (r - q) ((n - r) - (q - r))) ∙ ap (λ (k : ℕ). w * k) (places-freed n r q h) in
-      let left : w * (n + (r - n)) + w * ((q - r) - (n - r)) ≡ w * (n + (q - n)) =
-      sym (mul-add w (n + (r - n)) ((q - r) - (n - r))) ∙ ap (λ (k : ℕ). w * k) (places-used n r q h) in
-      let rest : drop (w * (r + (q - r))) (tableBytes L rs ++ (zeros (w * (n - r)) ++ behind))
-      ≡ zeros (w * ((n - r) - (q - r))) ++ drop (w * (n + (q - n))) s =
+      let left : w * max n r + w * ((q - r) - (n - r)) ≡ w * max n q =
+      sym (mul-add w (max n r) ((q - r) - (n - r))) ∙ ap (λ (k : ℕ). w * k) (places-used n r q h) in
+      let rest : drop (w * max r q) (tableBytes L rs ++ (zeros (w * (n - r)) ++ behind))
+      ≡ zeros (w * ((n - r) - (q - r))) ++ drop (w * max n q) s =
       ap (λ (k : ℕ). drop k (tableBytes L rs ++ (zeros (w * (n - r)) ++ behind))) place
       ∙ sym (drop-drop (w * (q - r)) (w * r) (tableBytes L rs ++ (zeros (w * (n - r)) ++ behind)))
       ∙ ap (λ (l : List ℕ). drop (w * (q - r)) l) (drop-at (tableBytes L rs) (zeros (w * (n - r)) ++ behind) (w * r) (length-tableBytes rs f))
       ∙ drop-zeros (w * (q - r)) (w * (n - r)) behind
       ∙ ap (λ (k : ℕ). zeros k ++ drop (w * (q - r) - w * (n - r)) behind) freed
       ∙ ap (λ (k : ℕ). zeros (w * ((n - r) - (q - r))) ++ drop k behind) passed
-      ∙ ap (λ (l : List ℕ). zeros (w * ((n - r) - (q - r))) ++ l) (drop-drop (w * ((q - r) - (n - r))) (w * (n + (r - n))) s)
+      ∙ ap (λ (l : List ℕ). zeros (w * ((n - r) - (q - r))) ++ l) (drop-drop (w * ((q - r) - (n - r))) (w * max n r) s)
       ∙ ap (λ (k : ℕ). zeros (w * ((n - r) - (q - r))) ++ drop k s) left in
       ap (λ (l : List ℕ). tableBytes L qs ++ (zeros (w * (r - q)) ++ l)) rest
       ∙ ap (λ (l : List ℕ). tableBytes L qs ++ l)
-      (sym (append-assoc (zeros (w * (r - q))) (zeros (w * ((n - r) - (q - r)))) (drop (w * (n + (q - n))) s))
-      ∙ ap (λ (l : List ℕ). l ++ drop (w * (n + (q - n))) s) (zeros-append (w * (r - q)) (w * ((n - r) - (q - r)))
+      (sym (append-assoc (zeros (w * (r - q))) (zeros (w * ((n - r) - (q - r)))) (drop (w * max n q) s))
+      ∙ ap (λ (l : List ℕ). l ++ drop (w * max n q) s) (zeros-append (w * (r - q)) (w * ((n - r) - (q - r)))
       ∙ ap zeros zeroed))
 
   -- ---- from a write to memory after a call
@@ -521,15 +516,24 @@ module _ {A : Type 0} {L : Layout A} {Good : A → Type 0} (ok : Faithful L Good
       (sym (rw (none, append-nil (rowBytes L r), append-nil (part s (w * i) (w * (n - i))))))
       ∙ put-rows s n i i (r ∷ []) b h k k (f, tt)
 
+  -- m neighbouring rows taken out, and zeros in the places freed
+  pub put-remove-run : (s : List ℕ) (n i m : ℕ) → Bytes s → L .width * n ≤ length s → i + m ≤ n
+      → put s (L .width * i) (part s (L .width * (i + m)) (L .width * (n - (i + m))) ++ zeros (L .width * m)) ≡ laid L s n (removeRun i m (rows L s n))
+  unfolding removeRun tableBytes
+  put-remove-run s n i m b h k =
+      let w : ℕ = L .width in
+      let freed : w * (n - (i + (0 + (n - (i + m))))) ≡ w * m = ap (λ (j : ℕ). w * j) (omega arith) in
+      ap (λ (j : ℕ). put s (w * i) (part s (w * (i + m)) (w * (n - (i + m))) ++ zeros j)) (sym freed)
+      ∙ put-rows s n i (i + m) [] b h (omega arith) (omega arith) tt
+
   -- the row at an index taken out, and zeros in the place freed
   pub put-remove : (s : List ℕ) (n i : ℕ) → Bytes s → L .width * n ≤ length s → i < n
       → put s (L .width * i) (part s (L .width * (i + 1)) (L .width * (n - (i + 1))) ++ zeros (L .width)) ≡ laid L s n (removeAt i (rows L s n))
-  unfolding removeAt tableBytes
+  unfolding removeAt removeRun
   put-remove s n i b h k =
       let w : ℕ = L .width in
-      let one : w * (n - (i + (0 + (n - (i + 1))))) ≡ w = ap (λ (m : ℕ). w * m) (omega arith) ∙ mul-one w in
-      ap (λ (m : ℕ). put s (w * i) (part s (w * (i + 1)) (w * (n - (i + 1))) ++ zeros m)) (sym one)
-      ∙ put-rows s n i (i + 1) [] b h (omega arith) (omega arith) tt
+      ap (λ (m : ℕ). put s (w * i) (part s (w * (i + 1)) (w * (n - (i + 1))) ++ zeros m)) (sym (mul-one w))
+      ∙ put-remove-run s n i 1 b h (omega arith)
 
   -- the row at an index overwritten
   pub put-row : (s : List ℕ) (n i : ℕ) (r : Row A) → Bytes s → L .width * n ≤ length s → i < n → Fit L Good r

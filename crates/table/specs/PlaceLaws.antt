@@ -17,7 +17,7 @@ use Rattle.pubkey.specs.Order.{compareBytes}
 use Rattle.pubkey.specs.OrderLaws.{compare-self, compare-equal, less-flip}
 use Rattle.table.specs.declared.seek.Seek.{Seek}
 use Rattle.table.specs.declared.seek.Seek.the-variants.{Unsound, At, Gap}
-use Rattle.table.specs.Table.{Row, ascending, every, placeFrom, seek, look, store, erase, removeAt, insertAt}
+use Rattle.table.specs.Table.{Row, ascending, every, placeFrom, seek, look, store, erase, removeRun, removeAt, insertAt}
 use Rattle.table.specs.TableLaws.{by-answer, by-test, both-parts, ascending-parts, below-each, removeAt-first, removeAt-later}
 use Rattle.table.specs.LookLaws.{some-is-not-none, look-below, look-before, look-first, look-later, look-erase-same, look-erase-other}
 
@@ -196,10 +196,15 @@ module _ {A : Type 0} where
 
   -- ---- lengths, with a row taken out or put in ----
 
+  -- n rows fewer, when n neighbouring rows are taken out
+  pub length-removeRun : (i n : ℕ) (rs : List (Row A)) → i + n ≤ length rs → length (removeRun i n rs) + n ≡ length rs
+  unfolding removeRun
+  length-removeRun i n rs inside = simp (length-append, length-take, length-drop) (omega arith)
+
   -- one row fewer, when a row is taken out
   pub length-removeAt : (j : ℕ) (rs : List (Row A)) → j < length rs → length (removeAt j rs) + 1 ≡ length rs
-  unfolding removeAt
-  length-removeAt j rs inside = simp (length-append, length-take, length-drop) (omega arith)
+  unfolding removeAt removeRun
+  length-removeAt j rs inside = length-removeRun j 1 rs (omega arith)
 
   -- one row more, when a row is put in
   pub length-insertAt : (j : ℕ) (r : Row A) (rs : List (Row A)) → j ≤ length rs → length (insertAt j r rs) ≡ length rs + 1
@@ -271,12 +276,12 @@ module _ {A : Type 0} where
   -- ---- judging and searching ----
 
   -- the rows are sound, and the search answered this
-  pub record Sought (rule : A → Bool) (k : List ℕ) (rs : List (Row A)) (answer : Seek) : Type 0 where
+  pub record Sought (rule : Row A → Bool) (k : List ℕ) (rs : List (Row A)) (answer : Seek) : Type 0 where
     pub rules : every rule rs ≡ true
     pub order : ascending rs ≡ true
     pub place : placeFrom 0 k rs ≡ answer
 
-  module _ (rule : A → Bool) (k : List ℕ) (rs : List (Row A)) where
+  module _ (rule : Row A → Bool) (k : List ℕ) (rs : List (Row A)) where
     -- in sound rows the key is searched for
     pub seek-sound : (every rule rs && ascending rs) ≡ true → seek rule k rs ≡ placeFrom 0 k rs
     unfolding seek

@@ -16,6 +16,10 @@ pub record Row (A : Type 0) : Type 0 where
   pub key : List ℕ
   pub entry : A
 
+-- the row of an entry under its key
+abbrev pub rowUnder : {A : Type 0} → List ℕ → A → Row A
+rowUnder k e = record { key = k; entry = e }
+
 -- one of three, by an order
 abbrev pub byOrder {ℓ} : {B : Type ℓ} → Ordering → B → B → B → B
 byOrder Less a b c = a
@@ -33,10 +37,10 @@ module _ {A : Type 0} where
   ascending [] = true
   ascending (r ∷ rs) = below (r .key) rs && ascending rs
 
-  -- every entry keeps the rule
-  unfoldable pub every : (A → Bool) → List (Row A) → Bool
+  -- every row keeps the rule
+  unfoldable pub every : (Row A → Bool) → List (Row A) → Bool
   every rule [] = true
-  every rule (r ∷ rs) = rule (r .entry) && every rule rs
+  every rule (r ∷ rs) = rule r && every rule rs
 
   -- the place of a key among ascending rows, the first of which is the i-th
   unfoldable pub placeFrom : ℕ → List ℕ → List (Row A) → Seek
@@ -44,7 +48,7 @@ module _ {A : Type 0} where
   placeFrom i k (r ∷ rs) = byOrder (compareBytes k (r .key)) (Gap i) (At i) (placeFrom (i + 1) k rs)
 
   -- judge, then find: the rows are unsound, or the key stands at a place, or would stand at a gap
-  unfoldable pub seek : (A → Bool) → List ℕ → List (Row A) → Seek
+  unfoldable pub seek : (Row A → Bool) → List ℕ → List (Row A) → Seek
   seek rule k rs = cond (every rule rs && ascending rs) (placeFrom 0 k rs) Unsound
 
   -- HashMap::get
@@ -54,11 +58,11 @@ module _ {A : Type 0} where
 
   -- HashMap::insert: in the place of the row of that key, or before the first row above it
   unfoldable pub store : List ℕ → A → List (Row A) → List (Row A)
-  store k e [] = record { key = k; entry = e } ∷ []
+  store k e [] = rowUnder k e ∷ []
   store k e (r ∷ rs) =
       byOrder (compareBytes k (r .key))
-      (record { key = k; entry = e } ∷ r ∷ rs)
-      (record { key = k; entry = e } ∷ rs)
+      (rowUnder k e ∷ r ∷ rs)
+      (rowUnder k e ∷ rs)
       (r ∷ store k e rs)
 
   -- HashMap::remove
@@ -67,9 +71,13 @@ module _ {A : Type 0} where
   erase k (r ∷ rs) = byOrder (compareBytes k (r .key)) (r ∷ rs) rs (r ∷ erase k rs)
 
   -- HashMap::retain
-  unfoldable pub retain : (A → Bool) → List (Row A) → List (Row A)
+  unfoldable pub retain : (Row A → Bool) → List (Row A) → List (Row A)
   retain test [] = []
-  retain test (r ∷ rs) = cond (test (r .entry)) (r ∷ retain test rs) (retain test rs)
+  retain test (r ∷ rs) = cond (test r) (r ∷ retain test rs) (retain test rs)
+
+  -- the n neighbouring rows from an index on, taken out
+  unfoldable pub removeRun : ℕ → ℕ → List (Row A) → List (Row A)
+  removeRun i n rs = take i rs ++ drop (i + n) rs
 
   -- the row at an index, taken out
   unfoldable pub removeAt : ℕ → List (Row A) → List (Row A)
@@ -92,6 +100,6 @@ better (best j n) i (some m) = cond (ltb m n) (best i m) (best j n)
 
 module _ {A : Type 0} where
   -- the first row with the least measure among those that have one, the rows counted from i
-  unfoldable pub leastFrom : (A → Option ℕ) → Best → ℕ → List (Row A) → Best
+  unfoldable pub leastFrom : (Row A → Option ℕ) → Best → ℕ → List (Row A) → Best
   leastFrom measure b i [] = b
-  leastFrom measure b i (r ∷ rs) = leastFrom measure (better b i (measure (r .entry))) (i + 1) rs
+  leastFrom measure b i (r ∷ rs) = leastFrom measure (better b i (measure r)) (i + 1) rs

@@ -5,6 +5,7 @@ use mathlib.Core.Bool.{Bool, true, false, _&&_}
 use mathlib.Core.Path.{_≡_, refl, _∙_}
 use mathlib.Core.List.{List, [], _∷_}
 use Prim.Native.Nat.{ℕ, zero, suc, _+_, _≤_, _<_}
+use native.Mathlib.Nat.{suc-add}
 use native.Mathlib.Numerals.{add-one}
 use native.Mathlib.Omega.{arith}
 use lib.ListN.{length, drop, getD, drop-of-length-le}
@@ -13,7 +14,7 @@ use Rattle.pubkey.specs.declared.Ordering.{Ordering}
 use Rattle.pubkey.specs.declared.Ordering.the-variants.{Less, Equal, Greater}
 use Rattle.pubkey.specs.Order.{compareBytes}
 use Rattle.pubkey.specs.OrderLaws.{compare-equal, transitive, greater-flip}
-use Rattle.table.specs.Table.{Row, byOrder, below, ascending, every, store, erase, retain, removeAt}
+use Rattle.table.specs.Table.{Row, rowUnder, byOrder, below, ascending, every, store, erase, retain, removeRun, removeAt}
 
 -- ---- tests ----
 
@@ -92,22 +93,22 @@ module _ {A : Type 0} where
     pub before-below : (k : List ℕ) → ascending (r ∷ rs) ≡ true → compareBytes k (r .key) ≡ Less → below k rs ≡ true
     before-below k order o = below-from-less k (r .key) rs o (ascending-parts order .0)
 
-  module _ (rule : A → Bool) (r : Row A) (rs : List (Row A)) where
+  module _ (rule : Row A → Bool) (r : Row A) (rs : List (Row A)) where
     -- of rows that keep a rule the first does, and the others do
-    pub every-parts : every rule (r ∷ rs) ≡ true → (rule (r .entry) ≡ true) × (every rule rs ≡ true)
+    pub every-parts : every rule (r ∷ rs) ≡ true → (rule r ≡ true) × (every rule rs ≡ true)
     unfolding every
-    every-parts h = both-parts (rule (r .entry)) (every rule rs) h
+    every-parts h = both-parts (rule r) (every rule rs) h
 
     -- a row that keeps a rule, put before rows that do
-    pub every-cons : rule (r .entry) ≡ true → every rule rs ≡ true → every rule (r ∷ rs) ≡ true
+    pub every-cons : rule r ≡ true → every rule rs ≡ true → every rule (r ∷ rs) ≡ true
     unfolding every
     every-cons h k = both h k
 
     -- rows are sound where the first keeps the rule and is below the others, and those are sound
     pub sound-cons : (every rule (r ∷ rs) && ascending (r ∷ rs))
-        ≡ (rule (r .entry) && (below (r .key) rs && (every rule rs && ascending rs)))
+        ≡ (rule r && (below (r .key) rs && (every rule rs && ascending rs)))
     unfolding every ascending
-    sound-cons = regroup (rule (r .entry)) (every rule rs) (below (r .key) rs) (ascending rs)
+    sound-cons = regroup (rule r) (every rule rs) (below (r .key) rs) (ascending rs)
 
   -- ---- the row at an index ----
 
@@ -129,21 +130,21 @@ module _ {A : Type 0} where
       below-each k rs i d (before-below r rs k order (below-less k r rs h)) (ascending-parts r rs order .1) (omega arith)
 
   -- where every row keeps a rule, the row at an index does
-  pub every-at : (rule : A → Bool) (rs : List (Row A)) (i : ℕ) (d : Row A) → every rule rs ≡ true → i < length rs
-      → rule (getD rs i d .entry) ≡ true
+  pub every-at : (rule : Row A → Bool) (rs : List (Row A)) (i : ℕ) (d : Row A) → every rule rs ≡ true → i < length rs
+      → rule (getD rs i d) ≡ true
   every-at rule [] i d h inside = absurd (omega arith)
   every-at rule (r ∷ rs) zero d h inside = every-parts rule r rs h .0
   every-at rule (r ∷ rs) (suc i) d h inside = every-at rule rs i d (every-parts rule r rs h .1) (omega arith)
 
   -- where the row at an index breaks a rule, not every row keeps it
-  pub every-fails : (rule : A → Bool) (rs : List (Row A)) (i : ℕ) (d : Row A) → i < length rs → rule (getD rs i d .entry) ≡ false
+  pub every-fails : (rule : Row A → Bool) (rs : List (Row A)) (i : ℕ) (d : Row A) → i < length rs → rule (getD rs i d) ≡ false
       → every rule rs ≡ false
   every-fails rule rs i d inside h =
       by-test (every rule rs) (λ e. absurd (true-is-not-false (every-at rule rs i d e inside) h)) (λ e. e)
 
   -- ---- judging as a loop, whose invariant says that the rows are sound just where those from the i-th on are ----
 
-  module _ (rule : A → Bool) (rs : List (Row A)) (i : ℕ) where
+  module _ (rule : Row A → Bool) (rs : List (Row A)) (i : ℕ) where
     -- the loop ends: no row is left
     pub judge-ends : length rs ≤ i → (every rule rs && ascending rs) ≡ (every rule (drop i rs) && ascending (drop i rs))
         → (every rule rs && ascending rs) ≡ true
@@ -152,20 +153,20 @@ module _ {A : Type 0} where
 
     module _ (d : Row A) (inside : i < length rs) (from : (every rule rs && ascending rs) ≡ (every rule (drop i rs) && ascending (drop i rs))) where
       judge-step : (every rule rs && ascending rs)
-          ≡ (rule (getD rs i d .entry)
+          ≡ (rule (getD rs i d)
           && (below (getD rs i d .key) (drop (i + 1) rs) && (every rule (drop (i + 1) rs) && ascending (drop (i + 1) rs))))
       judge-step = from ∙ rw (add-one, drop-cons rs i d) (sound-cons rule (getD rs i d) (drop (suc i) rs))
 
       -- the i-th row breaks the rule
-      pub judge-breaks-rule : rule (getD rs i d .entry) ≡ false → (every rule rs && ascending rs) ≡ false
+      pub judge-breaks-rule : rule (getD rs i d) ≡ false → (every rule rs && ascending rs) ≡ false
       judge-breaks-rule h = judge-step ∙ rw h
 
       -- the i-th row is not below the next one
       pub judge-breaks-order : below (getD rs i d .key) (drop (i + 1) rs) ≡ false → (every rule rs && ascending rs) ≡ false
-      judge-breaks-order h = judge-step ∙ second-fails (rule (getD rs i d .entry)) (rw h)
+      judge-breaks-order h = judge-step ∙ second-fails (rule (getD rs i d)) (rw h)
 
       -- the i-th row is sound: the invariant at the next
-      pub judge-goes-on : rule (getD rs i d .entry) ≡ true → below (getD rs i d .key) (drop (i + 1) rs) ≡ true
+      pub judge-goes-on : rule (getD rs i d) ≡ true → below (getD rs i d .key) (drop (i + 1) rs) ≡ true
           → (every rule rs && ascending rs) ≡ (every rule (drop (i + 1) rs) && ascending (drop (i + 1) rs))
       judge-goes-on h k = judge-step ∙ rw (h, k)
 
@@ -189,7 +190,7 @@ module _ {A : Type 0} where
   sub-length (leave s) = let h = sub-length s in omega arith
 
   -- rows left keep what rule the rows kept
-  pub sub-every : (rule : A → Bool) {xs ys : List (Row A)} → Sub xs ys → every rule ys ≡ true → every rule xs ≡ true
+  pub sub-every : (rule : Row A → Bool) {xs ys : List (Row A)} → Sub xs ys → every rule ys ≡ true → every rule xs ≡ true
   sub-every rule done h = h
   sub-every rule (keep {r} {xs} {ys} s) h =
       let parts = every-parts rule r ys h in
@@ -223,12 +224,12 @@ module _ {A : Type 0} where
       (λ h. rw h (keep rest))
 
   -- a retain takes rows out
-  pub sub-retain : (test : A → Bool) (rs : List (Row A)) → Sub (retain test rs) rs
+  pub sub-retain : (test : Row A → Bool) (rs : List (Row A)) → Sub (retain test rs) rs
   unfolding retain
   sub-retain test [] = done
   sub-retain test (r ∷ rs) =
       let rest : Sub (retain test rs) rs = sub-retain test rs in
-      by-test (test (r .entry)) (λ h. rw h (keep rest)) (λ h. rw h (leave rest))
+      by-test (test r) (λ h. rw h (keep rest)) (λ h. rw h (leave rest))
 
   -- the first row, taken out
   pub removeAt-first : (r : Row A) (rs : List (Row A)) → removeAt 0 (r ∷ rs) ≡ rs
@@ -240,30 +241,43 @@ module _ {A : Type 0} where
   unfolding removeAt
   removeAt-later j r rs = rw (add-one (suc j), add-one j)
 
-  -- of no rows none is taken out
-  pub removeAt-empty : (j : ℕ) → _≡_ {A = List (Row A)} (removeAt j []) []
-  unfolding removeAt
-  removeAt-empty zero = refl
-  removeAt-empty (suc j) = rw (add-one (suc j))
+  -- the first rows, taken out
+  pub sub-drop : (n : ℕ) (rs : List (Row A)) → Sub (drop n rs) rs
+  sub-drop zero rs = sub-all rs
+  sub-drop (suc n) [] = done
+  sub-drop (suc n) (r ∷ rs) = leave (sub-drop n rs)
+
+  -- neighbouring rows, taken out
+  pub sub-removeRun : (i n : ℕ) (rs : List (Row A)) → Sub (removeRun i n rs) rs
+  unfolding removeRun
+  sub-removeRun zero n rs = sub-drop (0 + n) rs
+  sub-removeRun (suc i) n [] = rw (suc-add i n) done
+  sub-removeRun (suc i) n (r ∷ rs) = rw (suc-add i n) (keep (sub-removeRun i n rs))
 
   -- a row at an index, taken out
   pub sub-removeAt : (j : ℕ) (rs : List (Row A)) → Sub (removeAt j rs) rs
-  sub-removeAt j [] = rw (removeAt-empty j) done
-  sub-removeAt zero (r ∷ rs) = rw (removeAt-first r rs) (leave (sub-all rs))
-  sub-removeAt (suc j) (r ∷ rs) = rw (removeAt-later j r rs) (keep (sub-removeAt j rs))
+  unfolding removeAt removeRun
+  sub-removeAt j rs = sub-removeRun j 1 rs
+
+  -- rows taken out of rows taken out
+  pub sub-trans : {xs ys zs : List (Row A)} → Sub xs ys → Sub ys zs → Sub xs zs
+  sub-trans s done = s
+  sub-trans (keep s) (keep t) = keep (sub-trans s t)
+  sub-trans (leave s) (keep t) = leave (sub-trans s t)
+  sub-trans s (leave t) = leave (sub-trans s t)
 
   -- ---- soundness kept ----
 
   -- rows that keep a rule keep it after an erase
-  pub every-erase : (rule : A → Bool) (k : List ℕ) (rs : List (Row A)) → every rule rs ≡ true → every rule (erase k rs) ≡ true
+  pub every-erase : (rule : Row A → Bool) (k : List ℕ) (rs : List (Row A)) → every rule rs ≡ true → every rule (erase k rs) ≡ true
   every-erase rule k rs = sub-every rule (sub-erase k rs)
 
   -- rows that keep a rule keep it after a retain
-  pub every-retain : (rule test : A → Bool) (rs : List (Row A)) → every rule rs ≡ true → every rule (retain test rs) ≡ true
+  pub every-retain : (rule test : Row A → Bool) (rs : List (Row A)) → every rule rs ≡ true → every rule (retain test rs) ≡ true
   every-retain rule test rs = sub-every rule (sub-retain test rs)
 
   -- rows that keep a rule keep it when a row is taken out
-  pub every-removeAt : (rule : A → Bool) (j : ℕ) (rs : List (Row A)) → every rule rs ≡ true → every rule (removeAt j rs) ≡ true
+  pub every-removeAt : (rule : Row A → Bool) (j : ℕ) (rs : List (Row A)) → every rule rs ≡ true → every rule (removeAt j rs) ≡ true
   every-removeAt rule j rs = sub-every rule (sub-removeAt j rs)
 
   -- ascending rows are ascending after an erase
@@ -271,7 +285,7 @@ module _ {A : Type 0} where
   ascending-erase k rs = sub-ascending (sub-erase k rs)
 
   -- ascending rows are ascending after a retain
-  pub ascending-retain : (test : A → Bool) (rs : List (Row A)) → ascending rs ≡ true → ascending (retain test rs) ≡ true
+  pub ascending-retain : (test : Row A → Bool) (rs : List (Row A)) → ascending rs ≡ true → ascending (retain test rs) ≡ true
   ascending-retain test rs = sub-ascending (sub-retain test rs)
 
   -- ascending rows are ascending when a row is taken out
@@ -279,12 +293,12 @@ module _ {A : Type 0} where
   ascending-removeAt j rs = sub-ascending (sub-removeAt j rs)
 
   module _ (k : List ℕ) (e : A) where
-    -- rows that keep a rule keep it after an entry that does is stored
-    pub every-store : (rule : A → Bool) (rs : List (Row A)) → rule e ≡ true → every rule rs ≡ true → every rule (store k e rs) ≡ true
+    -- rows that keep a rule keep it after a row that does is stored
+    pub every-store : (rule : Row A → Bool) (rs : List (Row A)) → rule (rowUnder k e) ≡ true → every rule rs ≡ true → every rule (store k e rs) ≡ true
     unfolding store
-    every-store rule [] h rules = every-cons rule (record { key = k; entry = e }) [] h rules
+    every-store rule [] h rules = every-cons rule (rowUnder k e) [] h rules
     every-store rule (r ∷ rs) h rules =
-        let stored : Row A = record { key = k; entry = e } in
+        let stored : Row A = rowUnder k e in
         let parts = every-parts rule r rs rules in
         let rest : every rule (store k e rs) ≡ true = every-store rule rs h (parts .1) in
         by-answer (compareBytes k (r .key))
@@ -302,9 +316,9 @@ module _ {A : Type 0} where
     -- ascending rows are ascending after a store
     pub ascending-store : (rs : List (Row A)) → ascending rs ≡ true → ascending (store k e rs) ≡ true
     unfolding store
-    ascending-store [] order = ascending-cons (record { key = k; entry = e }) [] refl order
+    ascending-store [] order = ascending-cons (rowUnder k e) [] refl order
     ascending-store (r ∷ rs) order =
-        let stored : Row A = record { key = k; entry = e } in
+        let stored : Row A = rowUnder k e in
         let parts = ascending-parts r rs order in
         let rest : ascending (store k e rs) ≡ true = ascending-store rs (parts .1) in
         by-answer (compareBytes k (r .key))

@@ -1,4 +1,4 @@
-// Rows of one width in a slice that the caller lends: a row put in, taken out, kept in a walk, and places zeroed.
+// Rows of one width in a slice that the caller lends: a row put in, rows taken out, a row kept in a walk, and places zeroed.
 //
 // Each contract is one `put` of what stood in the slice; `MemoryLaws` says which rows the slice then holds.
 ghost use mathlib.Core.Path.{_≡_};
@@ -41,16 +41,26 @@ pub fn insert_row(
     put_words(table, at + key.len(), words);
 }
 
+// Takes the `run` neighbouring rows from the index on out: the rows behind them move down, and the last places become zeros.
+pub fn remove_rows(table: &mut [u8], width: usize, count: usize, index: usize, run: usize)
+    requires { ⌜ index + run ≤ count ⌝ }
+    requires { ⌜ width * count ≤ length (now table) ⌝ }
+    ensures { λ _. ⌜ now (table .exit) ≡ put (now (table .entry)) (width * index) (part (now (table .entry)) (width * (index + run)) (width * (count - (index + run))) ++ zeros (width * run)) ⌝ }
+{
+    let next = width * (index + run);
+    let behind = width * (count - (index + run));
+    let freed = width * run;
+    lent_bytes::run::move_down(table, next, behind, freed);
+    lent_bytes::run::fill_zeros(table, width * index + behind, freed);
+}
+
 // Takes the row at the index out: the rows behind it move down by one place, and the last place becomes zeros.
 pub fn remove_row(table: &mut [u8], width: usize, count: usize, index: usize)
     requires { ⌜ index < count ⌝ }
     requires { ⌜ width * count ≤ length (now table) ⌝ }
     ensures { λ _. ⌜ now (table .exit) ≡ put (now (table .entry)) (width * index) (part (now (table .entry)) (width * (index + 1)) (width * (count - (index + 1))) ++ zeros width) ⌝ }
 {
-    let next = width * (index + 1);
-    let behind = width * (count - (index + 1));
-    lent_bytes::run::move_down(table, next, behind, width);
-    lent_bytes::run::fill_zeros(table, width * index + behind, width);
+    remove_rows(table, width, count, index, 1);
 }
 
 // Moves the row at the place `from` down to the place `to`: a step of a walk that keeps some rows. A row that stays where it is

@@ -9,7 +9,6 @@ use super::step::Stepped;
 use super::step::step;
 use peer_message_policy::policy::PeerMessagePolicy;
 use peer_settings::config::PeerMessagePolicyConfig;
-use peer_state::ingress::FiberIngressBudget;
 use trace_lines::event::parse_event;
 use trace_lines::line::Line;
 use trace_lines::line::bad_line;
@@ -164,15 +163,7 @@ fn next_settings(scan: Scan, input: &[u8], table: &mut [u8]) -> Handed
 fn no_policy() -> PeerMessagePolicy
     ensures { λ r. ⌜ r ≡ noPolicy ⌝ }
 {
-    let config = PeerMessagePolicyConfig::default();
-    PeerMessagePolicy {
-        config,
-        ingress: FiberIngressBudget {
-            in_flight_messages: 0,
-            in_flight_bytes: 0,
-        },
-        rows: 0,
-    }
+    PeerMessagePolicy::fresh(PeerMessagePolicyConfig::default())
 }
 
 // A scan from the beginning of an input.

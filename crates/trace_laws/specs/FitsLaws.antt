@@ -16,6 +16,8 @@ use Rattle.peer_state.specs.declared.ingress.Room.{Room}
 use Rattle.peer_state.specs.declared.ingress.Room.the-variants as Room
 use Rattle.peer_verdict.specs.declared.verdict.Cause.{Cause}
 use Rattle.peer_verdict.specs.declared.verdict.Cause.the-variants as Cause
+use Rattle.peer_verdict.specs.declared.verdict.InvalidCause.{InvalidCause}
+use Rattle.peer_verdict.specs.declared.verdict.InvalidCause.the-variants as InvalidCause
 use Rattle.peer_verdict.specs.declared.verdict.Decision.{Decision}
 use Rattle.peer_settings.specs.Config.{unlimited}
 use Rattle.peer_settings.specs.Fits.{ConfigFits}
@@ -23,14 +25,13 @@ use Rattle.peer_state.specs.Entry.{entryUsed}
 use Rattle.peer_state.specs.EntryLaws.{chosen}
 use Rattle.peer_state.specs.Ingress.{tryReserve}
 use Rattle.peer_verdict.specs.Verdict.{roomed, takeMessage, takeBytes, judged, judgedInvalid}
-use Rattle.peer_verdict.specs.VerdictLaws.{violated-ways, noted-ways, weighed-ways}
+use Rattle.peer_verdict.specs.VerdictLaws.{violated-ways, weighed-ways}
 use Rattle.peer_rows.specs.Rows.{Peers}
 use Rattle.peer_message_policy.specs.declared.policy.PeerMessagePolicy.{PeerMessagePolicy}
 use Rattle.peer_verdict.specs.Verdict.{overflows}
-use Rattle.peer_message_policy.specs.Policy.{Change, Update, banned, update, turnOf, carriedOut, entryForUpdate, Turn, admit, recordInvalid, isBanned, isBannedChange}
+use Rattle.peer_message_policy.specs.Policy.{Change, Update, banned, update, turnOf, carriedOut, notedDown, entryForUpdate, Turn, admit, recordInvalid, isBanned, isBannedChange}
 use Rattle.peer_message_policy.specs.Calls.{policyAfter, admissionTurn, invalidTurn, standingChanged}
 use Rattle.peer_laws.specs.TestLaws.{neither}
-use Rattle.peer_laws.specs.SoundLaws.{admit-turn, record-invalid-turn}
 use Rattle.peer_laws.specs.CallLaws.{of-admission, of-invalid, of-standing}
 use Rattle.trace_lines.specs.declared.settings.Settings.{Settings}
 use Rattle.trace_lines.specs.declared.settings.Settings.the-variants as Settings
@@ -135,26 +136,23 @@ module _ (c : PeerMessagePolicyConfig) (config : ConfigFits c) (i : FiberIngress
       (λ passed short. violated-ways DecisionFits c i used now (Cause.BytesShort (b .missing)) (λ h. load) (λ h. load))
       (λ passed passes. roomed-fits used (m .level) (b .level) (tryReserve c i size) (room-fits size))
 
-  invalid-fits : (e : PeerMessagePolicyEntry) (now : ℕ) → DecisionFits (judgedInvalid c i e now)
-  unfolding judgedInvalid
-  invalid-fits e now = noted-ways DecisionFits c i (entryUsed e now (c .«ban_duration_ms»)) now (λ h. load) (λ h. load)
-
-  turn-fits : (k : List ℕ) (decide : PeerMessagePolicyEntry → Decision) → ((e : PeerMessagePolicyEntry) → DecisionFits (decide e)) → (u : Update)
-      → LoadFits (turnOf i k decide u .ingress)
-  unfolding carriedOut
-  turn-fits k decide fits banned = load
-  turn-fits k decide fits (update e rs) =
-      chosen (λ (t : Turn). LoadFits (t .ingress)) (overflows (decide e .cause)) (λ h. load) (λ h. fits e)
-
   pub admit-fits : (rs : Peers) (k : List ℕ) (size now : ℕ) → LoadFits (admit c i rs k size now .ingress)
-  admit-fits rs k size now =
-      rw (admit-turn c i k rs size now)
-      (turn-fits k (λ e. judged c i e size now) (λ e. judged-fits e size now) (entryForUpdate c now rs (look k rs)))
+  unfolding admit carriedOut
+  admit-fits rs k size now = by (entryForUpdate c now rs k (look k rs))
+    where
+      by : (u : Update) → LoadFits (turnOf i Cause.LiveBan (λ e xs. carriedOut i k xs (judged c i e size now)) u .ingress)
+      by banned = load
+      by (update e xs) =
+          chosen (λ (t : Turn Cause). LoadFits (t .ingress)) (overflows (judged c i e size now .cause)) (λ h. load) (λ h. judged-fits e size now)
 
+  -- an invalid message leaves the load as it is
   pub record-invalid-fits : (rs : Peers) (k : List ℕ) (now : ℕ) → LoadFits (recordInvalid c i rs k now .ingress)
-  record-invalid-fits rs k now =
-      rw (record-invalid-turn c i k rs now)
-      (turn-fits k (λ e. judgedInvalid c i e now) (λ e. invalid-fits e now) (entryForUpdate c now rs (look k rs)))
+  unfolding recordInvalid
+  record-invalid-fits rs k now = by (entryForUpdate c now rs k (look k rs))
+    where
+      by : (u : Update) → LoadFits (turnOf i InvalidCause.LiveBan (λ e xs. notedDown i k xs (judgedInvalid c e now)) u .ingress)
+      by banned = load
+      by (update e xs) = load
 
 -- ════ An event ════════════════════════════════════════════════════════════════════════════════════
 
@@ -164,12 +162,12 @@ module _ (p : PeerMessagePolicy) (config : ConfigFits (p .config)) (load : LoadF
 
   kind-fits : (k : List ℕ) (size now : ℕ) (which : EventKind) → InFlightFits (policyNext p (kindOutcome p rs k size now which .answer))
   kind-fits k size now kind.Admit =
-      let turn : Turn = admit (p .config) (p .ingress) rs k size now in
+      let turn : Turn Cause = admit (p .config) (p .ingress) rs k size now in
       spoken-admission p InFlightFits (admissionTurn p turn .answer)
       (of-admission p InFlightFits (policyAfter p (turn .ingress) (turn .change)) (turn .cause)
       (admit-fits (p .config) config (p .ingress) load rs k size now) (λ o. load))
   kind-fits k size now kind.Invalid =
-      let turn : Turn = recordInvalid (p .config) (p .ingress) rs k now in
+      let turn : Turn InvalidCause = recordInvalid (p .config) (p .ingress) rs k now in
       spoken-invalid p InFlightFits (invalidTurn p turn .answer)
       (of-invalid p InFlightFits (policyAfter p (turn .ingress) (turn .change)) (turn .cause)
       (record-invalid-fits (p .config) config (p .ingress) load rs k now))

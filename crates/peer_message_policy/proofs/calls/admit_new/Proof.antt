@@ -18,26 +18,29 @@ judged-requires c κs = let a = c .before .before .before .before .args in
 overflows-requires : tie.Need-overflows-requires
 overflows-requires c κs = search needs
 
+admission-of-requires : tie.Need-admission-of-requires
+admission-of-requires c κs = search needs
+
 returns : tie.Need-returns
-returns c = let a = c .before .before .before .before .before .before .before .args in
-    let x = c .before .before .before .new .result in
+returns c = let a = c .before .before .before .before .before .before .before .before .args in
+    let x = c .before .before .before .before .new .result in
     let rs = rowsOf (a .p) (a .table .now) in
-    admit-overflow (a .p) (a .table .now) (a .peer) (a .bytes) (a .now-ms) (c .before .before .before .before .before .before .before .pre .is-sound) x (makeRoom (a .p .config) (a .now-ms) rs) (update-new (a .p .config) (a .now-ms) rs (a .peer .bytes) (unknown-look (a .p) (a .table .now) (a .peer .bytes) (a .gap) (c .before .before .before .before .before .before .before .pre)) x (c .before .before .before .new .ensures)) (c .before .before .judged .result) (c .before .before .judged .ensures) (sym (c .before .overflows .ensures) ∙ c .if1 .taken)
+    admit-overflow (a .p) (a .table .now) (a .peer) (a .bytes) (a .now-ms) (c .before .before .before .before .before .before .before .before .pre .is-sound) x (makeRoom (a .p .config) (a .now-ms) rs) (update-new (a .p .config) (a .now-ms) rs (a .peer .bytes) (unknown-look (a .p) (a .table .now) (a .peer .bytes) (a .gap) (c .before .before .before .before .before .before .before .before .pre)) x (c .before .before .before .before .new .ensures)) (c .before .before .before .judged .result) (c .before .before .before .judged .ensures) (sym (c .before .before .overflows .ensures) ∙ c .before .if1 .taken) (c .admission-of .result) (c .admission-of .ensures)
 
 store-new-requires : tie.Need-store-new-requires
 store-new-requires c κs = search needs
 
-admission-of-requires : tie.Need-admission-of-requires
-admission-of-requires c κs = search needs
+admission-of-requires-2 : tie.Need-admission-of-requires-2
+admission-of-requires-2 c κs = search needs
 
 same-length : tie.Need-same-length
 same-length c = search needs
 
 returns-2 : tie.Need-returns-2
-returns-2 c = let a = c .before .before .before .before .before .before .before .before .before .before .before .before .args in
-    let x = c .before .before .before .before .before .before .before .before .new .result in
+returns-2 c = let a = c .before .before .before .before .before .before .before .before .before .before .before .before .before .before .args in
+    let x = c .before .before .before .before .before .before .before .before .before .before .new .result in
     let rs = rowsOf (a .p) (a .table .now) in
-    admit-carried (a .p) (a .table .now) (a .peer) (a .bytes) (a .now-ms) (c .before .before .before .before .before .before .before .before .before .before .before .before .pre .is-sound) x (makeRoom (a .p .config) (a .now-ms) rs) (update-new (a .p .config) (a .now-ms) rs (a .peer .bytes) (unknown-look (a .p) (a .table .now) (a .peer .bytes) (a .gap) (c .before .before .before .before .before .before .before .before .before .before .before .before .pre)) x (c .before .before .before .before .before .before .before .before .new .ensures)) (c .before .before .before .before .before .before .before .judged .result) (c .before .before .before .before .before .before .before .judged .ensures) (sym (c .before .before .before .before .before .before .overflows .ensures) ∙ c .before .before .before .before .before .if1 .left) (c .before .before .before .store-new .result) _ (c .before .before .before .store-new .ensures) (c .admission-of .result) (c .admission-of .ensures)
+    admit-carried (a .p) (a .table .now) (a .peer) (a .bytes) (a .now-ms) (c .before .before .before .before .before .before .before .before .before .before .before .before .before .before .pre .is-sound) x (makeRoom (a .p .config) (a .now-ms) rs) (update-new (a .p .config) (a .now-ms) rs (a .peer .bytes) (unknown-look (a .p) (a .table .now) (a .peer .bytes) (a .gap) (c .before .before .before .before .before .before .before .before .before .before .before .before .before .before .pre)) x (c .before .before .before .before .before .before .before .before .before .before .new .ensures)) (c .before .before .before .before .before .before .before .before .before .judged .result) (c .before .before .before .before .before .before .before .before .before .judged .ensures) (sym (c .before .before .before .before .before .before .before .before .overflows .ensures) ∙ c .before .before .before .before .before .before .before .if1 .left) (c .before .before .before .store-new .result) _ (c .before .before .before .store-new .ensures) (c .admission-of2 .result) (c .admission-of2 .ensures)
 
 pub admit-new-spec : {M : Type 1} → statement M
 admit-new-spec =
@@ -46,8 +49,9 @@ admit-new-spec =
     new-requires
     judged-requires
     overflows-requires
+    admission-of-requires
     returns
     store-new-requires
-    admission-of-requires
+    admission-of-requires-2
     same-length
     returns-2)

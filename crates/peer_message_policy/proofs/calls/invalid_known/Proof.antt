@@ -1,8 +1,8 @@
 -- `calls::invalid_known` meets its contract. Assumes nothing.
 use mathlib.Core.Path.{sym, _∙_}
 use Rattle.peer_message_policy.specs.Policy.{rowsOf}
-use Rattle.peer_message_policy.proofs.Judged.{known-fits, known-look}
-use Rattle.peer_message_policy.proofs.Turns.{update-known, invalid-live, invalid-carried}
+use Rattle.peer_message_policy.proofs.Judged.{few-read, in-order, known-fits, known-look}
+use Rattle.peer_message_policy.proofs.Turns.{update-known, left-same, invalid-live, invalid-carried}
 use borrow.Author.Needs.{needs}
 use Rattle.peer_message_policy.proofs.calls.invalid_known.Statement.{statement}
 use Rattle.peer_message_policy.proofs.calls.invalid_known.Tie as tie
@@ -14,13 +14,16 @@ entry-at-requires c κs = let a = c .before .before .before .before .args in
 is-banned-requires : tie.Need-is-banned-requires
 is-banned-requires c κs = search needs
 
+invalid-of-requires : tie.Need-invalid-of-requires
+invalid-of-requires c κs = search needs
+
 same-length : tie.Need-same-length
 same-length c = search needs
 
 returns : tie.Need-returns
-returns c = let a = c .before .before .before .before .before .before .before .args in
-    let e = c .before .before .entry-at .result in
-    invalid-live (a .p) (a .table .now) (a .peer) (a .now-ms) (c .before .before .before .before .before .before .before .pre .is-sound) e (known-look (a .p) (a .table .now) (a .peer .bytes) (a .index) (c .before .before .before .before .before .before .before .pre) e (c .before .before .entry-at .ensures)) (sym (c .before .is-banned .ensures) ∙ c .if1 .taken)
+returns c = let a = c .before .before .before .before .before .before .before .before .args in
+    let e = c .before .before .before .entry-at .result in
+    invalid-live (a .p) (a .table .now) (a .peer) (a .now-ms) (c .before .before .before .before .before .before .before .before .pre .is-sound) e (known-look (a .p) (a .table .now) (a .peer .bytes) (a .index) (c .before .before .before .before .before .before .before .before .pre) e (c .before .before .before .entry-at .ensures)) (sym (c .before .before .is-banned .ensures) ∙ c .before .if1 .taken) (c .invalid-of .result) (c .invalid-of .ensures)
 
 entry-to-judge-requires : tie.Need-entry-to-judge-requires
 entry-to-judge-requires c κs = search needs
@@ -31,17 +34,18 @@ judged-invalid-requires c κs = search needs
 store-known-requires : tie.Need-store-known-requires
 store-known-requires c κs = search needs
 
-invalid-of-requires : tie.Need-invalid-of-requires
-invalid-of-requires c κs = search needs
+invalid-of-requires-2 : tie.Need-invalid-of-requires-2
+invalid-of-requires-2 c κs = search needs
 
 same-length-2 : tie.Need-same-length-2
 same-length-2 c = search needs
 
 returns-2 : tie.Need-returns-2
-returns-2 c = let a = c .before .before .before .before .before .before .before .before .before .before .before .before .before .before .args in
-    let e = c .before .before .before .before .before .before .before .before .before .entry-at .result in
-    let x = c .before .before .before .before .before .before .entry-to-judge .result in
-    invalid-carried (a .p) (a .table .now) (a .peer) (a .now-ms) (c .before .before .before .before .before .before .before .before .before .before .before .before .before .before .pre .is-sound) x (rowsOf (a .p) (a .table .now)) (update-known (a .p .config) (a .now-ms) (rowsOf (a .p) (a .table .now)) (a .peer .bytes) e (known-look (a .p) (a .table .now) (a .peer .bytes) (a .index) (c .before .before .before .before .before .before .before .before .before .before .before .before .before .before .pre) e (c .before .before .before .before .before .before .before .before .before .entry-at .ensures)) (sym (c .before .before .before .before .before .before .before .before .is-banned .ensures) ∙ c .before .before .before .before .before .before .before .if1 .left) x (c .before .before .before .before .before .before .entry-to-judge .ensures)) (c .before .before .before .before .before .judged-invalid .result) (c .before .before .before .before .before .judged-invalid .ensures) (c .before .before .before .store-known .result) _ (c .before .before .before .store-known .ensures) (c .invalid-of .result) (c .invalid-of .ensures)
+returns-2 c = let a = c .before .before .before .before .before .before .before .before .before .before .before .before .before .before .before .args in
+    let e = c .before .before .before .before .before .before .before .before .before .before .entry-at .result in
+    let x = c .before .before .before .before .before .before .before .entry-to-judge .result in
+    let u = update-known (a .p .config) (a .now-ms) (rowsOf (a .p) (a .table .now)) (a .peer .bytes) (few-read (a .p) (a .table .now) (c .before .before .before .before .before .before .before .before .before .before .before .before .before .before .before .pre .is-sound)) (in-order (a .p) (a .table .now) (c .before .before .before .before .before .before .before .before .before .before .before .before .before .before .before .pre .is-sound)) e (known-look (a .p) (a .table .now) (a .peer .bytes) (a .index) (c .before .before .before .before .before .before .before .before .before .before .before .before .before .before .before .pre) e (c .before .before .before .before .before .before .before .before .before .before .entry-at .ensures)) (sym (c .before .before .before .before .before .before .before .before .before .is-banned .ensures) ∙ c .before .before .before .before .before .before .before .before .if1 .left) x (c .before .before .before .before .before .before .before .entry-to-judge .ensures) in
+    invalid-carried (a .p) (a .table .now) (a .peer) (a .now-ms) (c .before .before .before .before .before .before .before .before .before .before .before .before .before .before .before .pre .is-sound) x (u .among) (u .found) (c .before .before .before .before .before .before .judged-invalid .result) (c .before .before .before .before .before .before .judged-invalid .ensures) (c .before .before .before .store-known .result) _ (left-same (u .stores _) (c .before .before .before .store-known .ensures)) (c .invalid-of2 .result) (c .invalid-of2 .ensures)
 
 pub invalid-known-spec : {M : Type 1} → statement M
 invalid-known-spec =
@@ -49,11 +53,12 @@ invalid-known-spec =
     (tie.spec
     entry-at-requires
     is-banned-requires
+    invalid-of-requires
     same-length
     returns
     entry-to-judge-requires
     judged-invalid-requires
     store-known-requires
-    invalid-of-requires
+    invalid-of-requires-2
     same-length-2
     returns-2)

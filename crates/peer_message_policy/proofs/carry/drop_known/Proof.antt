@@ -7,19 +7,22 @@ use Rattle.peer_message_policy.proofs.carry.drop_known.Statement.{state
 use Rattle.peer_message_policy.proofs.carry.drop_known.Tie as tie
 
 remove-at-requires : tie.Need-remove-at-requires
-remove-at-requires c κs = let a = c .before .before .before .before .args in
-    (known-inside (a .p) (a .table .now) (a .peer .bytes) (a .index) (c .before .before .before .before .pre), rows-fit (a .p) (a .table .now) (c .before .before .before .before .pre .is-sound))
+remove-at-requires c κs = let a = c .before .before .before .args in
+    (known-inside (a .p) (a .table .now) (a .peer .bytes) (a .index) (c .before .before .before .pre), rows-fit (a .p) (a .table .now) (c .before .before .before .pre .is-sound))
 
-sub-t11 : tie.Need-sub-t11
-sub-t11 c = let a = c .before .before .before .before .before .before .before .before .args in
-    omega (arith, known-inside (a .p) (a .table .now) (a .peer .bytes) (a .index) (c .before .before .before .before .before .before .before .before .pre))
+sub-after : tie.Need-sub-after
+sub-after c = let a = c .before .before .before .before .before .before .before .args in
+    omega (arith, known-inside (a .p) (a .table .now) (a .peer .bytes) (a .index) (c .before .before .before .before .before .before .before .pre))
+
+after-requires : tie.Need-after-requires
+after-requires c κs = search needs
 
 same-length : tie.Need-same-length
 same-length c = search needs
 
 returns : tie.Need-returns
 returns c = let a = c .before .before .before .before .before .before .before .before .args in
-    left-out (a .p) (a .table .now) (a .peer .bytes) (a .index) (c .before .before .before .before .before .before .before .before .pre) _ (c .before .before .before .remove-at .ensures)
+    rw (c .after .ensures) (left-out (a .p) (a .table .now) (a .peer .bytes) (a .index) (c .before .before .before .before .before .before .before .before .pre) _ (c .before .before .before .before .remove-at .ensures))
 
 pub drop-known-spec : {M : Type 1} → statement M
-drop-known-spec = tie.close (tie.spec remove-at-requires sub-t11 same-length returns)
+drop-known-spec = tie.close (tie.spec remove-at-requires sub-after after-requires same-length returns)

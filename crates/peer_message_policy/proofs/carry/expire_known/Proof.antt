@@ -26,7 +26,7 @@ same-length c = search needs
 
 returns-2 : tie.Need-returns-2
 returns-2 c = let a = c .before .before .before .before .before .before .before .before .before .args in
-    left-over (a .p) (a .table .now) (a .peer .bytes) (a .index) (c .before .before .before .before .before .before .before .before .before .pre .0) _ (c .before .before .before .before .before .before .entry-left .result) (entryExpireWindows (a .entry) (a .now-ms) (a .p .config .«ban_duration_ms»)) (c .before .before .before .before .before .before .entry-left .ensures) (c .before .before .overwrite-at .ensures)
+    left-over (a .p) (a .table .now) (a .peer .bytes) (a .index) (c .before .before .before .before .before .before .before .before .before .pre .0) (a .p .ingress) _ (c .before .before .before .before .before .before .entry-left .result) (entryExpireWindows (a .entry) (a .now-ms) (a .p .config .«ban_duration_ms»)) (c .before .before .before .before .before .before .entry-left .ensures) (c .before .before .overwrite-at .ensures)
 
 pub expire-known-spec : {M : Type 1} → statement M
 expire-known-spec =

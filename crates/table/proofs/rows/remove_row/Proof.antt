@@ -1,68 +1,23 @@
--- `table::rows::remove_row` meets its contract: the two writes are one (`removed`). Assumes nothing.
+-- `table::rows::remove_row` meets its contract: a run of one row. Assumes nothing.
 use mathlib.Core.Path.{ap, _∙_}
-use mathlib.Core.List.{List}
+use mathlib.Core.List.{_++_}
 use Prim.Native.Nat.{ℕ, _+_, _-_, _*_}
-use native.Mathlib.Omega.{arith}
+use native.Mathlib.Nat.{mul-one}
 use borrow.Author.Needs.{needs}
-use Rattle.lent_bytes.specs.LentBytes.{put, zeros}
-use Rattle.table.proofs.Moves.{next-place, places-around, removed}
+use Rattle.lent_bytes.specs.LentBytes.{part, put, zeros}
 use Rattle.table.proofs.rows.remove_row.Tie as tie
 use Rattle.table.proofs.rows.remove_row.Statement.{statement}
 
-add-next : tie.Need-add-next
-add-next c = search needs
-
-mul-next : tie.Need-mul-next
-mul-next c = let a = c .before .args in
-    omega (arith, next-place (a .width) (a .index), places-around (a .width) (a .count) (a .index) (omega arith))
-
-add-behind : tie.Need-add-behind
-add-behind c = search needs
-
-sub-behind : tie.Need-sub-behind
-sub-behind c = search needs
-
-mul-behind : tie.Need-mul-behind
-mul-behind c = let a = c .before .args in
-    omega (arith, places-around (a .width) (a .count) (a .index) (omega arith))
-
-move-down-requires : tie.Need-move-down-requires
-move-down-requires c κs = let a = c .before .before .args in
-    omega (arith, next-place (a .width) (a .index), places-around (a .width) (a .count) (a .index) (omega arith))
-
-mul-fill-zeros : tie.Need-mul-fill-zeros
-mul-fill-zeros c = let a = c .before .before .before .before .before .before .args in
-    omega (arith, places-around (a .width) (a .count) (a .index) (omega arith))
-
-add-fill-zeros : tie.Need-add-fill-zeros
-add-fill-zeros c = let a = c .before .before .before .before .before .before .args in
-    omega (arith, places-around (a .width) (a .count) (a .index) (omega arith))
-
-fill-zeros-requires : tie.Need-fill-zeros-requires
-fill-zeros-requires c κs = let a = c .before .before .before .before .before .before .args in
-    omega (arith, places-around (a .width) (a .count) (a .index) (omega arith))
+remove-rows-requires : tie.Need-remove-rows-requires
+remove-rows-requires c κs = search needs
 
 same-length : tie.Need-same-length
 same-length c = search needs
 
 returns : tie.Need-returns
-returns c = let a = c .before .before .before .before .before .before .before .before .before .args in
-    c .before .before .fill-zeros .ensures
-    ∙ ap (λ (l : List ℕ). put l (a .width * a .index + a .width * (a .count - (a .index + 1))) (zeros (a .width))) (c .before .before .before .before .before .before .move-down .ensures)
-    ∙ removed (a .table .now) (a .width) (a .count) (a .index) (omega arith) (omega arith)
+returns c = let a = c .before .before .before .before .before .args in
+    c .before .before .remove-rows .ensures
+    ∙ ap (λ (m : ℕ). put (a .table .now) (a .width * a .index) (part (a .table .now) (a .width * (a .index + 1)) (a .width * (a .count - (a .index + 1))) ++ zeros m)) (mul-one (a .width))
 
 pub remove-row-spec : {M : Type 1} → statement M
-remove-row-spec =
-    tie.close
-    (tie.spec
-    add-next
-    mul-next
-    add-behind
-    sub-behind
-    mul-behind
-    move-down-requires
-    mul-fill-zeros
-    add-fill-zeros
-    fill-zeros-requires
-    same-length
-    returns)
+remove-row-spec = tie.close (tie.spec remove-rows-requires same-length returns)

@@ -22,13 +22,16 @@ returns-2 c = let a = c .before .before .before .before .before .args in
 zero-rows-requires : tie.Need-zero-rows-requires
 zero-rows-requires c κs = search needs
 
+fresh-requires : tie.Need-fresh-requires
+fresh-requires c κs = search needs
+
 same-length : tie.Need-same-length
 same-length c = search needs
 
 returns-3 : tie.Need-returns-3
-returns-3 c = let a = c .before .before .before .before .before .before .before .before .before .args in
-    new-made (a .config) (a .table .now) (c .before .before .before .before .before .before .if1 .left) (omega (arith, c .before .before .before .before .if2 .left, c .before .before .before .before .before .limit .ensures)) _ (c .before .before .zero-rows .ensures ∙ ap (λ (n : ℕ). put (a .table .now) 0 (zeros (121 * n))) (c .before .before .before .before .before .limit .ensures))
+returns-3 c = let a = c .before .before .before .before .before .before .before .before .before .before .args in
+    rw (c .fresh .ensures) (new-made (a .config) (a .table .now) (c .before .before .before .before .before .before .before .if1 .left) (omega (arith, c .before .before .before .before .before .if2 .left, c .before .before .before .before .before .before .limit .ensures)) _ (c .before .before .before .zero-rows .ensures ∙ ap (λ (n : ℕ). put (a .table .now) 0 (zeros (121 * n))) (c .before .before .before .before .before .before .limit .ensures)))
 
 pub new-spec : {M : Type 1} → statement M
 new-spec =
-    tie.close (tie.spec returns limit-requires returns-2 zero-rows-requires same-length returns-3)
+    tie.close (tie.spec returns limit-requires returns-2 zero-rows-requires fresh-requires same-length returns-3)

@@ -18,9 +18,12 @@ returns c = rw (sym (c .before .is-sound .ensures) ∙ not-true (c .before .is-s
 release-requires : tie.Need-release-requires
 release-requires c κs = search needs
 
+after-requires : tie.Need-after-requires
+after-requires c κs = search needs
+
 returns-2 : tie.Need-returns-2
 unfolding ReleaseIngressMeets
-returns-2 c = rw (sym (c .before .before .before .before .is-sound .ensures) ∙ not-false (c .before .before .before .before .is-sound .result) (c .before .before .before .if1 .left), c .release .ensures)
+returns-2 c = rw (sym (c .before .before .before .before .is-sound .ensures) ∙ not-false (c .before .before .before .before .is-sound .result) (c .before .before .before .if1 .left), c .after .ensures, c .before .release .ensures)
 
 pub release-ingress-spec : {M : Type 1} → statement M
-release-ingress-spec = tie.close (tie.spec is-sound-requires returns release-requires returns-2)
+release-ingress-spec = tie.close (tie.spec is-sound-requires returns release-requires after-requires returns-2)
