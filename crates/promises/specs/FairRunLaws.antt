@@ -1,6 +1,6 @@
 -- Fair share over runs of the calls on lent memory, by way of their core calls: for a peer whose own times never lie before its last use
 -- (Shielded), and for runs whose times never go back (Ordered). Assumes nothing.
-use mathlib.Core.Path.{_≡_, refl, sym, subst, _∙_}
+use mathlib.Core.Path.{_≡_, refl, _∙_}
 use mathlib.Core.List.{List, _∷_}
 use mathlib.Core.Option.{Option, none, some}
 use Prim.Native.Nat.{ℕ, _≤_}
@@ -18,13 +18,12 @@ use Rattle.peer_message_policy.specs.Calls.{ban}
 use Rattle.promises.specs.Core as Core
 use Rattle.promises.specs.Core.{CoreCall, after, Timely, Sized}
 use Rattle.promises.specs.Trails.{Event, seenIf, callsOf}
-use Rattle.promises.specs.Lives.{lastUsed, ShieldedIn, AtMost, ceilingSays}
+use Rattle.promises.specs.Lives.{lastUsed, AtMost, ceilingSays}
 use Rattle.promises.specs.Runs.{Call, admit, recordInvalid, isBanned, onDisconnected, releaseIngress, inFlight, heldTime, State, rowsIn, Step, Fits, Run, made, then}
 use Rattle.promises.specs.RunLives.{entryIn, coreOf, trail, coreCalls, logOf, Shielded, timeOf, latestOf, latest, notBefore, Ordered, Entitled, Shield}
-use Rattle.promises.specs.CoreLaws as CoreLaws
 use Rattle.promises.specs.SoundRunLaws.{run-holds}
-use Rattle.promises.specs.CoreRunLaws.{step-core, runs-core, run-rows, rows-core}
-use Rattle.promises.specs.MirrorLaws.{SizeFitsIf, seen-sized, trail-most, trail-least}
+use Rattle.promises.specs.CoreRunLaws.{step-core, runs-core, run-rows}
+use Rattle.promises.specs.MirrorLaws.{SizeFitsIf, seen-sized, trail-most, trail-least, timely-trail, timely-last}
 
 -- ════ Sizes ═══════════════════════════════════════════════════════════════════════════════════════
 
@@ -102,13 +101,13 @@ ordered-timely {c} (then {h} {s} call said t run fits step) order =
 module _ {c : PeerMessagePolicyConfig} {h : List Call} {s : State} (run : Run c h s) (k : Pubkey) where
   -- every peer of an ordered run is shielded
   pub ordered-shields : Ordered h → Shielded k run
-  ordered-shields order = subst (ShieldedIn k) (sym (runs-core run)) (CoreLaws.timely-shields c k (coreCalls run) (ordered-timely run order .0))
+  ordered-shields order = timely-trail c k (trail run) (runs-core run) (ordered-timely run order .0)
 
   -- no entry was last used after the newest call
   pub ordered-used : Ordered h → lastUsed (entryIn s k) ≤ latest h
   ordered-used order =
       let timely = ordered-timely run order in
-      rw (rows-core run) (le-trans (CoreLaws.timely-used c k (coreCalls run) (timely .0)) (timely .1))
+      rw (← run-rows run) (le-trans (timely-last c k (trail run) (runs-core run) (timely .0)) (timely .1))
 
 module _ {c : PeerMessagePolicyConfig} (fits : ConfigFits c) {h : List Call} {s : State} (run : Run c h s) where
   pub ordered-most : Ordered h → (k : Pubkey) → AtMost c (logOf k run)

@@ -11,6 +11,7 @@ use Rattle.table.specs.Table.{look}
 use Rattle.peer_settings.specs.declared.config.PeerMessagePolicyConfig.{PeerMessagePolicyConfig}
 use Rattle.peer_state.specs.declared.entry.PeerMessagePolicyEntry.{PeerMessagePolicyEntry}
 use Rattle.peer_settings.specs.Fits.{ConfigFits}
+use Rattle.peer_state.specs.Ingress.{tryReserve}
 use Rattle.peer_rows.specs.Rows.{Peers}
 use Rattle.peer_message_policy.specs.declared.answer.HeldTime.the-variants as HeldTime
 use Rattle.peer_message_policy.specs.Policy
@@ -18,9 +19,9 @@ use Rattle.peer_message_policy.specs.Policy.{sound}
 use Rattle.peer_laws.specs.CallLaws.{held-time-answer}
 use Rattle.promises.specs.Core.{CoreCall}
 use Rattle.promises.specs.Trails.{Event, seenIf, rowsAt}
-use Rattle.promises.specs.Lives.{Part, message, invalid, neither, partOf, OwnTime, lastUsed, ShieldedIn}
-use Rattle.promises.specs.Runs.{Call, State, rowsIn, Run, made, then}
-use Rattle.promises.specs.RunLives.{entryIn, coreOf, trail, Shielded}
+use Rattle.promises.specs.Lives.{Part, message, invalid, neither, partOf, OwnTime, lastUsed, ShieldedIn, ceilingSays}
+use Rattle.promises.specs.Runs.{Call, admit, State, rowsIn, Step, Run, made, then}
+use Rattle.promises.specs.RunLives.{entryIn, coreOf, trail, Shielded, Entitled}
 use Rattle.promises.specs.Held.{Answered, heldOwn, Held, HeldShield}
 use Rattle.promises.specs.SoundRunLaws.{run-sound}
 use Rattle.promises.specs.CoreRunLaws.{run-rows}
@@ -69,11 +70,12 @@ module _ {c : PeerMessagePolicyConfig} (k : Pubkey) where
   held-shields (then {h} {s} call said t run fits step) answered =
       seen-shields k s (run-sound run) (trail run) (run-rows run) (coreOf c s call) said (rowsIn t) (answered .0) (held-shields run (answered .1))
 
-  -- and has both bounds, for calls at the times that held_time answers
-  pub held-both : ConfigFits c → {h : List Call} {s : State} (run : Run c h s) → Held k run → HeldShield k run
-  held-both fits {s = s} run answered =
-      let shield : Shielded k run = held-shields run answered in
-      record {
-        upper = shielded-most fits k run shield;
-        lower = λ size now asked. shielded-least fits k run shield size now (held s k now (run-sound run) asked);
-      }
+  module _ (fits : ConfigFits c) {h : List Call} {s : State} (run : Run c h s) (answered : Held k run) where
+    -- a call at a time that held_time answers, within the smaller allowance, gets the ceiling's answer
+    pub held-least : (size now : ℕ) → Answered k s now → Entitled run k size now → (said : Said) (t : State) → Step s (admit k size now) said t
+        → said ≡ ceilingSays (tryReserve c (s .policy .ingress) size)
+    held-least size now asked = shielded-least fits k run (held-shields run answered) size now (held s k now (run-sound run) asked)
+
+    -- both bounds
+    pub held-both : HeldShield k run
+    held-both = record { upper = shielded-most fits k run (held-shields run answered); lower = held-least }

@@ -15,7 +15,7 @@ use Rattle.peer_settings.specs.Fits.{ConfigFits}
 use Rattle.peer_rows.specs.Rows.{Peers}
 use Rattle.peer_message_policy.specs.Policy
 use Rattle.peer_message_policy.specs.Calls.{changedRows}
-use Rattle.promises.specs.Core.{CoreCall, admit, changeIn, saysIn, after, SizeFits, Sized}
+use Rattle.promises.specs.Core.{CoreCall, admit, changeIn, saysIn, after, latest, Timely, SizeFits, Sized}
 use Rattle.promises.specs.Trails.{Event, seen, seenIf, rowsAt, callsOf, trailOf}
 use Rattle.promises.specs.Lives.{logFor, logIn, lastUsed, ShieldedIn, AtMost, Within, ceilingSays}
 use Rattle.promises.specs.CoreRowLaws.{refused-leaves, seen-rows, trail-rows}
@@ -84,3 +84,11 @@ module _ {c : PeerMessagePolicyConfig} (fits : ConfigFits c) (k : Pubkey) (es : 
       let here : rs ≡ after c (callsOf es) = sym leads ∙ ap rowsAt core ∙ trail-rows c (callsOf es) in
       rw here (CoreLaws.least fits k (callsOf es) sized core-shielded size now size-fits (rw here at used) (rw here at free)
       (subst (λ log. Within c now size (logFor (look (k .bytes) (after c (callsOf es))) now log)) (ap (logIn k) core) (rw here at within)) room)
+
+-- where times never go back every peer is shielded, and no entry was last used after the newest call
+module _ (c : PeerMessagePolicyConfig) (k : Pubkey) (es : List Event) (core : es ≡ trailOf c (callsOf es)) (timely : Timely (callsOf es)) where
+  pub timely-trail : ShieldedIn k es
+  timely-trail = subst (ShieldedIn k) (sym core) (CoreLaws.timely-shields c k (callsOf es) timely)
+
+  pub timely-last : lastUsed (look (k .bytes) (rowsAt es)) ≤ latest (callsOf es)
+  timely-last = rw (ap rowsAt core ∙ trail-rows c (callsOf es)) (CoreLaws.timely-used c k (callsOf es) timely)
