@@ -15,7 +15,7 @@ use Rattle.peer_message_policy.specs.declared.answer.Standing.{Standing}
 use Rattle.peer_message_policy.specs.declared.answer.Changed.{Changed}
 use Rattle.peer_message_policy.specs.declared.answer.InFlight.{InFlight}
 use Rattle.peer_message_policy.specs.declared.answer.HeldTime.{HeldTime}
-use Rattle.peer_message_policy.specs.Calls.{NewMeets, AdmitMeets, RecordInvalidMeets, IsBannedMeets, OnDisconnectedMeets, ReleaseIngressMeets, InFlightMeets, HeldTimeMeets}
+use Rattle.peer_message_policy.specs.Calls.{fresh, NewMeets, AdmitMeets, RecordInvalidMeets, IsBannedMeets, OnDisconnectedMeets, ReleaseIngressMeets, InFlightMeets, HeldTimeMeets}
 
 -- ════ The calls that memory is lent to ════════════════════════════════════════════════════════════
 
@@ -47,6 +47,9 @@ module _ (before : List ℕ) {first second : List ℕ} where
     on-disconnected-one now m n = one-meets m n
 
 -- ════ The calls that change no memory ═════════════════════════════════════════════════════════════
+
+pub fresh-one : (c : PeerMessagePolicyConfig) {r q : PeerMessagePolicy} → r ≡ fresh c → q ≡ fresh c → r ≡ q
+fresh-one c = one-outcome
 
 module _ (p : PeerMessagePolicy) where
   pub release-ingress-one : (size : ℕ) {r q : Changed} → ReleaseIngressMeets p size r → ReleaseIngressMeets p size q → r ≡ q
