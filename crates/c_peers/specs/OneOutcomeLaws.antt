@@ -1,0 +1,89 @@
+-- At most one outcome satisfies the contract of each exported call: the same number, the same words, and the same memory where memory is
+-- lent. Assumes nothing.
+use mathlib.Core.Path.{_≡_}
+use mathlib.Core.List.{List}
+use Prim.Native.Nat.{ℕ}
+use Rattle.refusal.specs.OneOutcome.{one-outcome}
+use Rattle.peer_message_policy.specs.declared.answer.InFlight.{InFlight}
+use Rattle.peer_message_policy.specs.declared.answer.InFlight.the-variants as InFlight
+use Rattle.peer_message_policy.specs.declared.answer.HeldTime.{HeldTime}
+use Rattle.peer_message_policy.specs.declared.answer.HeldTime.the-variants as HeldTime
+use Rattle.peer_laws.specs.OneOutcome as Calls
+use Rattle.c_words.specs.Words.{configOf, policyOf}
+use Rattle.c_words.specs.Answers.{madeTold, admissionTold, invalidTold, standingTold, changedTold}
+use Rattle.c_words.specs.LeavesLaws.{some-one, Alike, leaves-one}
+use Rattle.c_peers.specs.Exported.{
+  keyOf,
+  NewExported,
+  AdmitExported,
+  RecordInvalidExported,
+  IsBannedExported,
+  OnDisconnectedExported,
+  ReleaseIngressExported,
+  LeavesInFlight,
+  InFlightExported,
+  LeavesTime,
+  HeldTimeExported,
+}
+
+-- ════ The calls that leave a policy in words ══════════════════════════════════════════════════════
+
+module _ (longs shorts : List ℕ) {r q : ℕ} {longs' longs'' shorts' shorts'' : List ℕ} where
+  module _ (before : List ℕ) {first second : List ℕ} where
+    pub new-one : NewExported longs shorts before r longs' shorts' first → NewExported longs shorts before q longs'' shorts'' second → Alike r q longs' longs'' shorts' shorts'' × (first ≡ second)
+    new-one =
+        some-one (λ a b. Calls.new-one before {first = first} {second = second} (configOf longs shorts) {r = a} {q = b}) (λ a. leaves-one (madeTold a) longs shorts)
+
+    module _ (k : List ℕ) where
+      pub admit-one : (size now : ℕ) → AdmitExported longs shorts before k size now r longs' shorts' first
+          → AdmitExported longs shorts before k size now q longs'' shorts'' second → Alike r q longs' longs'' shorts' shorts'' × (first ≡ second)
+      admit-one size now =
+          some-one (λ a b. Calls.admit-one before {first = first} {second = second} (policyOf longs shorts) (keyOf k) size now {r = a} {q = b})
+          (λ a. leaves-one (admissionTold a) longs shorts)
+
+      pub record-invalid-one : (now : ℕ) → RecordInvalidExported longs shorts before k now r longs' shorts' first
+          → RecordInvalidExported longs shorts before k now q longs'' shorts'' second → Alike r q longs' longs'' shorts' shorts'' × (first ≡ second)
+      record-invalid-one now =
+          some-one (λ a b. Calls.record-invalid-one before {first = first} {second = second} (policyOf longs shorts) (keyOf k) now {r = a} {q = b})
+          (λ a. leaves-one (invalidTold a) longs shorts)
+
+      pub is-banned-one : (now : ℕ) → IsBannedExported longs shorts before k now r longs' shorts' first
+          → IsBannedExported longs shorts before k now q longs'' shorts'' second → Alike r q longs' longs'' shorts' shorts'' × (first ≡ second)
+      is-banned-one now =
+          some-one (λ a b. Calls.is-banned-one before {first = first} {second = second} (policyOf longs shorts) (keyOf k) now {r = a} {q = b})
+          (λ a. leaves-one (standingTold a) longs shorts)
+
+      pub on-disconnected-one : (now : ℕ) → OnDisconnectedExported longs shorts before k now r longs' shorts' first
+          → OnDisconnectedExported longs shorts before k now q longs'' shorts'' second → Alike r q longs' longs'' shorts' shorts'' × (first ≡ second)
+      on-disconnected-one now =
+          some-one (λ a b. Calls.on-disconnected-one before {first = first} {second = second} (policyOf longs shorts) (keyOf k) now {r = a} {q = b})
+          (λ a. leaves-one (changedTold a) longs shorts)
+
+  pub release-ingress-one : (size : ℕ) → ReleaseIngressExported longs shorts size r longs' shorts'
+      → ReleaseIngressExported longs shorts size q longs'' shorts'' → Alike r q longs' longs'' shorts' shorts''
+  release-ingress-one size h k =
+      some-one (λ a b m n. (Calls.release-ingress-one (policyOf longs shorts) size {r = a} {q = b} m n, tt {0}))
+      (λ a. leaves-one (changedTold a) longs shorts) h k .0
+
+-- ════ The calls that only read the words ══════════════════════════════════════════════════════════
+
+in-flight-left : (a : InFlight) (numbers : List ℕ) {r q : ℕ} {first second : List ℕ} → LeavesInFlight a numbers r first
+    → LeavesInFlight a numbers q second → (r ≡ q) × (first ≡ second)
+in-flight-left (InFlight.Numbers messages bytes) numbers h k = (one-outcome (h .0) (k .0), one-outcome (h .1) (k .1))
+in-flight-left (InFlight.Refused n) numbers h k = (one-outcome (h .0) (k .0), one-outcome (h .1) (k .1))
+
+time-left : (a : HeldTime) (held : ℕ) {r q first second : ℕ} → LeavesTime a held r first → LeavesTime a held q second
+    → (r ≡ q) × (first ≡ second)
+time-left (HeldTime.At t) held h k = (one-outcome (h .0) (k .0), one-outcome (h .1) (k .1))
+time-left (HeldTime.Refused n) held h k = (one-outcome (h .0) (k .0), one-outcome (h .1) (k .1))
+
+module _ (longs shorts : List ℕ) {r q : ℕ} where
+  pub in-flight-one : (numbers : List ℕ) {first second : List ℕ} → InFlightExported longs shorts numbers r first
+      → InFlightExported longs shorts numbers q second → (r ≡ q) × (first ≡ second)
+  in-flight-one numbers h k =
+      some-one (λ a b m n. (Calls.in-flight-one (policyOf longs shorts) {r = a} {q = b} m n, tt {0})) (λ a. in-flight-left a numbers) h k .0
+
+  pub held-time-one : (table k : List ℕ) (given held : ℕ) {first second : ℕ} → HeldTimeExported longs shorts table k given held r first
+      → HeldTimeExported longs shorts table k given held q second → (r ≡ q) × (first ≡ second)
+  held-time-one table k given held m n =
+      some-one (λ a b x y. (Calls.held-time-one (policyOf longs shorts) table (keyOf k) given {r = a} {q = b} x y, tt {0})) (λ a. time-left a held) m n .0
