@@ -26,8 +26,8 @@ use Rattle.peer_state.specs.EntryLaws.{chosen}
 use Rattle.peer_rows.specs.Rows.{Peers}
 use Rattle.peer_table.specs.Room.{makeRoom}
 use Rattle.peer_table.specs.RoomLaws.{sub-makeRoom}
-use Rattle.peer_verdict.specs.Verdict.{judged, judgedInvalid, overflows}
-use Rattle.peer_message_policy.specs.Policy.{Change, become, Turn, unchanged, turnOf, carriedOut, notedDown, Update, banned, update, entryForUpdate, admit, recordInvalid, isBannedChange, disconnectedChange}
+use Rattle.peer_verdict.specs.Verdict.{judgedInvalid, overflows}
+use Rattle.peer_message_policy.specs.Policy.{Change, become, Turn, unchanged, turnOf, carriedOut, notedDown, Update, banned, update, entryForUpdate, recordInvalid, isBannedChange, disconnectedChange}
 use Rattle.peer_message_policy.specs.Calls.{changedRows}
 
 -- ════ Calls that do not judge the entry ═══════════════════════════════════════════════════════════
@@ -93,15 +93,15 @@ module _ (j k : List ℕ) (other : j ≡ k → ⊥) (rs : Peers) (order : ascend
   turn-fate i live goOn fate banned h = stayed
   turn-fate i live goOn fate (update e xs) h = fate e xs h
 
-  -- admit
-  pub admit-fate : (c : PeerMessagePolicyConfig) (i : FiberIngressBudget) (size now : ℕ) → After j rs (admit c i rs k size now .change)
-  unfolding admit carriedOut
-  admit-fate c i size now =
-      turn-fate i Cause.LiveBan (λ e xs. carriedOut i k xs (judged c i e size now))
+  -- a turn that carries out a decision on a message
+  pub message-fate : (c : PeerMessagePolicyConfig) (i : FiberIngressBudget) (decide : PeerMessagePolicyEntry → Decision) (now : ℕ)
+      → After j rs (turnOf i Cause.LiveBan (λ e xs. carriedOut i k xs (decide e)) (entryForUpdate c now rs k (look k rs)) .change)
+  unfolding carriedOut
+  message-fate c i decide now =
+      turn-fate i Cause.LiveBan (λ e xs. carriedOut i k xs (decide e))
       (λ e xs h.
-      let d = judged c i e size now in
-      chosen (λ (t : Turn Cause). After j rs (t .change)) (overflows (d .cause)) (λ o. stayed)
-      (λ o. rw (look-store-other k (d .entry) j other xs) h))
+      chosen (λ (t : Turn Cause). After j rs (t .change)) (overflows (decide e .cause)) (λ o. stayed)
+      (λ o. rw (look-store-other k (decide e .entry) j other xs) h))
       (entryForUpdate c now rs k (look k rs)) (update-fate c now (look k rs))
 
   -- record_invalid
@@ -150,11 +150,12 @@ pub data OwnInvalid (c : PeerMessagePolicyConfig) (now : ℕ) (found after : Opt
   counted : (e : PeerMessagePolicyEntry) → Lands c now found e → cause ≡ judgedInvalid c e now .cause → after ≡ some (judgedInvalid c e now .entry) → OwnInvalid c now found after cause
 
 module _ (k : List ℕ) (rs : Peers) (c : PeerMessagePolicyConfig) (i : FiberIngressBudget) where
-  pub own-admit : (size now : ℕ)
-      → Own c now (λ e. judged c i e size now) (look k rs) (look k (changedRows rs (admit c i rs k size now .change))) (admit c i rs k size now .cause)
-  unfolding admit carriedOut
-  own-admit size now =
-      let decide : PeerMessagePolicyEntry → Decision = λ e. judged c i e size now in
+  -- the turn that carries out a decision on a message
+  pub own-message : (decide : PeerMessagePolicyEntry → Decision) (now : ℕ)
+      → (let turn = turnOf i Cause.LiveBan (λ e xs. carriedOut i k xs (decide e)) (entryForUpdate c now rs k (look k rs))
+      in Own c now decide (look k rs) (look k (changedRows rs (turn .change))) (turn .cause))
+  unfolding carriedOut
+  own-message decide now =
       let P : Turn Cause → Type 0 = λ t. Own c now decide (look k rs) (look k (changedRows rs (t .change))) (t .cause) in
       turn-ways k rs c i now Cause.LiveBan (λ e xs. carriedOut i k xs (decide e)) P
       (λ e found ban. live e found ban refl refl)

@@ -6,11 +6,10 @@ use mathlib.Core.List.{List, [], _∷_}
 use Prim.Native.Nat.{ℕ, _+_, _-_, _*_, _/_, _^_, _<_, _≤_, min}
 use native.Mathlib.Nat.{mul-comm, mul-sub, mul-le-mul-left}
 use native.Mathlib.Omega.{arith}
-use borrow.Author.Tests.{leb-true, ltb-true, ltb-false, le-ltb}
+use borrow.Author.Tests.{leb-true, ltb-false, le-ltb}
 use lib.Dec.{leb, ltb}
 use lib.IntN.{pos}
 use Rattle.table.specs.TableLaws.{by-test}
-use Rattle.bucket_terms.specs.declared.answer.Consumed.the-variants as Consumed
 use Rattle.bucket_terms.specs.Limit.{byteDisabled}
 use Rattle.bucket_bytes.specs.ByteBucket.{byteLevel, byteTryConsume}
 use Rattle.bucket_bytes.specs.Natural.{refilledTo, refilledAt, naturalTake}

@@ -40,13 +40,12 @@ fair-new c config = record { ordered = tt; messages = λ on. messages-new c on; 
 
 pub fair-allow : (c : PeerMessagePolicyConfig) → ConfigFits c → (m b : Level) (log : List Allow) (size now : ℕ)
     → size < 2 ^ 64
-    → now < 2 ^ 64
     → Fair c m b log
     → NotAfter log now
     → takeMessage c m now .passes ≡ true
     → takeBytes c b size now .passes ≡ true
     → Fair c (takeMessage c m now .level) (takeBytes c b size now .level) (record { time = now; size = size } ∷ log)
-fair-allow c config m b log size now size-fits now-fits fair after message-there bytes-there =
+fair-allow c config m b log size now size-fits fair after message-there bytes-there =
     let z : Allow = record { time = now; size = size } in
     let later = newest-before log now after in
     record {
@@ -73,13 +72,12 @@ byte-parts c on now n bytes s before allowance =
 
 pub fair-least : (c : PeerMessagePolicyConfig) → ConfigFits c → (m b : Level) (log : List Allow) (size now : ℕ)
     → size < 2 ^ 64
-    → now < 2 ^ 64
     → Fair c m b log
     → NotAfter log now
     → Within c now size log
     → (takeMessage c m now .passes ≡ true) × (takeBytes c b size now .passes ≡ true)
 unfolding Within
-fair-least c config m b log size now size-fits now-fits fair after allowed =
+fair-least c config m b log size now size-fits fair after allowed =
     let z : Allow = record { time = now; size = size } in
     let later = newest-before log now after in
     let ordered : InOrder (z ∷ log) = (later, fair .ordered) in (

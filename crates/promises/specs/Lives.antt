@@ -1,15 +1,14 @@
--- Lives and their logs: which Allows of a peer count together, the smaller allowance, and the order of times. Definitions only.
+-- Lives and their logs: which Allows of a peer count together, read off a trail; the larger allowance and the smaller one.
+-- Definitions only.
 use mathlib.Core.Path.{_≡_}
-use mathlib.Core.Bool.{Bool, true, false, _&&_, _||_, not, cond}
+use mathlib.Core.Bool.{Bool, true, false, _&&_, cond}
 use mathlib.Core.List.{List, [], _∷_}
 use mathlib.Core.Option.{Option, none, some}
-use Prim.Native.Nat.{ℕ, zero, _+_, _-_, _*_, _/_, _^_, _<_, _≤_, suc}
+use Prim.Native.Nat.{ℕ, _+_, _-_, _*_, _/_, _≤_}
 use lib.Dec.{leb}
 use Rattle.pubkey.specs.declared.Pubkey.{Pubkey}
-use Rattle.pubkey.specs.declared.Ordering.{Ordering}
-use Rattle.pubkey.specs.declared.Ordering.the-variants.{Less, Equal, Greater}
 use Rattle.pubkey.specs.Order.{compareBytes}
-use Rattle.refusal.specs.Refusal.{Said, gives, refused, overflow}
+use Rattle.refusal.specs.Refusal.{Said, refused, overflow}
 use Rattle.bucket_terms.specs.Limit.{byteDisabled}
 use Rattle.table.specs.Table.{look, byOrder}
 use Rattle.peer_settings.specs.declared.config.PeerMessagePolicyConfig.{PeerMessagePolicyConfig}
@@ -18,10 +17,33 @@ use Rattle.peer_state.specs.declared.ingress.Room.{Room}
 use Rattle.peer_state.specs.declared.ingress.Room.the-variants as Room
 use Rattle.peer_settings.specs.Config.{messageLimitDisabled, bytesOf}
 use Rattle.peer_state.specs.Entry.{entryIsSpent}
-use Rattle.peer_state.specs.Ingress.{tryReserve}
-use Rattle.peer_message_policy.specs.Policy as Policy
-use Rattle.peer_message_policy.specs.Policy.{rowsOf}
-use Rattle.promises.specs.Runs.{Call, admit, recordInvalid, isBanned, onDisconnected, releaseIngress, inFlight, heldTime, State, Step, Fits, Run, made, then}
+use Rattle.peer_message_policy.specs.Calls.{isAllow, allow, disconnect}
+use Rattle.promises.specs.Core.{CoreCall, admit, recordInvalid, isBanned, onDisconnected}
+use Rattle.promises.specs.Trails.{Event, rowsAt}
+
+-- ════ A peer's own calls ══════════════════════════════════════════════════════════════════════════
+
+-- whether two keys are the same
+abbrev pub sameKey : Pubkey → Pubkey → Bool
+sameKey a b = byOrder (compareBytes (a .bytes) (b .bytes)) false true false
+
+-- what a call is to a peer: a message of its own, an invalid message of its own, or neither
+pub data Part : Type 0 where
+  message : (size now : ℕ) → Part
+  invalid : (now : ℕ) → Part
+  neither : Part
+
+abbrev pub partOf : Pubkey → CoreCall → Part
+partOf k (admit peer size now room) = cond (sameKey k peer) (message size now) neither
+partOf k (recordInvalid peer now) = cond (sameKey k peer) (invalid now) neither
+partOf k (isBanned peer now) = neither
+partOf k (onDisconnected peer now) = neither
+
+-- the time of a call of the peer's own is such a time
+abbrev pub OwnTime : (ℕ → Type 0) → Part → Type 0
+OwnTime Such (message size now) = Such now
+OwnTime Such (invalid now) = Such now
+OwnTime Such neither = Unit {0}
 
 -- ════ A life and its log ══════════════════════════════════════════════════════════════════════════
 
@@ -29,14 +51,6 @@ use Rattle.promises.specs.Runs.{Call, admit, recordInvalid, isBanned, on
 pub record Allow : Type 0 where
   pub time : ℕ
   pub size : ℕ
-
--- a peer's entry in a state, if it has one
-abbrev pub entryIn : State → Pubkey → Option PeerMessagePolicyEntry
-entryIn s k = look (k .bytes) (rowsOf (s .policy) (s .memory))
-
--- whether two keys are the same
-abbrev pub sameKey : Pubkey → Pubkey → Bool
-sameKey a b = byOrder (compareBytes (a .bytes) (b .bytes)) false true false
 
 -- whether a call at this time that lands on the peer begins a new life: it has no entry, or one whose ban is spent
 abbrev pub madeAnew : Option PeerMessagePolicyEntry → ℕ → Bool
@@ -49,93 +63,35 @@ logFor found now log = cond (madeAnew found now) [] log
 
 -- what a call says adds to a log: an Allow, or nothing
 abbrev pub logged : Said → Allow → List Allow → List Allow
-logged (gives []) z log = log
-logged (gives (zero ∷ [])) z log = z ∷ log
-logged (gives (zero ∷ x ∷ xs)) z log = log
-logged (gives (suc n ∷ xs)) z log = log
-logged (refused n) z log = log
-
--- a refused call changes nothing, its peer's log neither
-abbrev pub unlessRefused : Said → List Allow → List Allow → List Allow
-unlessRefused (gives xs) new old = new
-unlessRefused (refused n) new old = old
+logged said z log = cond (isAllow said) (z ∷ log) log
 
 -- the log of an entry; a dropped one has none
 abbrev pub keptLog : Option PeerMessagePolicyEntry → List Allow → List Allow
 keptLog none log = []
 keptLog (some e) log = log
 
--- the log of a peer's life after a call, from a state to a state
-unfoldable pub logAfter : Pubkey → State → Call → Said → State → List Allow → List Allow
-logAfter k s (admit peer bytes now) said t log =
-    keptLog (entryIn t k)
-    (cond (sameKey k peer)
-    (unlessRefused said (logged said (record { time = now; size = bytes }) (logFor (entryIn s k) now log)) log)
-    log)
-logAfter k s (recordInvalid peer now) said t log =
-    keptLog (entryIn t k) (cond (sameKey k peer) (unlessRefused said (logFor (entryIn s k) now log) log) log)
-logAfter k s (isBanned peer now) said t log = keptLog (entryIn t k) log
-logAfter k s (onDisconnected peer now) said t log = keptLog (entryIn t k) log
-logAfter k s (releaseIngress bytes) said t log = log
-logAfter k s inFlight said t log = log
-logAfter k s (heldTime peer given) said t log = log
+-- the log of a peer's life after a call that found this entry and left that one
+abbrev pub logAfter : Part → (found left : Option PeerMessagePolicyEntry) → Said → List Allow → List Allow
+logAfter (message size now) found left said log =
+    keptLog left (logged said (record { time = now; size = size }) (logFor found now log))
+logAfter (invalid now) found left said log = keptLog left (logFor found now log)
+logAfter neither found left said log = keptLog left log
 
-module _ {c : PeerMessagePolicyConfig} where
-  -- the Allows of a peer's present life, the newest first
-  unfoldable pub logOf : Pubkey → {h : List Call} {s : State} → Run c h s → List Allow
-  logOf k (made before after p b m) = []
-  logOf k (then {h} {s} call said t run fits step) = logAfter k s call said t (logOf k run)
+-- the Allows of a peer's present life, the newest first
+unfoldable pub logIn : Pubkey → List Event → List Allow
+logIn k [] = []
+logIn k (e ∷ es) =
+    logAfter (partOf k (e .call)) (look (k .bytes) (rowsAt es)) (look (k .bytes) (e .rows)) (e .said) (logIn k es)
 
--- ════ The order of times ══════════════════════════════════════════════════════════════════════════
-
--- the time of a call that has a place in the order
-abbrev pub timeOf : Call → Option ℕ
-timeOf (admit peer bytes now) = some now
-timeOf (recordInvalid peer now) = some now
-timeOf (isBanned peer now) = some now
-timeOf (onDisconnected peer now) = some now
-timeOf (releaseIngress bytes) = none
-timeOf inFlight = none
-timeOf (heldTime peer given) = none
-
-abbrev pub latestOf : Option ℕ → ℕ → ℕ
-latestOf none t = t
-latestOf (some t) u = t
-
--- the time of the newest call that has one
-unfoldable pub latest : List Call → ℕ
-latest [] = 0
-latest (call ∷ h) = latestOf (timeOf call) (latest h)
-
-abbrev pub notBefore : Option ℕ → ℕ → Type 0
-notBefore none t = Unit {0}
-notBefore (some now) t = t ≤ now
-
--- times never go back
-unfoldable pub Ordered : List Call → Type 0
-Ordered [] = Unit {0}
-Ordered (call ∷ h) = notBefore (timeOf call) (latest h) × Ordered h
-
--- a peer's last-used time in a state
+-- a peer's last-used time; 0 without an entry
 abbrev pub lastUsed : Option PeerMessagePolicyEntry → ℕ
 lastUsed none = 0
 lastUsed (some e) = e .«last_used_ms»
 
--- a call does not lie before the peer's last-used time, if it is the peer's own admit or record_invalid
-abbrev pub notBeforeOwn : Pubkey → State → Call → Type 0
-notBeforeOwn k s (admit peer bytes now) = sameKey k peer ≡ true → lastUsed (entryIn s k) ≤ now
-notBeforeOwn k s (recordInvalid peer now) = sameKey k peer ≡ true → lastUsed (entryIn s k) ≤ now
-notBeforeOwn k s (isBanned peer now) = Unit {0}
-notBeforeOwn k s (onDisconnected peer now) = Unit {0}
-notBeforeOwn k s (releaseIngress bytes) = Unit {0}
-notBeforeOwn k s inFlight = Unit {0}
-notBeforeOwn k s (heldTime peer given) = Unit {0}
-
-module _ {c : PeerMessagePolicyConfig} where
-  -- a peer's own admits and record_invalids never lie before its last-used time, however all other times run
-  unfoldable pub Shielded : Pubkey → {h : List Call} {s : State} → Run c h s → Type 0
-  Shielded k (made before after p b m) = Unit {0}
-  Shielded k (then {h} {s} call said t run fits step) = notBeforeOwn k s call × Shielded k run
+-- a peer's own admits and record_invalids never lie before its last-used time, however all other times run
+unfoldable pub ShieldedIn : Pubkey → List Event → Type 0
+ShieldedIn k [] = Unit {0}
+ShieldedIn k (e ∷ es) = OwnTime (λ now. lastUsed (look (k .bytes) (rowsAt es)) ≤ now) (partOf k (e .call)) × ShieldedIn k es
 
 -- ════ The upper bound ═════════════════════════════════════════════════════════════════════════════
 
@@ -186,15 +142,7 @@ Within c now size log =
 
 -- what the ceiling says: Allow where there is room, Disconnect where there is none, refusal 4 where the numbers have no room
 abbrev pub ceilingSays : Room → Said
-ceilingSays (Room.Left after) = gives (0 ∷ [])
-ceilingSays Room.NoSlot = gives (1 ∷ [])
-ceilingSays (Room.BytesShort k) = gives (1 ∷ [])
+ceilingSays (Room.Left after) = allow
+ceilingSays Room.NoSlot = disconnect
+ceilingSays (Room.BytesShort k) = disconnect
 ceilingSays Room.Overflow = refused overflow
-
--- ════ A shield ════════════════════════════════════════════════════════════════════════════════════
-
--- both bounds, for a peer in the state that a run leads to: a call of its own that does not lie before its last-used time, while it
--- is not banned and within the smaller allowance, gets the ceiling's answer
-pub record Shield {c : PeerMessagePolicyConfig} {h : List Call} {s : State} (k : Pubkey) (run : Run c h s) : Type 0 where
-  pub upper : AtMost c (logOf k run)
-  pub lower : (size now : ℕ) (said : Said) (t : State) → Fits (admit k size now) → Step s (admit k size now) said t → lastUsed (entryIn s k) ≤ now → Policy.isBanned (entryIn s k) now ≡ false → Within c now size (logFor (entryIn s k) now (logOf k run)) → said ≡ ceilingSays (tryReserve c (s .policy .ingress) size)

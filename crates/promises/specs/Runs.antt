@@ -21,6 +21,8 @@ use Rattle.peer_message_policy.specs.declared.answer.Changed.{Changed}
 use Rattle.peer_message_policy.specs.declared.answer.Changed.the-variants as Changed
 use Rattle.peer_message_policy.specs.declared.answer.InFlight.{InFlight}
 use Rattle.peer_message_policy.specs.declared.answer.HeldTime.{HeldTime}
+use Rattle.peer_rows.specs.Rows.{Peers}
+use Rattle.peer_message_policy.specs.Policy.{rowsOf}
 use Rattle.peer_message_policy.specs.Calls.{admissionSays, invalidSays, standingSays, changedSays, inFlightSays, heldTimeSays}
 use Rattle.peer_message_policy.specs.Calls.{NewMeets, AdmitMeets, RecordInvalidMeets, IsBannedMeets, OnDisconnectedMeets, ReleaseIngressMeets, InFlightMeets, HeldTimeMeets}
 
@@ -38,6 +40,10 @@ pub data Call : Type 0 where
 pub record State : Type 0 where
   pub policy : PeerMessagePolicy
   pub memory : List ℕ
+
+-- the rows of a state
+abbrev pub rowsIn : State → Peers
+rowsIn s = rowsOf (s .policy) (s .memory)
 
 -- the policy that a caller goes on with: the one in the answer, or his own copy after a refusal
 abbrev pub afterAdmit : PeerMessagePolicy → PeerMessageAdmission → PeerMessagePolicy

@@ -1,26 +1,24 @@
 -- Samples A to F, I and J of document 01, run on the definitions: what the steps of each say, and what the document says that
 -- they say. Definitions only; that the two agree is `Promises.samples`.
 use mathlib.Core.Path.{_≡_}
-use mathlib.Core.Bool.{Bool, true, false, cond}
-use mathlib.Core.List.{List, [], _∷_, _++_}
+use mathlib.Core.List.{List, [], _∷_}
 use Prim.Native.Nat.{ℕ}
 use lib.ListN.{getD, replicate}
-use Rattle.refusal.specs.Refusal.{Said, gives, refused}
+use Rattle.refusal.specs.Refusal.{Said, gives}
 use Rattle.bucket_discrete.specs.declared.discrete.DiscreteTokenBucket.{DiscreteTokenBucket}
 use Rattle.bucket_bytes.specs.declared.bytes.ByteTokenBucket.{ByteTokenBucket}
 use Rattle.bucket_terms.specs.Answers.{consumedSays, delaySays, toldSays, told}
 use Rattle.bucket_terms.specs.Limit.{byteLimit}
 use Rattle.bucket_discrete.specs.DiscreteBucket.{discreteNew, discreteTryConsume}
 use Rattle.bucket_bytes.specs.ByteBucket.{byteNew, byteTryConsume, byteReserve, byteHasDebt}
-use Rattle.table.specs.Table.{Row}
 use Rattle.peer_settings.specs.declared.config.PeerMessagePolicyConfig.{PeerMessagePolicyConfig}
 use Rattle.peer_state.specs.declared.entry.ViolationWindow.{ViolationWindow}
 use Rattle.peer_state.specs.declared.ingress.FiberIngressBudget.{FiberIngressBudget}
 use Rattle.peer_state.specs.Entry.{window, windowRecord}
 use Rattle.peer_state.specs.Ingress.{inFlight}
 use Rattle.peer_rows.specs.Rows.{Peers}
-use Rattle.peer_message_policy.specs.Policy.{Change, same, become, admit}
-use Rattle.peer_message_policy.specs.Calls.{admissionSays, admissionOf, fresh}
+use Rattle.peer_message_policy.specs.Policy.{admit}
+use Rattle.peer_message_policy.specs.Calls.{changedRows, admissionSays, admissionOf, fresh, allow, disconnect}
 
 -- a sample: what its steps say on the definitions, and what the document says
 pub record Sample : Type 0 where
@@ -69,10 +67,6 @@ pub record Message : Type 0 where
   pub size : ℕ
   pub now : ℕ
 
-abbrev pub rowsAfter : Peers → Change → Peers
-rowsAfter rs same = rs
-rowsAfter rs (become qs) = qs
-
 -- the first byte of each row's key
 unfoldable pub peersOf : Peers → List ℕ
 peersOf [] = []
@@ -84,7 +78,7 @@ admitted c i rs [] = gives (peersOf rs) ∷ []
 admitted c i rs (m ∷ ms) =
     admissionSays (admissionOf (fresh c) (admit c i rs (replicate 33 (m .peer)) (m .size) (m .now) .cause))
     ∷ admitted c (admit c i rs (replicate 33 (m .peer)) (m .size) (m .now) .ingress)
-    (rowsAfter rs (admit c i rs (replicate 33 (m .peer)) (m .size) (m .now) .change))
+    (changedRows rs (admit c i rs (replicate 33 (m .peer)) (m .size) (m .now) .change))
     ms
 
 -- ════ What the steps say ══════════════════════════════════════════════════════════════════════════
@@ -95,12 +89,6 @@ yes = gives (1 ∷ [])
 -- a no, short by one
 abbrev no : Said
 no = gives (0 ∷ 1 ∷ [])
-
-abbrev allow : Said
-allow = gives (0 ∷ [])
-
-abbrev disconnect : Said
-disconnect = gives (1 ∷ [])
 
 abbrev at : ℕ → ℕ → At
 at time bytes = record { time = time; bytes = bytes }

@@ -1,5 +1,5 @@
 -- The samples agree with the document, by computation. Assumes nothing.
-use mathlib.Core.Path.{_≡_, refl}
+use mathlib.Core.Path.{refl}
 use Rattle.amount.specs.Amount.{amountOf, value, saturated}
 use Rattle.bucket_discrete.specs.DiscreteBucket.{discreteRefill, discreteTake, discreteTryConsume}
 use Rattle.bucket_bytes.specs.ByteBucket.{byteRefill, byteTake, byteTryConsume, byteReserve, byteHasDebt}

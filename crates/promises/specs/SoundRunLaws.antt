@@ -8,7 +8,6 @@ use Rattle.pubkey.specs.declared.Pubkey.{Pubkey}
 use Rattle.refusal.specs.Refusal.{Said}
 use Rattle.table.specs.Table.{look}
 use Rattle.peer_settings.specs.declared.config.PeerMessagePolicyConfig.{PeerMessagePolicyConfig}
-use Rattle.peer_rows.specs.Rows.{Peers}
 use Rattle.peer_message_policy.specs.declared.policy.PeerMessagePolicy.{PeerMessagePolicy}
 use Rattle.peer_message_policy.specs.declared.answer.PeerMessageAdmission.{PeerMessageAdmission}
 use Rattle.peer_message_policy.specs.declared.answer.PeerMessageAdmission.the-variants as Admission
@@ -19,7 +18,7 @@ use Rattle.peer_message_policy.specs.declared.answer.Standing.the-variants as S
 use Rattle.peer_message_policy.specs.declared.answer.Changed.{Changed}
 use Rattle.peer_message_policy.specs.declared.answer.Changed.the-variants as Changed
 use Rattle.peer_message_policy.specs.Policy
-use Rattle.peer_message_policy.specs.Policy.{rowsOf, sound, Change, same}
+use Rattle.peer_message_policy.specs.Policy.{sound, Change, same}
 use Rattle.peer_laws.specs.SoundLaws.{Leaves}
 use Rattle.peer_laws.specs.CallLaws.{
   OfAdmission,
@@ -43,6 +42,7 @@ use Rattle.promises.specs.Runs.{
   inFlight,
   heldTime,
   State,
+  rowsIn,
   afterAdmit,
   afterInvalid,
   afterStanding,
@@ -88,10 +88,6 @@ pub record StateHolds (c : PeerMessagePolicyConfig) (s : State) : Type 0 where
   pub is-sound : sound (s .policy) (s .memory) ≡ true
   pub settings : s .policy .config ≡ c
   pub holds-bytes : Bytes (s .memory)
-
--- the rows of a state
-abbrev pub rowsIn : State → Peers
-rowsIn s = rowsOf (s .policy) (s .memory)
 
 module _ {c : PeerMessagePolicyConfig} (s : State) (here : StateHolds c s) (said : Said) (t : State) where
   -- the policy that the caller goes on with

@@ -1,9 +1,9 @@
 -- What the upper bound does not bound: it holds for one life of an entry, and lives end. Two small runs that compute. Assumes nothing.
 use mathlib.Core.Path.{_≡_, refl}
-use mathlib.Core.List.{List, [], _∷_}
+use mathlib.Core.List.{[], _∷_}
 use Prim.Native.Nat.{ℕ}
 use Rattle.amount.specs.Amount.{amountOf, value, saturated}
-use Rattle.refusal.specs.Refusal.{Said, gives}
+use Rattle.refusal.specs.Refusal.{gives}
 use Rattle.bucket_discrete.specs.DiscreteBucket.{discreteRefill, discreteTake, discreteTryConsume}
 use Rattle.bucket_bytes.specs.ByteBucket.{byteRefill, byteTake, byteTryConsume}
 use Rattle.table.specs.Table.{look, store, erase, retain, removeAt, leastFrom}
@@ -12,6 +12,7 @@ use Rattle.peer_state.specs.Entry.{windowExpire, windowCounted, entryNew, entry
 use Rattle.peer_state.specs.Ingress.{tryReserve, inFlight}
 use Rattle.peer_verdict.specs.Verdict.{takeMessage, takeBytes, violated, weighed, judged}
 use Rattle.peer_table.specs.Room.{evict, makeRoom}
+use Rattle.peer_message_policy.specs.Calls.{allow, ban}
 use Rattle.peer_message_policy.specs.Policy.{admit, carriedOut, entryForUpdate}
 use Rattle.promises.specs.Samples.{Message, admitted, peersOf}
 
@@ -33,12 +34,6 @@ strict duration tracked =
 -- a message of a peer at time 5
 abbrev from : ℕ → Message
 from peer = record { peer = peer; size = 1; now = 5 }
-
-abbrev allow : Said
-allow = gives (0 ∷ [])
-
-abbrev ban : Said
-ban = gives (2 ∷ [])
 
 -- a ban of no duration is over at once, and the next message begins a new life with full buckets
 pub new-lives-by-bans : admitted (strict 0 2) (inFlight 0 0) [] (from 2 ∷ from 2 ∷ from 2 ∷ from 2 ∷ from 2 ∷ from 2 ∷ []) ≡ allow ∷ allow ∷ ban ∷ allow ∷ allow ∷ ban ∷ gives (2 ∷ []) ∷ []
