@@ -16,7 +16,8 @@ use Rattle.snapshot_settings.specs.declared.load.ReadLoad.{ReadLoad}
 use Rattle.snapshot_settings.specs.declared.load.ReadLoad.the-variants as ReadLoad
 use Rattle.snapshot_settings.specs.Settings.{narrow}
 use Rattle.snapshot_settings.specs.Load.{loadSize, loadWords, loadBytes, loadFrom, loadOf}
-use Rattle.snapshot_settings.specs.WordLaws.{wordAt, word-place, each-fits}
+use Rattle.table_laws.specs.WordsLaws.{each-fits}
+use Rattle.snapshot_settings.specs.WordLaws.{wordAt, word-place}
 
 -- two numbers take their size
 pub length-loadBytes : (i : FiberIngressBudget) → length (loadBytes i) ≡ loadSize

@@ -15,7 +15,8 @@ use Rattle.peer_settings.specs.Fits.{ConfigFits}
 use Rattle.snapshot_settings.specs.declared.settings.ReadSettings.{ReadSettings}
 use Rattle.snapshot_settings.specs.declared.settings.ReadSettings.the-variants as ReadSettings
 use Rattle.snapshot_settings.specs.Settings.{settingsSize, narrow, settingsWords, settingsBytes, configOf, settingsNarrow, settingsFrom, settingsOf}
-use Rattle.snapshot_settings.specs.WordLaws.{wordAt, word-place, each-fits}
+use Rattle.table_laws.specs.WordsLaws.{each-fits}
+use Rattle.snapshot_settings.specs.WordLaws.{wordAt, word-place}
 
 -- nine settings take their size
 pub length-settingsBytes : (c : PeerMessagePolicyConfig) → length (settingsBytes c) ≡ settingsSize
