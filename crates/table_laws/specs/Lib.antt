@@ -12,3 +12,5 @@ pub mod Lent
 pub mod LentLaws
 pub mod Kept
 pub mod KeptLaws
+pub mod RuleLaws
+pub mod StoreLaws
