@@ -1,14 +1,17 @@
 -- The search for the least row in memory, for a table of any layout and measure: a loop over the rows, whose invariant says that the
 -- least of all is that of what was found and the rows from the i-th on. Assumes nothing.
-use mathlib.Core.Path.{_≡_, sym, ap, _∙_}
+use mathlib.Core.Bool.{Bool, cond}
+use mathlib.Core.Path.{_≡_, refl, sym, ap, _∙_}
 use mathlib.Core.List.{List, []}
-use mathlib.Core.Option.{Option}
+use mathlib.Core.Option.{Option, some}
 use Prim.Native.Nat.{ℕ, _+_, _*_, _≤_, _<_}
 use native.Mathlib.Omega.{arith}
+use lib.Dec.{ltb}
 use lib.ListN.{drop}
 use Rattle.lent_bytes.specs.LentBytes.{part}
 use Rattle.table.specs.Table.{Row, Best, nothing, best, better, leastFrom}
 use Rattle.table.specs.Memory.{Layout, rowOf, rows}
+use Rattle.table.specs.TableLaws.{by-test}
 use Rattle.table.specs.LeastLaws.{least-ends, least-goes-on, least-found}
 use Rattle.table.specs.MemoryLaws.{length-rows, getD-rows}
 
@@ -30,3 +33,33 @@ module _ {A : Type 0} (L : Layout A) (measure : Row A → Option ℕ) (s : List 
   -- what is found is the index of a row
   pub found-inside : {j m : ℕ} → leastFrom measure nothing 0 (rows L s n) ≡ best j m → j < n
   found-inside h = omega (arith, least-found measure (rows L s n) (rowOf L []) h .inside, length-rows L s n)
+
+-- ---- a search that carries the index alone, where every row has a measure ----
+
+module _ {A : Type 0} (L : Layout A) (measure : Row A → ℕ) (s : List ℕ) (n : ℕ) where
+  -- what the row at the i-th place is measured by
+  abbrev pub measuredAt : ℕ → ℕ
+  measuredAt i = measure (rowOf L (part s (L .width * i) (L .width)))
+
+  -- the invariant: the least of all is that of the j-th row and those from the i-th on
+  abbrev pub FirstSo : ℕ → ℕ → Type 0
+  FirstSo i j =
+      leastFrom (λ (r : Row A). some (measure r)) nothing 0 (rows L s n)
+      ≡ leastFrom (λ (r : Row A). some (measure r)) (best j (measuredAt j)) i (drop i (rows L s n))
+
+  -- the search begins with the first row
+  pub search-begins : 0 < n → FirstSo 1 0
+  search-begins h =
+      first-goes-on L (λ (r : Row A). some (measure r)) s n 0 nothing refl (some (measuredAt 0)) (best 0 (measuredAt 0)) h refl refl
+
+  -- the row at the i-th place is taken in
+  pub search-goes-on : (i j next : ℕ) → i < n → FirstSo i j → next ≡ cond (ltb (measuredAt i) (measuredAt j)) i j → FirstSo (i + 1) next
+  search-goes-on i j next h from e =
+      first-goes-on L (λ (r : Row A). some (measure r)) s n i (best j (measuredAt j)) from (some (measuredAt i)) (best next (measuredAt next)) h refl
+      (by-test (ltb (measuredAt i) (measuredAt j))
+      (λ t. ap (λ (x : ℕ). best x (measuredAt x)) (e ∙ ap (λ (b : Bool). cond b i j) t) ∙ sym (ap (λ (b : Bool). cond b (best i (measuredAt i)) (best j (measuredAt j))) t))
+      (λ t. ap (λ (x : ℕ). best x (measuredAt x)) (e ∙ ap (λ (b : Bool). cond b i j) t) ∙ sym (ap (λ (b : Bool). cond b (best i (measuredAt i)) (best j (measuredAt j))) t)))
+
+  -- no row is left
+  pub search-ends : (i j : ℕ) → n ≤ i → FirstSo i j → leastFrom (λ (r : Row A). some (measure r)) nothing 0 (rows L s n) ≡ best j (measuredAt j)
+  search-ends i j h from = sym (first-ends L (λ (r : Row A). some (measure r)) s n i (best j (measuredAt j)) from h)

@@ -1,0 +1,44 @@
+use native.Mathlib.Omega.{arith}
+use Rattle.table.specs.Memory.{rows}
+use Rattle.table.specs.MemoryLaws.{length-rows}
+use Rattle.table.specs.RetainLaws.{length-retain}
+use Rattle.table_laws.specs.KeepLaws.{plain-removed}
+use Rattle.gossip_ban_rows.specs.Rows.{banLayout}
+use Rattle.gossip_ban_rows.specs.RowsLaws.{ban-faithful}
+use Rattle.gossip_ban_rows.specs.Room.{unexpired}
+use borrow.Author.Needs.{needs}
+use Rattle.gossip_ban_rows.proofs.room.prune_expired.Statement.{statement}
+use Rattle.gossip_ban_rows.proofs.room.prune_expired.Tie as tie
+use Rattle.gossip_ban_rows.proofs.room.prune_expired.Reads as reads
+use Rattle.gossip_ban_rows.proofs.room.prune_expired.Lts as lts
+use Rattle.gossip_ban_rows.proofs.room.gather_unexpired.Reads as gather-unexpired-reads
+use Rattle.table.proofs.rows.zero_rows.Reads as zero-rows-reads
+
+-- src/room.rt:58:9
+gather-unexpired-requires : tie.Need-gather-unexpired-requires
+gather-unexpired-requires c κs = search needs
+
+-- src/room.rt:59:45
+sub-zero-rows : tie.Need-sub-zero-rows
+sub-zero-rows c = let a = c .before .before .before .before .before .before .args in
+    omega (arith, c .before .before .before .gather-unexpired .ensures .1, length-retain (unexpired (a .duration-ms) (a .now-ms)) (rows banLayout (a .table .now) (a .count)), length-rows banLayout (a .table .now) (a .count))
+
+-- src/room.rt:59:5
+zero-rows-requires : tie.Need-zero-rows-requires
+zero-rows-requires c κs = let a = c .before .before .before .before .before .before .args in
+    omega (arith, c .before .before .before .before .before .before .pre, c .before .before .before .gather-unexpired .ensures .1, length-retain (unexpired (a .duration-ms) (a .now-ms)) (rows banLayout (a .table .now) (a .count)), length-rows banLayout (a .table .now) (a .count))
+
+-- src/room.rt:54:1
+same-length : tie.Need-same-length
+same-length c = search needs
+
+-- src/room.rt:54:1
+returns : tie.Need-returns
+returns c = let a = c .before .before .before .before .before .before .before .before .before .args in
+    let gathered = c .before .before .before .before .before .before .gather-unexpired in
+    (plain-removed ban-faithful (unexpired (a .duration-ms) (a .now-ms)) (a .table .now) (a .count) (λ i. c .before .before .before .before .before .before .before .before .slice-known .given i .fits) (omega (arith, c .before .before .before .before .before .before .before .before .before .pre)) _ _ (gathered .result) (gathered .ensures .0) (gathered .ensures .1) (c .before .before .zero-rows .ensures), gathered .ensures .1)
+
+pub prune-expired-spec : {M : Type 1} → statement M
+prune-expired-spec =
+    tie.close
+    (tie.spec gather-unexpired-requires sub-zero-rows zero-rows-requires same-length returns)

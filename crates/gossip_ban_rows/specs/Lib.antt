@@ -1,0 +1,6 @@
+pub mod Entry
+pub mod Rows
+pub mod Room
+pub mod RowsLaws
+pub mod RankLaws
+pub mod RoomLaws

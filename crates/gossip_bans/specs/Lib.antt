@@ -1,0 +1,4 @@
+pub mod Tracker
+pub mod Calls
+pub mod Carry
+pub mod TrackerLaws

@@ -1,0 +1,3 @@
+pub mod BanOutcomeLaws
+pub mod BanSoundLaws
+pub mod BanSampleLaws
