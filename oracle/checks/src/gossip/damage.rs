@@ -1,6 +1,7 @@
 //! Sound gossip states damaged in one known way, so that the refusal's number is known by construction.
 
-use super::sides::{with_anything_unread, Lent};
+use super::making::with_anything_unread;
+use super::sides::Lent;
 use vocabulary::gossip::*;
 use vocabulary::{Amount, GossipCall, GossipRow, GossipState, Reads, Shape, Subject, Words};
 

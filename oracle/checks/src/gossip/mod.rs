@@ -1,9 +1,11 @@
 //! The comparison of the gossip policy: ban tracker, limiter, and the state that holds a tracker and the outbound buckets.
 //!
-//! `start` is where a trace begins, `sides` runs a call on both sides and compares, `ties` brings the sides together where the Rust
-//! may drop any of several rows, `damage` makes sound states unsound in known ways, `watch` sees what calls did.
+//! `start` is where a trace begins, `sides` runs a call on both sides and compares, `making` is what a making call reads, `ties`
+//! brings the sides together where the Rust may drop any of several rows, `damage` makes sound states unsound in known ways, `watch`
+//! sees what calls did.
 
 pub mod damage;
+mod making;
 pub mod sides;
 pub mod start;
 pub mod ties;

@@ -1,6 +1,11 @@
-//! Both sides in the middle of a trace on gossip: each call is run on both, and everything is compared after it.
+//! Both sides in the middle of a trace on gossip: each call is run on both, and everything is compared after it. `damaged` is about calls
+//! on damaged states.
 
-use super::damage::{damaged, damaged_table, Harmed};
+mod damaged;
+
+pub use damaged::with_operation;
+
+use super::making::{limit_of, making_refused, takes_limit, with_anything_unread};
 use super::watch::watch;
 use super::{call_of, meets_refusal_5, ties};
 use crate::both_sides::{filled, same_answer};
@@ -234,138 +239,4 @@ impl GossipSides {
             show::gossip::row(shape, &shape.get(&found[place]))
         )
     }
-
-    /// A call on a state that is damaged in one known way. Words: the damage, then those of a call but for the operation, the
-    /// operation, and what chooses the place of the damage. Calls that don't read what is damaged are compared as usual.
-    pub fn step_damaged(
-        &mut self,
-        words: &Words,
-        original: &mut dyn Original,
-        port: &dyn Port,
-        tally: &mut Tally,
-        expect: &mut dyn FnMut(Answer, &mut Tally),
-    ) -> Result<(), String> {
-        let mut call = self.call(&with_operation(words, self.subject));
-        let mut lent = self.lent.clone();
-        let Some(harmed) = damaged(words, &self.state, &mut call, &mut lent) else {
-            return Ok(());
-        };
-        let before = std::mem::replace(&mut self.lent, lent.clone());
-        let result = match harmed {
-            Harmed::Refused(number) => {
-                let answer = Answer::plain(number);
-                expect(answer, tally);
-                let answered = self.port(port, &call);
-                let changed = self.lent != lent;
-                same_answer(answer, answered).and(if changed {
-                    Err("a refused call changed the words or a table".into())
-                } else {
-                    Ok(())
-                })
-            }
-            Harmed::Unread => self.step_beside_damage(&call, lent, original, port, tally, expect),
-        };
-        self.lent = before;
-        result
-    }
-
-    /// The damage is in what the call doesn't read: it must answer and change what it would without the damage.
-    fn step_beside_damage(
-        &mut self,
-        call: &GossipCall,
-        mut lent: Lent,
-        original: &mut dyn Original,
-        port: &dyn Port,
-        tally: &mut Tally,
-        expect: &mut dyn FnMut(Answer, &mut Tally),
-    ) -> Result<(), String> {
-        let (state, expected) = (self.state.clone(), self.expected.clone());
-        let answer = self.ask(call, original, tally)?;
-        if let Reads::Table(table) = call.reads() {
-            let shape = &self.subject.shapes()[table];
-            lay_half(table, shape, &self.before, &self.state, &mut lent);
-        }
-        (self.state, self.expected) = (state, expected);
-        original.set_gossip(self.subject, &self.state);
-        expect(answer, tally);
-        let answered = self.port(port, call);
-        same_answer(answer, answered)?;
-        if self.lent != lent {
-            return Err("a call beside the damage left other words or bytes than without it".into());
-        }
-        Ok(())
-    }
-}
-
-/// Word 5 of a call on damage chooses its operation, which makes nothing and mostly reads what is damaged.
-pub fn with_operation(words: &Words, subject: Subject) -> Words {
-    let operations = match (subject, damaged_table(subject, words[0])) {
-        (Subject::Gossip, 0) if words[5] % 8 > 2 => 2..5,
-        (Subject::Gossip, 1) if words[5] % 8 > 2 => 5..11,
-        _ => 2..subject.operations().len() as u64,
-    };
-    let mut call = *words;
-    call[0] = operations.start + words[5] / 8 % (operations.end - operations.start);
-    call
-}
-
-/// Writes what one half of a state became over the damaged other one.
-fn lay_half(table: usize, shape: &Shape, before: &GossipState, after: &GossipState, lent: &mut Lent) {
-    let (words, from) = (&mut lent.words, &after.words);
-    match table {
-        0 => {
-            words.longs[..=ROWS].copy_from_slice(&from.longs[..=ROWS]);
-            words.shorts[MOST] = from.shorts[MOST];
-        }
-        _ => {
-            words.longs[ROWS + 1..].copy_from_slice(&from.longs[ROWS + 1..]);
-            words.shorts[GLOBAL_SIGN..].copy_from_slice(&from.shorts[GLOBAL_SIGN..]);
-        }
-    }
-    shape.lay(&mut lent.tables[table], before.rows[table].len(), &after.rows[table]);
-}
-
-/// Whether a making call takes the limit that stands in the words; others make 1,024 rows, the Rust 50,000.
-fn takes_limit(call: &GossipCall) -> bool {
-    call.subject != Subject::Gossip && call.operation == 2
-}
-
-fn limit_of(call: &GossipCall, words: &GossipWords) -> u64 {
-    if takes_limit(call) {
-        words.longs[LIMIT]
-    } else {
-        MOST_ROWS
-    }
-}
-
-/// A limit above 1,024 is refused first, then a table that is too short.
-pub fn making_refused(call: &GossipCall, lent: &Lent) -> Option<u32> {
-    let limit = limit_of(call, &lent.words);
-    if limit > MOST_ROWS {
-        return Some(2);
-    }
-    let mut tables = call.subject.shapes().iter().zip(&lent.tables);
-    let short = |shape: &Shape, table: &[u8]| table.len() < shape.width() * limit.max(1) as usize;
-    tables.any(|(shape, table)| short(shape, table)).then_some(1)
-}
-
-/// The words with anything in all that a making call doesn't read.
-pub fn with_anything_unread(call: &GossipCall, words: &GossipWords, anything: u64) -> GossipWords {
-    let mut words = *words;
-    let is_default = call.subject == Subject::Gossip && call.operation == 2;
-    let used = match call.subject {
-        Subject::Gossip => 10,
-        _ => 3,
-    };
-    for (place, long) in words.longs[..used].iter_mut().enumerate() {
-        let unread = matches!(place, ROWS | GLOBAL_REFILL | OUTBOUND_ROWS) || place == LIMIT && !takes_limit(call);
-        if unread || is_default {
-            *long = anything.rotate_left(place as u32);
-        }
-    }
-    if call.subject == Subject::Gossip {
-        let first = if is_default { MOST } else { GLOBAL_SIGN };
-        words.shorts[first..].fill(anything as u32);
-    }
-    words
 }

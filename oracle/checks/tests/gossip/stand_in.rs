@@ -39,7 +39,7 @@ impl Port for StandIn {
         let [first, second] = tables;
         match call.reads() {
             Reads::Settings => settings(call, words),
-            Reads::Record(_) if !record_is_sound(call.subject, words, 0) => refused(3),
+            Reads::Record(_) if !record_is_sound(words, 0) => refused(3),
             Reads::Record(_) => Answer::value(words.longs[ROWS]),
             Reads::Table(1) => on_table(call, words, second, 1),
             _ => on_table(call, words, first, 0),
@@ -148,12 +148,11 @@ fn limit_of(words: &GossipWords, place: usize) -> ByteLimit {
 
 // Soundness (document 10, 2.3).
 
-fn record_is_sound(subject: Subject, words: &GossipWords, table: usize) -> bool {
+fn record_is_sound(words: &GossipWords, table: usize) -> bool {
     if table == 0 {
         return words.longs[LIMIT] <= 1_024 && words.longs[ROWS] <= words.longs[LIMIT].max(1);
     }
     let global = words.global();
-    let _ = subject;
     words.longs[OUTBOUND_ROWS] <= 1_024 && amount_is_sound(&global.available, global.burst)
 }
 
@@ -177,7 +176,7 @@ fn row_is_sound(subject: Subject, table: usize, words: &GossipWords, row: &Gossi
 
 fn on_table(call: &GossipCall, words: &mut GossipWords, bytes: &mut [u8], table: usize) -> Answer {
     let shape = &call.subject.shapes()[table];
-    if !record_is_sound(call.subject, words, table) {
+    if !record_is_sound(words, table) {
         return refused(3);
     }
     let (most, count) = match table {

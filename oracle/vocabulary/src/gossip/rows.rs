@@ -54,10 +54,6 @@ impl GossipRow {
         peer(&self.key)
     }
 
-    pub fn side(&self) -> bool {
-        self.key[SIDE] != 0
-    }
-
     /// An outbound row's amount; a sign word above 1 is no sign.
     pub fn amount(&self) -> Amount {
         Amount::from_words(&self.numbers[..3])

@@ -10,7 +10,8 @@ pub struct GossipWords {
     pub shorts: [u32; 6],
 }
 
-/// The longs by name.
+// The longs by name.
+
 /// The ban's duration, or the limiter's interval.
 pub const PERIOD: usize = 0;
 /// The most rows as they were given: 0 counts as 1.
@@ -25,7 +26,8 @@ pub const PEER_BURST: usize = 7;
 pub const OUTBOUND_ROWS: usize = 8;
 pub const QUEUE_CAPACITY: usize = 9;
 
-/// The shorts by name; behind the sign come the four limbs of the global bucket's amount, the least first.
+// The shorts by name; behind the sign come the four limbs of the global bucket's amount, the least first.
+
 /// The ban's threshold, or the limiter's burst.
 pub const MOST: usize = 0;
 pub const GLOBAL_SIGN: usize = 1;

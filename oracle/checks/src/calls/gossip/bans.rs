@@ -60,6 +60,12 @@ fn live(dice: &mut Dice, now: u64, duration: u64) -> u64 {
     now.saturating_sub(dice.below(duration.clamp(1, 50)))
 }
 
+/// The end of a ban, where it comes within so many milliseconds.
+pub fn end_within(row: &GossipRow, now: u64, most: u64) -> Option<u64> {
+    let end = row.numbers[GossipRow::END];
+    (row.numbers[GossipRow::MARK] == 1 && end >= now && end - now < most).then_some(end)
+}
+
 pub fn moment(dice: &mut Dice, words: &GossipWords, row: &GossipRow) -> u64 {
     let n = &row.numbers;
     match dice.below(10) {

@@ -157,7 +157,13 @@ impl Plan {
             key(dice, state, table, keys)
         };
         let row = state.row(table, &keys[place as usize]).copied();
-        let now = self.time(dice, state, table, row.as_ref());
+        let now = match self.ban_end(dice, state, row.as_ref(), operation, crowds) {
+            Some(end) if dice.chance(40) => {
+                self.now = dice.near(end).max(self.now);
+                self.now
+            }
+            _ => self.time(dice, state, table, row.as_ref()),
+        };
         let violation = match self.subject {
             Subject::Limiter => dice.pick(&[0, 1, 2, u64::from(u32::MAX)]),
             _ => dice.pick(&[0, 1, 2, 2, 2]),
@@ -168,6 +174,24 @@ impl Plan {
             0
         };
         [operation - 1, place, violation, bytes, now, 0, dice.roll(), 0]
+    }
+
+    /// The end that is soon to come of the ban that is asked about, or of any ban where room is needed.
+    fn ban_end(
+        &self,
+        dice: &mut Dice,
+        state: &GossipState,
+        row: Option<&GossipRow>,
+        operation: u64,
+        crowds: bool,
+    ) -> Option<u64> {
+        let rows = &state.rows[0];
+        if crowds && !rows.is_empty() {
+            let any = &rows[dice.below(rows.len() as u64) as usize];
+            return bans::end_within(any, self.now, 50);
+        }
+        let row = row.filter(|_| operation == 4 && self.subject != Subject::Limiter)?;
+        bans::end_within(row, self.now, 1 << 20)
     }
 
     /// The number of an operation; rarely a making in the middle.
