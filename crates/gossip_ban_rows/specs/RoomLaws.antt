@@ -1,7 +1,7 @@
 -- Laws of expiry and of making room, which callers' proofs cite: what the Rust's steps come to; rows are taken out and no more; there is
 -- room for one more. In order: one entry; the row evicted; making room. Assumes nothing.
-use mathlib.Core.Bool.{Bool, true, false, _||_, cond}
-use mathlib.Core.Path.{_≡_, refl, sym, ap, _∙_, subst}
+use mathlib.Core.Bool.{Bool, true, false, _||_}
+use mathlib.Core.Path.{_≡_, refl, sym, _∙_, subst}
 use mathlib.Core.List.{List, [], _∷_}
 use mathlib.Core.Option.{Option, none, some}
 use Prim.Native.Nat.{ℕ, zero, suc, _+_, _≤_, _<_}
@@ -9,7 +9,7 @@ use native.Mathlib.Omega.{arith}
 use borrow.Author.Tests.{ltb-true, ltb-false, lt-ltb, le-ltb}
 use lib.Dec.{ltb}
 use lib.ListN.{length}
-use Rattle.table.specs.Table.{Row, Best, nothing, best, leastFrom, ascending, look, erase, removeAt}
+use Rattle.table.specs.Table.{Best, nothing, best, leastFrom, ascending, look, erase, removeAt}
 use Rattle.table.specs.TableLaws.{by-test, Sub, sub-all, sub-length, sub-erase, sub-retain, sub-removeAt, sub-trans}
 use Rattle.table.specs.LookLaws.{some-is-not-none, sub-look-none}
 use Rattle.table.specs.LeastLaws.{least-found, least-nothing}
@@ -17,7 +17,7 @@ use Rattle.table.specs.PlaceLaws.{length-removeAt}
 use Rattle.gossip_ban_rows.specs.declared.entry.GossipBanEntry.{GossipBanEntry}
 use Rattle.gossip_ban_rows.specs.Entry.{isExpired}
 use Rattle.gossip_ban_rows.specs.Rows.{Bans}
-use Rattle.gossip_ban_rows.specs.Room.{expireFound, maybeExpire, unexpired, pruneExpired, evictionRank, evict, isSome, contains, hasRoom, evictWhileFull, makeRoom, roomFor}
+use Rattle.gossip_ban_rows.specs.Room.{expireFound, maybeExpire, unexpired, pruneExpired, evictionRank, evict, contains, evictWhileFull, makeRoom, roomFor}
 
 -- ---- one entry ----
 

@@ -17,7 +17,7 @@ use Rattle.bucket_terms.specs.Answers.{told}
 use Rattle.table.specs.Table.{look, store, erase}
 use Rattle.table.specs.MemoryLaws.{length-rows, holds, put-clear}
 use Rattle.table.specs.TableLaws.{by-test}
-use Rattle.table.specs.Outcome.{Change, same, become, Outcome, Meets}
+use Rattle.table.specs.Outcome.{same, become, Outcome, Meets}
 use Rattle.table_laws.specs.LentLaws.{long-enough, too-short}
 use Rattle.table_laws.specs.ChangeLaws.{unchanged}
 use Rattle.gossip_settings.specs.declared.ban.GossipBanConfig.{GossipBanConfig}
@@ -34,7 +34,7 @@ use Rattle.gossip_bans.specs.declared.answer.Scored.the-variants as Scor
 use Rattle.gossip_bans.specs.declared.answer.Pruned.the-variants as Pruned
 use Rattle.gossip_bans.specs.Tracker.{rowsOf, limitOf, sound, turn, recordedOver, recordViolation}
 use Rattle.gossip_bans.specs.TrackerLaws.{violation-off, violation-known, violation-new, banned-off, banned-absent, banned-expired, banned-live, score-absent, score-expired, score-live}
-use Rattle.gossip_bans.specs.Calls.{trackerAfter, carried, fresh, madeOutcome, MadeMeets, banTold, recordViolationOutcome, RecordViolationMeets, isBannedOutcome, IsBannedMeets, banScored, scoreOutcome, ScoreMeets, banPruned, pruneExpiredOutcome, PruneExpiredMeets}
+use Rattle.gossip_bans.specs.Calls.{carried, fresh, madeOutcome, MadeMeets, banTold, recordViolationOutcome, RecordViolationMeets, isBannedOutcome, IsBannedMeets, banScored, scoreOutcome, ScoreMeets, banPruned, pruneExpiredOutcome, PruneExpiredMeets}
 use Rattle.gossip_bans.specs.Carry.{Left}
 use Rattle.gossip_bans.proofs.Judged.{few-rows, rows-fit, order}
 

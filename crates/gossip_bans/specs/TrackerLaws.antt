@@ -1,10 +1,10 @@
 -- What the Rust's steps come to, by what is found for the peer, and soundness of the record. In order: the record; record_violation;
 -- is_banned; score. Assumes nothing.
 use mathlib.Core.Bool.{Bool, true, false, cond}
-use mathlib.Core.Path.{_≡_, refl, sym, ap, _∙_}
+use mathlib.Core.Path.{_≡_, sym, ap, _∙_}
 use mathlib.Core.List.{List}
 use mathlib.Core.Option.{Option, none, some}
-use Prim.Native.Nat.{ℕ, _+_, _≤_, _<_}
+use Prim.Native.Nat.{ℕ, _≤_, _<_}
 use native.Mathlib.Omega.{arith}
 use borrow.Author.Tests.{leb-true, le-leb}
 use lib.Dec.{leb}
@@ -13,7 +13,7 @@ use Rattle.table.specs.Table.{ascending, look, erase}
 use Rattle.table.specs.TableLaws.{by-test, both, both-parts}
 use Rattle.table.specs.LookLaws.{look-erase-same, sub-look-none}
 use Rattle.table.specs.PlaceLaws.{length-erase-some}
-use Rattle.table.specs.Outcome.{become, same, Outcome}
+use Rattle.table.specs.Outcome.{become, same}
 use Rattle.table_laws.specs.StoreLaws.{store-erase}
 use Rattle.gossip_settings.specs.declared.ban.GossipBanConfig.{GossipBanConfig}
 use Rattle.gossip_settings.specs.Settings.{gossipBanDisabled}

@@ -1,6 +1,6 @@
 -- Sample G: with a threshold of 100 and a duration of 50, four violations of 25 points at time 7: the fourth bans; banned at 56, not at 57.
 -- It computes on the definitions of the calls. Assumes nothing.
-use mathlib.Core.Bool.{Bool, true, false, cond}
+use mathlib.Core.Bool.{Bool, true, false}
 use mathlib.Core.Path.{_≡_, refl}
 use mathlib.Core.List.{List, [], _∷_}
 use Prim.Native.Nat.{ℕ, zero, suc}

@@ -11,12 +11,12 @@ use lib.Dec.{ltb, leb, eqb}
 use lib.ListN.{length}
 use Rattle.lent_bytes.specs.LentBytes.{Bytes}
 use Rattle.pubkey.specs.declared.Pubkey.{Pubkey}
-use Rattle.table.specs.Table.{Row, every, ascending, look, store}
+use Rattle.table.specs.Table.{every, ascending, look}
 use Rattle.table.specs.TableLaws.{by-test, both, both-parts}
 use Rattle.table.specs.LookLaws.{look-rule, sub-look-none}
 use Rattle.table.specs.PlaceLaws.{length-store-some, length-store-none}
 use Rattle.table.specs.Memory.{rows}
-use Rattle.table.specs.Outcome.{Change, same, become, rowsAfter, Memory, Outcome, Meets}
+use Rattle.table.specs.Outcome.{Change, become, rowsAfter, Memory, Outcome, Meets}
 use Rattle.table_laws.specs.Lent.{longEnough}
 use Rattle.table_laws.specs.LentLaws.{own-sound}
 use Rattle.table_laws.specs.WordsLaws.{OfNumbers, of-numbers, length-encode, encode-bytes}

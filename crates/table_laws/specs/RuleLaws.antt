@@ -1,7 +1,7 @@
 -- Rows judged by their rule alone, as a loop over the rows in memory goes: the invariant says that all rows keep the rule just where those
 -- from the i-th on do. For any layout and rule; `keyed_rows::find` judges the order. Assumes nothing.
 use mathlib.Core.Bool.{Bool, true, false}
-use mathlib.Core.Path.{_≡_, refl, ap, _∙_}
+use mathlib.Core.Path.{_≡_, ap, _∙_}
 use mathlib.Core.List.{List}
 use Prim.Native.Nat.{ℕ, _+_, _≤_, _<_}
 use native.Mathlib.Omega.{arith}

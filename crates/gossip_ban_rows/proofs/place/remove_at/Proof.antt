@@ -1,22 +1,17 @@
+-- `gossip_ban_rows::place::remove_at` meets its contract: the write leaves memory without the row (`removed`). Assumes nothing.
 use native.Mathlib.Omega.{arith}
 use Rattle.table_laws.specs.ChangeLaws.{removed}
 use Rattle.gossip_ban_rows.specs.RowsLaws.{ban-faithful}
 use borrow.Author.Needs.{needs}
 use Rattle.gossip_ban_rows.proofs.place.remove_at.Statement.{statement}
 use Rattle.gossip_ban_rows.proofs.place.remove_at.Tie as tie
-use Rattle.gossip_ban_rows.proofs.place.remove_at.Reads as reads
-use Rattle.gossip_ban_rows.proofs.place.remove_at.Lts as lts
-use Rattle.table.proofs.rows.remove_row.Reads as remove-row-reads
 
--- src/place.rt:21:5
 remove-row-requires : tie.Need-remove-row-requires
 remove-row-requires c κs = search needs
 
--- src/place.rt:16:1
 same-length : tie.Need-same-length
 same-length c = search needs
 
--- src/place.rt:16:1
 returns : tie.Need-returns
 returns c = let a = c .before .before .before .before .before .args in
     removed ban-faithful (a .table .now) _ (a .count) (λ i. c .before .before .before .before .slice-known .given i .fits) (omega arith) (a .index) (omega arith) (c .before .before .remove-row .ensures)

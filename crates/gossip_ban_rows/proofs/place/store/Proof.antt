@@ -1,3 +1,4 @@
+-- `gossip_ban_rows::place::store` meets its contract: a store among raw rows is a store of the entry (`stored-under`). Assumes nothing.
 use mathlib.Core.Path.{_≡_, ap}
 use native.Mathlib.Omega.{arith}
 use lib.ListN.{length}
@@ -7,34 +8,24 @@ use Rattle.gossip_ban_rows.specs.RowsLaws.{ban-faithful}
 use borrow.Author.Needs.{needs}
 use Rattle.gossip_ban_rows.proofs.place.store.Statement.{statement}
 use Rattle.gossip_ban_rows.proofs.place.store.Tie as tie
-use Rattle.gossip_ban_rows.proofs.place.store.Reads as reads
-use Rattle.gossip_ban_rows.proofs.place.store.Lts as lts
-use Rattle.gossip_ban_rows.proofs.row.words_of.Reads as words-of-reads
-use Rattle.keyed_rows.proofs.change.store.Reads as store-reads
 
--- src/place.rt:39:17
 words-of-requires : tie.Need-words-of-requires
 words-of-requires c κs = search needs
 
--- src/place.rt:41:49
 slice-aggregate-store : tie.Need-slice-aggregate-store
 slice-aggregate-store c = search needs
 
--- src/place.rt:41:57
 slice-aggregate-store-2 : tie.Need-slice-aggregate-store-2
 slice-aggregate-store-2 c = search needs
 
--- src/place.rt:41:5
 store-requires : tie.Need-store-requires
 store-requires c κs = let size : length (c .before .before .before .before .before .before .args .key .bytes) ≡ 33 = search needs in
     let four : length (c .before .before .before .before .words-of .result) ≡ 4 = ap length (c .before .before .before .before .words-of .ensures) in
     omega (arith, c .before .before .before .before .before .before .pre)
 
--- src/place.rt:35:1
 same-length : tie.Need-same-length
 same-length c = search needs
 
--- src/place.rt:35:1
 returns : tie.Need-returns
 returns c = let a = c .before .before .before .before .before .before .before .before .before .args in
     let good = c .before .before .before .before .before .before .before .before .before .good in

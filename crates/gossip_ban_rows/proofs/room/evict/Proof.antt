@@ -1,3 +1,4 @@
+-- `gossip_ban_rows::room::evict` meets its contract: the row that was found goes (`evict-found`). Assumes nothing.
 use mathlib.Core.Path.{sym}
 use native.Mathlib.Omega.{arith}
 use Rattle.table.specs.Memory.{rows}
@@ -10,29 +11,20 @@ use Rattle.gossip_ban_rows.specs.RoomLaws.{evict-found, length-evict}
 use borrow.Author.Needs.{needs}
 use Rattle.gossip_ban_rows.proofs.room.evict.Statement.{statement}
 use Rattle.gossip_ban_rows.proofs.room.evict.Tie as tie
-use Rattle.gossip_ban_rows.proofs.room.evict.Reads as reads
-use Rattle.gossip_ban_rows.proofs.room.evict.Lts as lts
-use Rattle.gossip_ban_rows.proofs.place.remove_at.Reads as remove-at-reads
-use Rattle.gossip_ban_rows.proofs.room.first_to_go.Reads as first-to-go-reads
 
--- src/room.rt:123:9
 first-to-go-requires : tie.Need-first-to-go-requires
 first-to-go-requires c κs = search needs
 
--- src/room.rt:124:5
 remove-at-requires : tie.Need-remove-at-requires
 remove-at-requires c κs = let a = c .before .before .before .before .args in
     omega (arith, c .before .before .before .before .pre, found-inside banLayout (evictionRank (a .now-ms)) (a .table .now) (a .count) (c .before .first-to-go .ensures))
 
--- src/room.rt:125:5
 sub-result : tie.Need-sub-result
 sub-result c = search needs
 
--- src/room.rt:118:1
 same-length : tie.Need-same-length
 same-length c = search needs
 
--- src/room.rt:118:1
 returns : tie.Need-returns
 returns c = let a = c .before .before .before .before .before .before .before .args in
     (holds-same (sym (evict-found (a .now-ms) (rows banLayout (a .table .now) (a .count)) (c .before .before .before .before .first-to-go .ensures))) (c .before .before .remove-at .ensures), omega (arith, c .before .before .before .before .before .before .before .pre, length-evict (a .now-ms) (rows banLayout (a .table .now) (a .count)) (omega (arith, c .before .before .before .before .before .before .before .pre, length-rows banLayout (a .table .now) (a .count))), length-rows banLayout (a .table .now) (a .count)))

@@ -1,3 +1,4 @@
+-- `gossip_ban_rows::room::goes_before` meets its contract: by the two bans, as the ranks are ordered (`rank-order`). Assumes nothing.
 use mathlib.Core.Path.{sym, _∙_}
 use native.Mathlib.Omega.{arith}
 use borrow.Author.Tests.{not-true, not-false}
@@ -5,49 +6,37 @@ use Rattle.gossip_ban_rows.specs.RankLaws.{rank-order}
 use borrow.Author.Needs.{needs}
 use Rattle.gossip_ban_rows.proofs.room.goes_before.Statement.{statement}
 use Rattle.gossip_ban_rows.proofs.room.goes_before.Tie as tie
-use Rattle.gossip_ban_rows.proofs.room.goes_before.Reads as reads
-use Rattle.gossip_ban_rows.proofs.room.goes_before.Lts as lts
-use Rattle.gossip_ban_rows.proofs.entry.GossipBanEntry.is_currently_banned.Reads as is-currently-banned-reads
-use Rattle.gossip_ban_rows.proofs.room.is_lighter.Reads as is-lighter-reads
 
--- src/room.rt:77:9
 is-currently-banned-requires : tie.Need-is-currently-banned-requires
 is-currently-banned-requires c κs = search needs
 
--- src/room.rt:78:8
 is-currently-banned-requires-2 : tie.Need-is-currently-banned-requires-2
 is-currently-banned-requires-2 c κs = search needs
 
--- src/room.rt:80:13
 returns : tie.Need-returns
 returns c = let a = c .before .before .before .before .args in
     let g = c .before .before .before .before .good in
     sym (rank-order (a .now-ms) (a .e) (a .other) (record { score-fits = omega (arith, g); last-fits = omega (arith, g) }) (record { score-fits = omega (arith, g); last-fits = omega (arith, g) })
     ∙ rw (sym (c .before .before .before .is-currently-banned .ensures) ∙ not-true (c .before .before .before .is-currently-banned .result) (c .if2 .taken), sym (c .before .before .is-currently-banned2 .ensures) ∙ c .before .if1 .taken))
 
--- src/room.rt:82:9
 is-lighter-requires : tie.Need-is-lighter-requires
 is-lighter-requires c κs = search needs
 
--- src/room.rt:82:9
 returns-2 : tie.Need-returns-2
 returns-2 c = let a = c .before .before .before .before .before .args in
     let g = c .before .before .before .before .before .good in
     c .is-lighter .ensures ∙ sym (rank-order (a .now-ms) (a .e) (a .other) (record { score-fits = omega (arith, g); last-fits = omega (arith, g) }) (record { score-fits = omega (arith, g); last-fits = omega (arith, g) })
     ∙ rw (sym (c .before .before .before .before .is-currently-banned .ensures) ∙ not-false (c .before .before .before .before .is-currently-banned .result) (c .before .if2 .left), sym (c .before .before .before .is-currently-banned2 .ensures) ∙ c .before .before .if1 .taken))
 
--- src/room.rt:85:9
 returns-3 : tie.Need-returns-3
 returns-3 c = let a = c .before .before .before .before .args in
     let g = c .before .before .before .before .good in
     sym (rank-order (a .now-ms) (a .e) (a .other) (record { score-fits = omega (arith, g); last-fits = omega (arith, g) }) (record { score-fits = omega (arith, g); last-fits = omega (arith, g) })
     ∙ rw (sym (c .before .before .before .is-currently-banned .ensures) ∙ c .if3 .taken, sym (c .before .before .is-currently-banned2 .ensures) ∙ c .before .if1 .left))
 
--- src/room.rt:87:5
 is-lighter-requires-2 : tie.Need-is-lighter-requires-2
 is-lighter-requires-2 c κs = search needs
 
--- src/room.rt:74:1
 returns-4 : tie.Need-returns-4
 returns-4 c = let a = c .before .before .before .before .before .args in
     let g = c .before .before .before .before .before .good in

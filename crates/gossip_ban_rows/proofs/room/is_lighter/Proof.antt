@@ -1,14 +1,11 @@
+-- `gossip_ban_rows::room::is_lighter` meets its contract: by the test of the scores. Assumes nothing.
 use Rattle.gossip_ban_rows.specs.RankLaws.{lighter-apart, lighter-level}
 use Rattle.gossip_ban_rows.proofs.room.is_lighter.Statement.{statement}
 use Rattle.gossip_ban_rows.proofs.room.is_lighter.Tie as tie
-use Rattle.gossip_ban_rows.proofs.room.is_lighter.Reads as reads
-use Rattle.gossip_ban_rows.proofs.room.is_lighter.Lts as lts
 
--- src/room.rt:68:9
 returns : tie.Need-returns
 returns c = lighter-apart (c .before .before .before .before .before .args .e) (c .before .before .before .before .before .args .other) (c .before .before .if1 .taken)
 
--- src/room.rt:64:1
 returns-2 : tie.Need-returns-2
 returns-2 c = lighter-level (c .before .before .before .before .before .args .e) (c .before .before .before .before .before .args .other) (c .before .before .if1 .left)
 

@@ -1,46 +1,33 @@
+-- `gossip_ban_rows::room::keep_unexpired` meets its contract: by the test of the row. Assumes nothing.
 use mathlib.Core.Path.{refl, sym, _∙_}
 use borrow.Author.Needs.{needs}
 use Rattle.gossip_ban_rows.proofs.room.keep_unexpired.Statement.{statement}
 use Rattle.gossip_ban_rows.proofs.room.keep_unexpired.Tie as tie
-use Rattle.gossip_ban_rows.proofs.room.keep_unexpired.Reads as reads
-use Rattle.gossip_ban_rows.proofs.room.keep_unexpired.Lts as lts
-use Rattle.gossip_ban_rows.proofs.entry.GossipBanEntry.is_expired.Reads as is-expired-reads
-use Rattle.gossip_ban_rows.proofs.row.entry_at.Reads as entry-at-reads
-use Rattle.table.proofs.rows.keep_row.Reads as keep-row-reads
 
--- src/room.rt:31:29
 mul-entry-at : tie.Need-mul-entry-at
 mul-entry-at c = search needs
 
--- src/room.rt:31:9
 entry-at-requires : tie.Need-entry-at-requires
 entry-at-requires c κs = search needs
 
--- src/room.rt:32:8
 is-expired-requires : tie.Need-is-expired-requires
 is-expired-requires c κs = search needs
 
--- src/room.rt:33:9
 same-length : tie.Need-same-length
 same-length c = search needs
 
--- src/room.rt:33:9
 returns : tie.Need-returns
 returns c = rw (← c .before .before .entry-at .ensures, sym (c .before .is-expired .ensures) ∙ c .if1 .taken) (refl, refl)
 
--- src/room.rt:35:5
 keep-row-requires : tie.Need-keep-row-requires
 keep-row-requires c κs = search needs
 
--- src/room.rt:36:5
 add-result : tie.Need-add-result
 add-result c = search needs
 
--- src/room.rt:20:1
 same-length-2 : tie.Need-same-length-2
 same-length-2 c = search needs
 
--- src/room.rt:20:1
 returns-2 : tie.Need-returns-2
 returns-2 c = rw (← c .before .before .before .before .before .before .entry-at .ensures, sym (c .before .before .before .before .before .is-expired .ensures) ∙ c .before .before .before .before .if1 .left) (c .before .before .keep-row .ensures, refl)
 

@@ -1,3 +1,4 @@
+-- `gossip_ban_rows::room::make_room` meets its contract: by the two tests, and two changes are one. Assumes nothing.
 use native.Mathlib.Omega.{arith}
 use Rattle.table.specs.Memory.{rows}
 use Rattle.table.specs.MemoryLaws.{length-rows}
@@ -8,39 +9,28 @@ use Rattle.gossip_ban_rows.proofs.Making.{made-free, made-pruned, made-
 use borrow.Author.Needs.{needs}
 use Rattle.gossip_ban_rows.proofs.room.make_room.Statement.{statement}
 use Rattle.gossip_ban_rows.proofs.room.make_room.Tie as tie
-use Rattle.gossip_ban_rows.proofs.room.make_room.Reads as reads
-use Rattle.gossip_ban_rows.proofs.room.make_room.Lts as lts
-use Rattle.gossip_ban_rows.proofs.room.evict.Reads as evict-reads
-use Rattle.gossip_ban_rows.proofs.room.prune_expired.Reads as prune-expired-reads
 
--- src/room.rt:141:9
 returns : tie.Need-returns
 returns c = let a = c .before .before .args in
     made-free (a .limit) (a .duration-ms) (a .now-ms) (a .table .now) (a .count) (λ i. c .before .slice-known .given i .fits) (omega (arith, c .before .before .pre)) (c .if1 .taken)
 
--- src/room.rt:143:9
 prune-expired-requires : tie.Need-prune-expired-requires
 prune-expired-requires c κs = search needs
 
--- src/room.rt:145:9
 same-length : tie.Need-same-length
 same-length c = search needs
 
--- src/room.rt:145:9
 returns-2 : tie.Need-returns-2
 returns-2 c = let a = c .before .before .before .before .before .before .before .args in
     made-pruned (a .limit) (a .duration-ms) (a .now-ms) (a .table .now) (a .count) (λ i. c .before .before .before .before .before .before .slice-known .given i .fits) (omega (arith, c .before .before .before .before .before .before .before .pre)) (c .before .before .before .before .before .if1 .left) _ (c .before .before .before .prune-expired .result) (c .if2 .taken) (c .before .before .before .prune-expired .ensures)
 
--- src/room.rt:147:5
 evict-requires : tie.Need-evict-requires
 evict-requires c κs = let a = c .before .before .before .before .before .before .before .before .args in
     omega (arith, c .before .before .before .before .before .before .before .before .pre, c .before .if2 .left, c .before .before .before .before .prune-expired .ensures .1, length-retain (unexpired (a .duration-ms) (a .now-ms)) (rows banLayout (a .table .now) (a .count)), length-rows banLayout (a .table .now) (a .count))
 
--- src/room.rt:129:1
 same-length-2 : tie.Need-same-length-2
 same-length-2 c = search needs
 
--- src/room.rt:129:1
 returns-3 : tie.Need-returns-3
 returns-3 c = let a = c .before .before .before .before .before .before .before .before .before .before .before .args in
     made-evicted (a .limit) (a .duration-ms) (a .now-ms) (a .table .now) (a .count) (λ i. c .before .before .before .before .before .before .before .before .before .before .slice-known .given i .fits) (omega (arith, c .before .before .before .before .before .before .before .before .before .before .before .pre)) (c .before .before .before .before .before .before .before .before .before .if1 .left) _ (c .before .before .before .before .before .before .before .prune-expired .result) (c .before .before .before .before .if2 .left) (c .before .before .before .before .before .before .before .prune-expired .ensures) _ (c .before .before .evict .result) (c .before .before .evict .ensures)

@@ -1,3 +1,4 @@
+-- `gossip_ban_rows::room::prune_expired` meets its contract: the rows gathered, and zeros behind them (`plain-removed`). Assumes nothing.
 use native.Mathlib.Omega.{arith}
 use Rattle.table.specs.Memory.{rows}
 use Rattle.table.specs.MemoryLaws.{length-rows}
@@ -9,30 +10,21 @@ use Rattle.gossip_ban_rows.specs.Room.{unexpired}
 use borrow.Author.Needs.{needs}
 use Rattle.gossip_ban_rows.proofs.room.prune_expired.Statement.{statement}
 use Rattle.gossip_ban_rows.proofs.room.prune_expired.Tie as tie
-use Rattle.gossip_ban_rows.proofs.room.prune_expired.Reads as reads
-use Rattle.gossip_ban_rows.proofs.room.prune_expired.Lts as lts
-use Rattle.gossip_ban_rows.proofs.room.gather_unexpired.Reads as gather-unexpired-reads
-use Rattle.table.proofs.rows.zero_rows.Reads as zero-rows-reads
 
--- src/room.rt:58:9
 gather-unexpired-requires : tie.Need-gather-unexpired-requires
 gather-unexpired-requires c κs = search needs
 
--- src/room.rt:59:45
 sub-zero-rows : tie.Need-sub-zero-rows
 sub-zero-rows c = let a = c .before .before .before .before .before .before .args in
     omega (arith, c .before .before .before .gather-unexpired .ensures .1, length-retain (unexpired (a .duration-ms) (a .now-ms)) (rows banLayout (a .table .now) (a .count)), length-rows banLayout (a .table .now) (a .count))
 
--- src/room.rt:59:5
 zero-rows-requires : tie.Need-zero-rows-requires
 zero-rows-requires c κs = let a = c .before .before .before .before .before .before .args in
     omega (arith, c .before .before .before .before .before .before .pre, c .before .before .before .gather-unexpired .ensures .1, length-retain (unexpired (a .duration-ms) (a .now-ms)) (rows banLayout (a .table .now) (a .count)), length-rows banLayout (a .table .now) (a .count))
 
--- src/room.rt:54:1
 same-length : tie.Need-same-length
 same-length c = search needs
 
--- src/room.rt:54:1
 returns : tie.Need-returns
 returns c = let a = c .before .before .before .before .before .before .before .before .before .args in
     let gathered = c .before .before .before .before .before .before .gather-unexpired in

@@ -1,45 +1,34 @@
+-- `gossip_ban_rows::row::entry_at` meets its contract: the numbers that were read are the entry's (`entry-places`). Assumes nothing.
 use mathlib.Core.Path.{sym}
 use Rattle.gossip_ban_rows.specs.RowsLaws.{entry-places}
 use borrow.Author.Needs.{needs}
 use Rattle.gossip_ban_rows.proofs.row.entry_at.Statement.{statement}
 use Rattle.gossip_ban_rows.proofs.row.entry_at.Tie as tie
-use Rattle.gossip_ban_rows.proofs.row.entry_at.Reads as reads
-use Rattle.gossip_ban_rows.proofs.row.entry_at.Lts as lts
-use Rattle.lent_bytes.proofs.number.get_u64.Reads as get-u64-reads
 
--- src/row.rt:17:31
 add-get-u64 : tie.Need-add-get-u64
 add-get-u64 c = search needs
 
--- src/row.rt:17:16
 get-u64-requires : tie.Need-get-u64-requires
 get-u64-requires c κs = search needs
 
--- src/row.rt:18:30
 add-get-u64-2 : tie.Need-add-get-u64-2
 add-get-u64-2 c = search needs
 
--- src/row.rt:18:15
 get-u64-requires-2 : tie.Need-get-u64-requires-2
 get-u64-requires-2 c κs = search needs
 
--- src/row.rt:19:34
 add-get-u64-3 : tie.Need-add-get-u64-3
 add-get-u64-3 c = search needs
 
--- src/row.rt:19:19
 get-u64-requires-3 : tie.Need-get-u64-requires-3
 get-u64-requires-3 c κs = search needs
 
--- src/row.rt:20:41
 add-get-u64-4 : tie.Need-add-get-u64-4
 add-get-u64-4 c = search needs
 
--- src/row.rt:20:26
 get-u64-requires-4 : tie.Need-get-u64-requires-4
 get-u64-requires-4 c κs = search needs
 
--- src/row.rt:12:1
 returns : tie.Need-returns
 returns c = let a = c .before .before .before .before .before .args in
     rw (c .before .before .before .get-u64 .ensures, c .before .before .get-u642 .ensures, c .before .get-u643 .ensures, c .get-u644 .ensures) (sym (entry-places (a .table .now) (a .at)))

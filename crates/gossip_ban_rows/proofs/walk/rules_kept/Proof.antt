@@ -1,6 +1,6 @@
-use mathlib.Core.Bool.{true, false}
+-- `gossip_ban_rows::walk::rules_kept` meets its contract: the invariant is that all rows keep the rule just where those from the i-th on do (`RuleLaws`); the measure is how many are left. Assumes nothing.
 use mathlib.Core.Path.{_≡_, refl, sym, ap, _∙_}
-use Prim.Native.Nat.{_*_, _-_, _≤_}
+use Prim.Native.Nat.{_-_, _≤_}
 use native.Mathlib.Omega.{arith}
 use borrow.Author.Needs.{needs}
 use borrow.Author.Tests.{not-true, not-false}
@@ -12,10 +12,6 @@ use Rattle.gossip_ban_rows.specs.Entry.{entrySound}
 use Rattle.gossip_ban_rows.specs.Rows.{banLayout, banSound}
 use Rattle.gossip_ban_rows.proofs.walk.rules_kept.Statement.{statement}
 use Rattle.gossip_ban_rows.proofs.walk.rules_kept.Tie as tie
-use Rattle.gossip_ban_rows.proofs.walk.rules_kept.Reads as reads
-use Rattle.gossip_ban_rows.proofs.walk.rules_kept.Lts as lts
-use Rattle.gossip_ban_rows.proofs.entry.GossipBanEntry.is_sound.Reads as is-sound-reads
-use Rattle.gossip_ban_rows.proofs.row.entry_at.Reads as entry-at-reads
 
 abbrev Inv-loop : tie.InvT-loop
 Inv-loop table count i₀ i = (i ≤ count) × (every banSound (rows banLayout table count) ≡ every banSound (drop i (rows banLayout table count)))
@@ -23,41 +19,32 @@ Inv-loop table count i₀ i = (i ≤ count) × (every banSound (rows banLayout t
 abbrev μ-loop : tie.MeasureT-loop
 μ-loop table count i₀ i = count - i
 
--- src/walk.rt:18:5
 loop-holds : tie.Need-loop-holds Inv-loop μ-loop
 loop-holds c = (omega arith, refl)
 
--- src/walk.rt:19:33
 mul-entry-at : tie.Need-mul-entry-at Inv-loop μ-loop
 mul-entry-at c = omega arith
 
--- src/walk.rt:19:13
 entry-at-requires : tie.Need-entry-at-requires Inv-loop μ-loop
 entry-at-requires c κs = omega arith
 
--- src/walk.rt:20:13
 is-sound-requires : tie.Need-is-sound-requires Inv-loop μ-loop
 is-sound-requires c κs = search needs
 
--- src/walk.rt:21:13
 returns : tie.Need-returns Inv-loop μ-loop
 returns c = let a = c .before .before .before .before .before .before .args in
     sym (rules-break banLayout banSound (a .table .now) (a .count) (c .before .before .before .before .loop .i) (c .before .before .before .before .loop .inv .1) (omega arith) (ap entrySound (sym (c .before .before .entry-at .ensures)) ∙ sym (c .before .is-sound .ensures) ∙ not-true (c .before .is-sound .result) (c .if1 .taken)))
 
--- src/walk.rt:23:9
 add-i : tie.Need-add-i Inv-loop μ-loop
 add-i c = omega arith
 
--- src/walk.rt:18:5
 loop-less : tie.Need-loop-less Inv-loop μ-loop
 loop-less c = omega arith
 
--- src/walk.rt:18:5
 loop-again : tie.Need-loop-again Inv-loop μ-loop
 loop-again c = let a = c .before .before .before .before .before .before .args in
     (omega arith, rules-go-on banLayout banSound (a .table .now) (a .count) (c .before .before .before .before .loop .i) (c .before .before .before .before .loop .inv .1) (omega arith) (ap entrySound (sym (c .before .before .entry-at .ensures)) ∙ sym (c .before .is-sound .ensures) ∙ not-false (c .before .is-sound .result) (c .if1 .left)))
 
--- src/walk.rt:13:1
 returns-2 : tie.Need-returns-2 Inv-loop μ-loop
 returns-2 c = let a = c .before .before .before .args in
     sym (rules-end banLayout banSound (a .table .now) (a .count) (c .before .loop .i) (c .before .loop .inv .1) (omega arith))

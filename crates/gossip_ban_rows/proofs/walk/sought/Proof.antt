@@ -1,3 +1,4 @@
+-- `gossip_ban_rows::walk::sought` meets its contract: a row that breaks its rule is unsound, and else the raw rows decide (`seek-raw`). Assumes nothing.
 use mathlib.Core.Path.{_≡_, sym, _∙_}
 use native.Mathlib.Omega.{arith}
 use borrow.Author.Tests.{not-true, not-false}
@@ -9,30 +10,21 @@ use Rattle.gossip_ban_rows.specs.Rows.{banLayout, banSound}
 use borrow.Author.Needs.{needs}
 use Rattle.gossip_ban_rows.proofs.walk.sought.Statement.{statement}
 use Rattle.gossip_ban_rows.proofs.walk.sought.Tie as tie
-use Rattle.gossip_ban_rows.proofs.walk.sought.Reads as reads
-use Rattle.gossip_ban_rows.proofs.walk.sought.Lts as lts
-use Rattle.gossip_ban_rows.proofs.walk.rules_kept.Reads as rules-kept-reads
-use Rattle.keyed_rows.proofs.find.find.Reads as find-reads
 
--- src/walk.rt:33:9
 rules-kept-requires : tie.Need-rules-kept-requires
 rules-kept-requires c κs = search needs
 
--- src/walk.rt:34:9
 returns : tie.Need-returns
 returns c = let a = c .before .before .before .args in
     sym (seek-unsound banSound (a .key .bytes) (rows banLayout (a .table .now) (a .count)) .1 (rw (sym (c .before .rules-kept .ensures) ∙ not-true (c .before .rules-kept .result) (c .if1 .taken))))
 
--- src/walk.rt:37:46
 slice-aggregate-find : tie.Need-slice-aggregate-find
 slice-aggregate-find c = search needs
 
--- src/walk.rt:37:5
 find-requires : tie.Need-find-requires
 find-requires c κs = let size : length (c .before .before .before .before .before .args .key .bytes) ≡ 33 = search needs in
     omega arith
 
--- src/walk.rt:29:1
 returns-2 : tie.Need-returns-2
 returns-2 c = let a = c .before .before .before .before .before .before .args in
     let size : length (a .key .bytes) ≡ 33 = search needs in

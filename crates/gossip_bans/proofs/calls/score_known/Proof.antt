@@ -1,3 +1,4 @@
+-- `gossip_bans::calls::score_known` meets its contract: the entry is expired and goes, or it says. Assumes nothing.
 use mathlib.Core.Path.{sym, _∙_}
 use native.Mathlib.Omega.{arith}
 use Rattle.gossip_bans.proofs.Judged.{known-fits, known-look, score-fits}
@@ -5,51 +6,37 @@ use Rattle.gossip_bans.proofs.Turns.{scored-expired, scored-live}
 use borrow.Author.Needs.{needs}
 use Rattle.gossip_bans.proofs.calls.score_known.Statement.{statement}
 use Rattle.gossip_bans.proofs.calls.score_known.Tie as tie
-use Rattle.gossip_bans.proofs.calls.score_known.Reads as reads
-use Rattle.gossip_bans.proofs.calls.score_known.Lts as lts
-use Rattle.gossip_ban_rows.proofs.entry.GossipBanEntry.is_expired.Reads as is-expired-reads
-use Rattle.gossip_ban_rows.proofs.row.entry_at.Reads as entry-at-reads
-use Rattle.gossip_bans.proofs.carry.drop_known.Reads as drop-known-reads
 
--- src/calls.rt:118:29
 mul-entry-at : tie.Need-mul-entry-at
 mul-entry-at c = let a = c .before .before .before .args in
     omega (arith, known-fits (a .t) (a .table .now) (a .peer .bytes) (a .index) (c .before .before .before .pre))
 
--- src/calls.rt:118:9
 entry-at-requires : tie.Need-entry-at-requires
 entry-at-requires c κs = let a = c .before .before .before .args in
     known-fits (a .t) (a .table .now) (a .peer .bytes) (a .index) (c .before .before .before .pre)
 
--- src/calls.rt:119:8
 is-expired-requires : tie.Need-is-expired-requires
 is-expired-requires c κs = search needs
 
--- src/calls.rt:120:13
 drop-known-requires : tie.Need-drop-known-requires
 drop-known-requires c κs = search needs
 
--- src/calls.rt:121:9
 same-length : tie.Need-same-length
 same-length c = search needs
 
--- src/calls.rt:121:9
 returns : tie.Need-returns
 returns c = let a = c .before .before .before .before .before .before .before .before .before .before .args in
     let e = c .before .before .before .before .before .before .entry-at .result in
     scored-expired (a .t) (a .table .now) (a .peer) (a .now-ms) (c .before .before .before .before .before .before .before .before .before .before .pre .is-sound) e (known-look (a .t) (a .table .now) (a .peer .bytes) (a .index) (c .before .before .before .before .before .before .before .before .before .before .pre) e (c .before .before .before .before .before .before .entry-at .ensures))
     (sym (c .before .before .before .before .before .is-expired .ensures) ∙ c .before .before .before .before .if1 .taken) (c .before .before .drop-known .result) _ (c .before .before .drop-known .ensures)
 
--- src/calls.rt:128:31
 cast-t16 : tie.Need-cast-t16
 cast-t16 c = let a = c .before .before .before .before .before .before .before .args in
     omega (arith, score-fits (a .t) (a .table .now) (a .peer .bytes) (a .index) (c .before .before .before .before .before .before .before .pre) (c .before .before .before .entry-at .result) (c .before .before .before .entry-at .ensures))
 
--- src/calls.rt:107:1
 same-length-2 : tie.Need-same-length-2
 same-length-2 c = search needs
 
--- src/calls.rt:107:1
 returns-2 : tie.Need-returns-2
 returns-2 c = let a = c .before .before .before .before .before .before .before .args in
     let e = c .before .before .before .entry-at .result in

@@ -1,3 +1,4 @@
+-- `gossip_bans::calls::standing_known` meets its contract: bans are off, or the entry is expired and goes, or it says. Assumes nothing.
 use mathlib.Core.Path.{sym, _∙_}
 use native.Mathlib.Omega.{arith}
 use Rattle.gossip_bans.proofs.Judged.{known-fits, known-look}
@@ -5,66 +6,46 @@ use Rattle.gossip_bans.proofs.Turns.{standing-off, standing-expired, st
 use borrow.Author.Needs.{needs}
 use Rattle.gossip_bans.proofs.calls.standing_known.Statement.{statement}
 use Rattle.gossip_bans.proofs.calls.standing_known.Tie as tie
-use Rattle.gossip_bans.proofs.calls.standing_known.Reads as reads
-use Rattle.gossip_bans.proofs.calls.standing_known.Lts as lts
-use Rattle.gossip_ban_rows.proofs.entry.GossipBanEntry.is_currently_banned.Reads as is-currently-banned-reads
-use Rattle.gossip_ban_rows.proofs.entry.GossipBanEntry.is_expired.Reads as is-expired-reads
-use Rattle.gossip_ban_rows.proofs.row.entry_at.Reads as entry-at-reads
-use Rattle.gossip_bans.proofs.calls.told.Reads as told-reads
-use Rattle.gossip_bans.proofs.carry.drop_known.Reads as drop-known-reads
-use Rattle.gossip_settings.proofs.ban.GossipBanConfig.is_disabled.Reads as is-disabled-reads
 
--- src/calls.rt:89:8
 is-disabled-requires : tie.Need-is-disabled-requires
 is-disabled-requires c κs = search needs
 
--- src/calls.rt:90:9
 returns : tie.Need-returns
 returns c = let a = c .before .before .before .before .args in
     standing-off (a .t) (a .table .now) (a .peer) (a .now-ms) (c .before .before .before .before .pre .is-sound) (sym (c .before .is-disabled .ensures) ∙ c .if1 .taken)
 
--- src/calls.rt:95:29
 mul-entry-at : tie.Need-mul-entry-at
 mul-entry-at c = let a = c .before .before .before .before .before .args in
     omega (arith, known-fits (a .t) (a .table .now) (a .peer .bytes) (a .index) (c .before .before .before .before .before .pre))
 
--- src/calls.rt:95:9
 entry-at-requires : tie.Need-entry-at-requires
 entry-at-requires c κs = let a = c .before .before .before .before .before .args in
     known-fits (a .t) (a .table .now) (a .peer .bytes) (a .index) (c .before .before .before .before .before .pre)
 
--- src/calls.rt:96:8
 is-expired-requires : tie.Need-is-expired-requires
 is-expired-requires c κs = search needs
 
--- src/calls.rt:97:13
 drop-known-requires : tie.Need-drop-known-requires
 drop-known-requires c κs = search needs
 
--- src/calls.rt:98:9
 same-length : tie.Need-same-length
 same-length c = search needs
 
--- src/calls.rt:98:9
 returns-2 : tie.Need-returns-2
 returns-2 c = let a = c .before .before .before .before .before .before .before .before .before .before .before .before .args in
     let e = c .before .before .before .before .before .before .entry-at .result in
     standing-expired (a .t) (a .table .now) (a .peer) (a .now-ms) (c .before .before .before .before .before .before .before .before .before .before .before .before .pre .is-sound) (sym (c .before .before .before .before .before .before .before .before .before .is-disabled .ensures) ∙ c .before .before .before .before .before .before .before .before .if1 .left) e (known-look (a .t) (a .table .now) (a .peer .bytes) (a .index) (c .before .before .before .before .before .before .before .before .before .before .before .before .pre) e (c .before .before .before .before .before .before .entry-at .ensures))
     (sym (c .before .before .before .before .before .is-expired .ensures) ∙ c .before .before .before .before .if2 .taken) (c .before .before .drop-known .result) _ (c .before .before .drop-known .ensures)
 
--- src/calls.rt:103:23
 is-currently-banned-requires : tie.Need-is-currently-banned-requires
 is-currently-banned-requires c κs = search needs
 
--- src/calls.rt:103:9
 told-requires : tie.Need-told-requires
 told-requires c κs = search needs
 
--- src/calls.rt:78:1
 same-length-2 : tie.Need-same-length-2
 same-length-2 c = search needs
 
--- src/calls.rt:78:1
 returns-3 : tie.Need-returns-3
 returns-3 c = let a = c .before .before .before .before .before .before .before .before .before .before .args in
     let e = c .before .before .before .before .entry-at .result in

@@ -1,3 +1,4 @@
+-- `gossip_bans::calls::violation_known` meets its contract: bans are off, or the entry is stored over (`violated-known`). Assumes nothing.
 use mathlib.Core.Path.{sym, _∙_}
 use native.Mathlib.Omega.{arith}
 use Rattle.gossip_bans.proofs.Judged.{known-fits, known-look}
@@ -5,70 +6,46 @@ use Rattle.gossip_bans.proofs.Turns.{violated-off, violated-known}
 use borrow.Author.Needs.{needs}
 use Rattle.gossip_bans.proofs.calls.violation_known.Statement.{statement}
 use Rattle.gossip_bans.proofs.calls.violation_known.Tie as tie
-use Rattle.gossip_bans.proofs.calls.violation_known.Reads as reads
-use Rattle.gossip_bans.proofs.calls.violation_known.Lts as lts
-use Rattle.gossip_ban_rows.proofs.entry.banned_if_reached.Reads as banned-if-reached-reads
-use Rattle.gossip_ban_rows.proofs.entry.raised.Reads as raised-reads
-use Rattle.gossip_ban_rows.proofs.entry.reaches.Reads as reaches-reads
-use Rattle.gossip_ban_rows.proofs.entry.unexpired_or_default.Reads as unexpired-or-default-reads
-use Rattle.gossip_ban_rows.proofs.row.entry_at.Reads as entry-at-reads
-use Rattle.gossip_bans.proofs.calls.told.Reads as told-reads
-use Rattle.gossip_bans.proofs.carry.store_known.Reads as store-known-reads
-use Rattle.gossip_settings.proofs.ban.GossipBanConfig.is_disabled.Reads as is-disabled-reads
-use Rattle.gossip_settings.proofs.violation.GossipViolation.score.Reads as score-reads
 
--- src/calls.rt:38:8
 is-disabled-requires : tie.Need-is-disabled-requires
 is-disabled-requires c κs = search needs
 
--- src/calls.rt:39:9
 returns : tie.Need-returns
 returns c = let a = c .before .before .before .before .args in
     violated-off (a .t) (a .table .now) (a .peer) (a .violation) (a .now-ms) (c .before .before .before .before .pre .is-sound) (sym (c .before .is-disabled .ensures) ∙ c .if1 .taken)
 
--- src/calls.rt:44:33
 mul-entry-at : tie.Need-mul-entry-at
 mul-entry-at c = let a = c .before .before .before .before .before .args in
     omega (arith, known-fits (a .t) (a .table .now) (a .peer .bytes) (a .index) (c .before .before .before .before .before .pre))
 
--- src/calls.rt:44:9
 entry-at-requires : tie.Need-entry-at-requires
 entry-at-requires c κs = let a = c .before .before .before .before .before .args in
     known-fits (a .t) (a .table .now) (a .peer .bytes) (a .index) (c .before .before .before .before .before .pre)
 
--- src/calls.rt:45:9
 unexpired-or-default-requires : tie.Need-unexpired-or-default-requires
 unexpired-or-default-requires c κs = search needs
 
--- src/calls.rt:46:38
 score-requires : tie.Need-score-requires
 score-requires c κs = search needs
 
--- src/calls.rt:46:9
 raised-requires : tie.Need-raised-requires
 raised-requires c κs = search needs
 
--- src/calls.rt:47:23
 reaches-requires : tie.Need-reaches-requires
 reaches-requires c κs = search needs
 
--- src/calls.rt:47:9
 told-requires : tie.Need-told-requires
 told-requires c κs = search needs
 
--- src/calls.rt:48:9
 banned-if-reached-requires : tie.Need-banned-if-reached-requires
 banned-if-reached-requires c κs = search needs
 
--- src/calls.rt:49:9
 store-known-requires : tie.Need-store-known-requires
 store-known-requires c κs = search needs
 
--- src/calls.rt:26:1
 same-length : tie.Need-same-length
 same-length c = search needs
 
--- src/calls.rt:26:1
 returns-2 : tie.Need-returns-2
 returns-2 c = let a = c .before .before .before .before .before .before .before .before .before .before .before .before .before .before .before .before .args in
     violated-known (a .t) (a .table .now) (a .peer) (a .violation) (a .now-ms) (c .before .before .before .before .before .before .before .before .before .before .before .before .before .before .before .before .pre .is-sound) (sym (c .before .before .before .before .before .before .before .before .before .before .before .before .before .is-disabled .ensures) ∙ c .before .before .before .before .before .before .before .before .before .before .before .before .if1 .left) (c .before .before .store-known .result) _ (c .before .before .before .before .before .before .before .before .score .result) (c .before .before .before .before .before .before .before .before .score .ensures)

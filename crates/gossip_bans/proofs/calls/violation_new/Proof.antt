@@ -1,62 +1,42 @@
+-- `gossip_bans::calls::violation_new` meets its contract: bans are off, or an entry is stored where room was made (`violated-new`). Assumes nothing.
 use mathlib.Core.Path.{sym, _∙_}
 use Rattle.gossip_bans.proofs.Judged.{unknown-look}
 use Rattle.gossip_bans.proofs.Turns.{violated-off, violated-new}
 use borrow.Author.Needs.{needs}
 use Rattle.gossip_bans.proofs.calls.violation_new.Statement.{statement}
 use Rattle.gossip_bans.proofs.calls.violation_new.Tie as tie
-use Rattle.gossip_bans.proofs.calls.violation_new.Reads as reads
-use Rattle.gossip_bans.proofs.calls.violation_new.Lts as lts
-use Rattle.gossip_ban_rows.proofs.entry.GossipBanEntry.default.Reads as default-reads
-use Rattle.gossip_ban_rows.proofs.entry.banned_if_reached.Reads as banned-if-reached-reads
-use Rattle.gossip_ban_rows.proofs.entry.raised.Reads as raised-reads
-use Rattle.gossip_ban_rows.proofs.entry.reaches.Reads as reaches-reads
-use Rattle.gossip_bans.proofs.calls.told.Reads as told-reads
-use Rattle.gossip_bans.proofs.carry.store_new.Reads as store-new-reads
-use Rattle.gossip_settings.proofs.ban.GossipBanConfig.is_disabled.Reads as is-disabled-reads
-use Rattle.gossip_settings.proofs.violation.GossipViolation.score.Reads as score-reads
 
--- src/calls.rt:65:8
 is-disabled-requires : tie.Need-is-disabled-requires
 is-disabled-requires c κs = search needs
 
--- src/calls.rt:66:9
 returns : tie.Need-returns
 returns c = let a = c .before .before .before .before .args in
     violated-off (a .t) (a .table .now) (a .peer) (a .violation) (a .now-ms) (c .before .before .before .before .pre .is-sound) (sym (c .before .is-disabled .ensures) ∙ c .if1 .taken)
 
--- src/calls.rt:71:32
 default-requires : tie.Need-default-requires
 default-requires c κs = search needs
 
--- src/calls.rt:71:59
 score-requires : tie.Need-score-requires
 score-requires c κs = search needs
 
--- src/calls.rt:71:9
 raised-requires : tie.Need-raised-requires
 raised-requires c κs = search needs
 
--- src/calls.rt:72:23
 reaches-requires : tie.Need-reaches-requires
 reaches-requires c κs = search needs
 
--- src/calls.rt:72:9
 told-requires : tie.Need-told-requires
 told-requires c κs = search needs
 
--- src/calls.rt:73:9
 banned-if-reached-requires : tie.Need-banned-if-reached-requires
 banned-if-reached-requires c κs = search needs
 
--- src/calls.rt:74:9
 store-new-requires : tie.Need-store-new-requires
 store-new-requires c κs = search needs
 
--- src/calls.rt:53:1
 same-length : tie.Need-same-length
 same-length c = search needs
 
--- src/calls.rt:53:1
 returns-2 : tie.Need-returns-2
 returns-2 c = let a = c .before .before .before .before .before .before .before .before .before .before .before .before .before .before .args in
     violated-new (a .t) (a .table .now) (a .peer) (a .violation) (a .now-ms) (c .before .before .before .before .before .before .before .before .before .before .before .before .before .before .pre .is-sound) (sym (c .before .before .before .before .before .before .before .before .before .before .before .is-disabled .ensures) ∙ c .before .before .before .before .before .before .before .before .before .before .if1 .left) (c .before .before .store-new .result) _ (c .before .before .before .before .before .before .before .before .score .result) (c .before .before .before .before .before .before .before .before .score .ensures)

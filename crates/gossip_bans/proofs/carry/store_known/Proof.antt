@@ -1,22 +1,17 @@
+-- `gossip_bans::carry::store_known` meets its contract: a write over the peer's row is a store (`left-over`). Assumes nothing.
 use Rattle.gossip_bans.proofs.Judged.{known-inside, rows-fit}
 use Rattle.gossip_bans.proofs.Carried.{left-over}
 use borrow.Author.Needs.{needs}
 use Rattle.gossip_bans.proofs.carry.store_known.Statement.{statement}
 use Rattle.gossip_bans.proofs.carry.store_known.Tie as tie
-use Rattle.gossip_bans.proofs.carry.store_known.Reads as reads
-use Rattle.gossip_bans.proofs.carry.store_known.Lts as lts
-use Rattle.gossip_ban_rows.proofs.place.overwrite_at.Reads as overwrite-at-reads
 
--- src/carry.rt:38:5
 overwrite-at-requires : tie.Need-overwrite-at-requires
 overwrite-at-requires c κs = let a = c .before .before .args in
     (known-inside (a .t) (a .table .now) (a .peer .bytes) (a .index) (c .before .before .pre), rows-fit (a .t) (a .table .now) (c .before .before .pre .is-sound))
 
--- src/carry.rt:28:1
 same-length : tie.Need-same-length
 same-length c = search needs
 
--- src/carry.rt:28:1
 returns : tie.Need-returns
 returns c = let a = c .before .before .before .before .before .args in
     left-over (a .t) (a .table .now) _ (a .peer .bytes) (a .index) (c .before .before .before .before .before .pre) (a .e) (c .before .before .overwrite-at .ensures)

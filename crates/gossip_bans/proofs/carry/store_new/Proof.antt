@@ -1,39 +1,28 @@
+-- `gossip_bans::carry::store_new` meets its contract: room is made and the entry stored, and two changes are one (`left-new`). Assumes nothing.
 use native.Mathlib.Omega.{arith}
 use Rattle.gossip_bans.proofs.Judged.{rows-fit}
 use Rattle.gossip_bans.proofs.Carried.{one-more-fits, left-new}
 use borrow.Author.Needs.{needs}
 use Rattle.gossip_bans.proofs.carry.store_new.Statement.{statement}
 use Rattle.gossip_bans.proofs.carry.store_new.Tie as tie
-use Rattle.gossip_bans.proofs.carry.store_new.Reads as reads
-use Rattle.gossip_bans.proofs.carry.store_new.Lts as lts
-use Rattle.gossip_ban_rows.proofs.place.store.Reads as store-reads
-use Rattle.gossip_ban_rows.proofs.room.make_room.Reads as make-room-reads
-use Rattle.gossip_bans.proofs.carry.with_rows.Reads as with-rows-reads
-use Rattle.gossip_bans.proofs.judge.limit_of.Reads as limit-of-reads
 
--- src/carry.rt:55:9
 limit-of-requires : tie.Need-limit-of-requires
 limit-of-requires c κs = search needs
 
--- src/carry.rt:56:9
 make-room-requires : tie.Need-make-room-requires
 make-room-requires c κs = let a = c .before .before .before .args in
     omega (arith, c .before .limit-of .ensures, rows-fit (a .t) (a .table .now) (c .before .before .before .pre .is-sound))
 
--- src/carry.rt:57:9
 store-requires : tie.Need-store-requires
 store-requires c κs = let a = c .before .before .before .before .before .before .before .args in
     omega (arith, one-more-fits (a .t) (a .table .now) (a .peer .bytes) (a .gap) (a .now-ms) (c .before .before .before .before .before .limit-of .result) (c .before .before .before .before .before .before .before .pre) (c .before .before .before .before .before .limit-of .ensures) (c .before .before .before .make-room .result) (c .before .before .before .make-room .ensures .1))
 
--- src/carry.rt:58:5
 with-rows-requires : tie.Need-with-rows-requires
 with-rows-requires c κs = search needs
 
--- src/carry.rt:43:1
 same-length : tie.Need-same-length
 same-length c = search needs
 
--- src/carry.rt:43:1
 returns : tie.Need-returns
 returns c = let a = c .before .before .before .before .before .before .before .before .before .before .before .args in
     rw (c .with-rows .ensures) (left-new (a .t) (a .table .now) (a .peer .bytes) (a .gap) (a .now-ms) (c .before .before .before .before .before .before .before .before .before .limit-of .result) (c .before .before .before .before .before .before .before .before .before .before .before .pre) (c .before .before .before .before .before .before .before .before .before .limit-of .ensures) (λ i. c .before .before .before .before .before .before .before .before .before .before .slice-known .given i .fits) _ (c .before .before .before .before .before .before .before .make-room .result) (c .before .before .before .before .before .before .before .make-room .ensures) _ (c .before .before .before .store .result) (a .e) (c .before .before .before .store .ensures))

@@ -1,3 +1,4 @@
+-- `gossip_bans::judge::sought` meets its contract: the record, then the length, then the rows. Assumes nothing.
 use mathlib.Core.Path.{sym, _∙_}
 use native.Mathlib.Omega.{arith}
 use borrow.Author.Tests.{not-true, not-false}
@@ -6,36 +7,25 @@ use Rattle.gossip_bans.proofs.Judged.{sought-own, sought-length, sought
 use borrow.Author.Needs.{needs}
 use Rattle.gossip_bans.proofs.judge.sought.Statement.{statement}
 use Rattle.gossip_bans.proofs.judge.sought.Tie as tie
-use Rattle.gossip_bans.proofs.judge.sought.Reads as reads
-use Rattle.gossip_bans.proofs.judge.sought.Lts as lts
-use Rattle.gossip_ban_rows.proofs.walk.sought.Reads as sought-reads
-use Rattle.gossip_bans.proofs.judge.is_sound.Reads as is-sound-reads
-use Rattle.gossip_bans.proofs.judge.limit_of.Reads as limit-of-reads
 
--- src/judge.rt:30:9
 is-sound-requires : tie.Need-is-sound-requires
 is-sound-requires c κs = search needs
 
--- src/judge.rt:31:9
 returns : tie.Need-returns
 returns c = let a = c .before .before .before .args in
     sym (sought-own (a .t) (a .table .now) (a .peer .bytes) (sym (c .before .is-sound .ensures) ∙ not-true (c .before .is-sound .result) (c .if1 .taken)))
 
--- src/judge.rt:33:38
 limit-of-requires : tie.Need-limit-of-requires
 limit-of-requires c κs = search needs
 
--- src/judge.rt:34:9
 returns-2 : tie.Need-returns-2
 returns-2 c = let a = c .before .before .before .before .before .args in
     sym (sought-length (a .t) (a .table .now) (a .peer .bytes) (sym (c .before .before .before .is-sound .ensures) ∙ not-false (c .before .before .before .is-sound .result) (c .before .before .if1 .left)) (omega (arith, c .if2 .taken, c .before .limit-of .ensures)))
 
--- src/judge.rt:36:5
 sought-requires : tie.Need-sought-requires
 sought-requires c κs = let a = c .before .before .before .before .before .args in
     omega (arith, rows-within (a .t) (sym (c .before .before .before .is-sound .ensures) ∙ not-false (c .before .before .before .is-sound .result) (c .before .before .if1 .left)), c .if2 .left, c .before .limit-of .ensures)
 
--- src/judge.rt:27:1
 returns-3 : tie.Need-returns-3
 returns-3 c = let a = c .before .before .before .before .before .before .args in
     c .sought .ensures ∙ sym (sought-rows (a .t) (a .table .now) (a .peer .bytes) (sym (c .before .before .before .before .is-sound .ensures) ∙ not-false (c .before .before .before .before .is-sound .result) (c .before .before .before .if1 .left)) (omega (arith, c .before .if2 .left, c .before .before .limit-of .ensures)))

@@ -1,57 +1,43 @@
+-- `gossip_bans::tracker::GossipBanTracker::is_banned` meets its contract: by what is found. Assumes nothing.
 use mathlib.Core.Path.{sym, _∙_}
 use Rattle.gossip_bans.proofs.Judged.{sought-unsound, sought-known, sought-unknown, unknown-look}
 use Rattle.gossip_bans.proofs.Turns.{standing-unsound, standing-absent}
 use borrow.Author.Needs.{needs}
 use Rattle.gossip_bans.proofs.tracker.GossipBanTracker.is_banned.Statement.{statement}
 use Rattle.gossip_bans.proofs.tracker.GossipBanTracker.is_banned.Tie as tie
-use Rattle.gossip_bans.proofs.tracker.GossipBanTracker.is_banned.Reads as reads
-use Rattle.gossip_bans.proofs.tracker.GossipBanTracker.is_banned.Lts as lts
-use Rattle.gossip_bans.proofs.calls.standing_known.Reads as standing-known-reads
-use Rattle.gossip_bans.proofs.judge.sought.Reads as sought-reads
 
--- src/tracker.rt:86:13
 sought-requires : tie.Need-sought-requires
 sought-requires c κs = search needs
 
--- src/tracker.rt:90:25
 enum-told : tie.Need-enum-told
 enum-told c = search needs
 
--- src/tracker.rt:92:22
 enum-known-found : tie.Need-enum-known-found
 enum-known-found c = search needs
 
--- src/tracker.rt:92:32
 standing-known-requires : tie.Need-standing-known-requires
 standing-known-requires c κs = let a = c .before .before .before .before .before .before .before .args in
     sought-known (a .self) (a .table .now) (a .peer .bytes) (sym (c .before .before .before .before .sought .ensures) ∙ c .before .before .found .given .1)
 
--- src/tracker.rt:95:25
 enum-told-2 : tie.Need-enum-told-2
 enum-told-2 c = search needs
 
--- src/tracker.rt:83:5
 same-length : tie.Need-same-length
 same-length c = search needs
 
--- src/tracker.rt:83:5
 returns : tie.Need-returns
 returns c = let a = c .before .before .before .before .before .args in
     standing-unsound (a .self) (a .table .now) (a .peer) (a .now-ms) (sought-unsound (a .self) (a .table .now) (a .peer .bytes) (sym (c .before .before .sought .ensures) ∙ c .enum-told .given .1))
 
--- src/tracker.rt:83:5
 same-length-2 : tie.Need-same-length-2
 same-length-2 c = search needs
 
--- src/tracker.rt:83:5
 returns-2 : tie.Need-returns-2
-returns-2 c = search needs
+returns-2 c = c .before .before .standing-known .ensures
 
--- src/tracker.rt:83:5
 same-length-3 : tie.Need-same-length-3
 same-length-3 c = search needs
 
--- src/tracker.rt:83:5
 returns-3 : tie.Need-returns-3
 returns-3 c = let a = c .before .before .before .before .before .args in
     let u = sought-unknown (a .self) (a .table .now) (a .peer .bytes) (sym (c .before .before .sought .ensures) ∙ c .enum-told2 .given .1) in

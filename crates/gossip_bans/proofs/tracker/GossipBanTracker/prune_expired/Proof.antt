@@ -1,3 +1,4 @@
+-- `gossip_bans::tracker::GossipBanTracker::prune_expired` meets its contract: judged, then pruned. Assumes nothing.
 use mathlib.Core.Path.{sym, _∙_}
 use borrow.Author.Tests.{not-true, not-false}
 use Rattle.gossip_bans.proofs.Judged.{rows-fit}
@@ -6,39 +7,27 @@ use Rattle.gossip_bans.proofs.Turns.{pruned-unsound, pruned-done}
 use borrow.Author.Needs.{needs}
 use Rattle.gossip_bans.proofs.tracker.GossipBanTracker.prune_expired.Statement.{statement}
 use Rattle.gossip_bans.proofs.tracker.GossipBanTracker.prune_expired.Tie as tie
-use Rattle.gossip_bans.proofs.tracker.GossipBanTracker.prune_expired.Reads as reads
-use Rattle.gossip_bans.proofs.tracker.GossipBanTracker.prune_expired.Lts as lts
-use Rattle.gossip_ban_rows.proofs.room.prune_expired.Reads as prune-expired-reads
-use Rattle.gossip_bans.proofs.carry.with_rows.Reads as with-rows-reads
-use Rattle.gossip_bans.proofs.judge.is_sound_in.Reads as is-sound-in-reads
 
--- src/tracker.rt:122:13
 is-sound-in-requires : tie.Need-is-sound-in-requires
 is-sound-in-requires c κs = search needs
 
--- src/tracker.rt:123:13
 same-length : tie.Need-same-length
 same-length c = search needs
 
--- src/tracker.rt:123:13
 returns : tie.Need-returns
 returns c = let a = c .before .before .before .before .args in
     pruned-unsound (a .self) (a .table .now) (a .now-ms) (sym (c .before .is-sound-in .ensures) ∙ not-true (c .before .is-sound-in .result) (c .if1 .taken))
 
--- src/tracker.rt:129:13
 prune-expired-requires : tie.Need-prune-expired-requires
 prune-expired-requires c κs = let a = c .before .before .before .before .before .args in
     rows-fit (a .self) (a .table .now) (sym (c .before .before .is-sound-in .ensures) ∙ not-false (c .before .before .is-sound-in .result) (c .before .if1 .left))
 
--- src/tracker.rt:135:13
 with-rows-requires : tie.Need-with-rows-requires
 with-rows-requires c κs = search needs
 
--- src/tracker.rt:119:5
 same-length-2 : tie.Need-same-length-2
 same-length-2 c = search needs
 
--- src/tracker.rt:119:5
 returns-2 : tie.Need-returns-2
 returns-2 c = let a = c .before .before .before .before .before .before .before .before .before .args in
     rw (c .with-rows .ensures) (pruned-done (a .self) (a .table .now) (a .now-ms) (sym (c .before .before .before .before .before .before .is-sound-in .ensures) ∙ not-false (c .before .before .before .before .before .before .is-sound-in .result) (c .before .before .before .before .before .if1 .left)) _ _ (left-counted (a .self) (a .table .now) _ (c .before .before .before .prune-expired .result) _ (c .before .before .before .prune-expired .ensures)))

@@ -1,41 +1,30 @@
+-- `gossip_bans::tracker::GossipBanTracker::with_max_entries` meets its contract: by its two tests. Assumes nothing.
 use mathlib.Core.Path.{ap, _∙_}
 use Prim.Native.Nat.{ℕ, _*_}
 use native.Mathlib.Omega.{arith}
 use Rattle.lent_bytes.specs.LentBytes.{put, zeros}
 use Rattle.gossip_bans.proofs.Turns.{made-large, made-short, made-fresh}
 use borrow.Author.Needs.{needs}
-use Rattle.gossip_bans.proofs.tracker.GossipBanTracker.with_max_entries.Statement.{
-  statement,
-}
+use Rattle.gossip_bans.proofs.tracker.GossipBanTracker.with_max_entries.Statement.{statement}
 use Rattle.gossip_bans.proofs.tracker.GossipBanTracker.with_max_entries.Tie as tie
-use Rattle.gossip_bans.proofs.tracker.GossipBanTracker.with_max_entries.Reads as reads
-use Rattle.gossip_bans.proofs.tracker.GossipBanTracker.with_max_entries.Lts as lts
-use Rattle.gossip_bans.proofs.judge.limit_of.Reads as limit-of-reads
-use Rattle.table.proofs.rows.zero_rows.Reads as zero-rows-reads
 
--- src/tracker.rt:47:13
 returns : tie.Need-returns
 returns c = let a = c .before .before .args in
     made-large (a .config) (a .max-entries) (a .table .now) (c .if1 .taken)
 
--- src/tracker.rt:49:13
 limit-of-requires : tie.Need-limit-of-requires
 limit-of-requires c κs = search needs
 
--- src/tracker.rt:51:13
 returns-2 : tie.Need-returns-2
 returns-2 c = let a = c .before .before .before .before .args in
     made-short (a .config) (a .max-entries) (a .table .now) (c .before .before .if1 .left) (omega (arith, c .if2 .taken, c .before .limit-of .ensures))
 
--- src/tracker.rt:53:9
 zero-rows-requires : tie.Need-zero-rows-requires
 zero-rows-requires c κs = search needs
 
--- src/tracker.rt:39:5
 same-length : tie.Need-same-length
 same-length c = search needs
 
--- src/tracker.rt:39:5
 returns-3 : tie.Need-returns-3
 returns-3 c = let a = c .before .before .before .before .before .before .before .before .args in
     made-fresh (a .config) (a .max-entries) (a .table .now) (c .before .before .before .before .before .before .if1 .left) (omega (arith, c .before .before .before .before .if2 .left, c .before .before .before .before .before .limit-of .ensures)) _ (c .before .before .zero-rows .ensures ∙ ap (λ (n : ℕ). put (a .table .now) 0 (zeros (65 * n))) (c .before .before .before .before .before .limit-of .ensures))
