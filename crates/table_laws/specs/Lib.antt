@@ -14,3 +14,4 @@ pub mod Kept
 pub mod KeptLaws
 pub mod RuleLaws
 pub mod StoreLaws
+pub mod MapLaws
