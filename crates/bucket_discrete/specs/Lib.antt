@@ -1,2 +1,4 @@
 pub mod DiscreteBucket
 pub mod DiscreteBucketLaws
+pub mod ElapsedLaws
+pub mod LevelLaws

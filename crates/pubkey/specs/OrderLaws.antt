@@ -361,3 +361,6 @@ limiter-key-new-outcome p o side = one-outcome
 pub limiter-key-compare-outcome : (a b : ChannelUpdateLimiterKey) {r s : Ordering}
     → r ≡ compareLimiterKeys a b → s ≡ compareLimiterKeys a b → r ≡ s
 limiter-key-compare-outcome a b = one-outcome
+
+pub limiter-key-bytes-outcome : (k : ChannelUpdateLimiterKey) {r s : List ℕ} → r ≡ limiterKeyBytes k → s ≡ limiterKeyBytes k → r ≡ s
+limiter-key-bytes-outcome k = one-outcome

@@ -5,7 +5,7 @@
 pub mod order;
 
 ghost use mathlib.Core.Path.{_≡_};
-ghost use Rattle.pubkey.specs.Order.{_then_, compareBytes, compareSides, compareLimiterKeys, limiterKey};
+ghost use Rattle.pubkey.specs.Order.{_then_, compareBytes, compareSides, compareLimiterKeys, limiterKey, limiterKeyBytes, sideByte};
 
 // The answer of a comparison, as `std::cmp::Ordering` has it.
 pub enum Ordering {
@@ -97,6 +97,13 @@ fn compare_sides(a: bool, b: bool) -> Ordering
     }
 }
 
+// A side as a byte, so that bytes are ordered as the sides are.
+fn side_byte(side: bool) -> u8
+    ensures { λ r. ⌜ r ≡ sideByte side ⌝ }
+{
+    if side { 1 } else { 0 }
+}
+
 impl ChannelUpdateLimiterKey {
     // The key of a peer's updates for one side of a channel.
     pub fn new(peer: Pubkey, channel_outpoint: OutPoint, is_node1: bool) -> Self
@@ -107,6 +114,19 @@ impl ChannelUpdateLimiterKey {
             channel_outpoint: channel_outpoint,
             is_node1: is_node1,
         }
+    }
+
+    // The 70 bytes that a table's row begins with: the peer, the OutPoint, and the side as 0 or 1.
+    pub fn bytes(self) -> [u8; 70]
+        ensures { λ r. ⌜ r ≡ limiterKeyBytes self ⌝ }
+    {
+        let peer = self.peer.bytes;
+        let outpoint = self.channel_outpoint.bytes;
+        let mut bytes: [u8; 70] = [0; 70];
+        lent_bytes::run::put_slice(&mut bytes, 0, &peer);
+        lent_bytes::run::put_slice(&mut bytes, 33, &outpoint);
+        bytes[69] = side_byte(self.is_node1);
+        bytes
     }
 
     // Which of two keys comes first: by peer, then by OutPoint, then by side.

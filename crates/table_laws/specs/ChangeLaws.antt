@@ -156,7 +156,7 @@ holds-holds {L = L} ok s t u n rs qs f h first second =
 -- ---- from raw rows to those of any layout ----
 
 -- a store leaves at most one row more
-length-store-most : {A : Type 0} (k : List ℕ) (e : A) (rs : List (Row A)) → length (store k e rs) ≤ length rs + 1
+pub length-store-most : {A : Type 0} (k : List ℕ) (e : A) (rs : List (Row A)) → length (store k e rs) ≤ length rs + 1
 length-store-most {A} k e rs = by (look k rs) refl
   where
     by : (found : Option A) → look k rs ≡ found → length (store k e rs) ≤ length rs + 1

@@ -16,3 +16,4 @@ pub mod Room
 pub mod RoomLaws
 pub mod RuleLaws
 pub mod StoreLaws
+pub mod MapLaws

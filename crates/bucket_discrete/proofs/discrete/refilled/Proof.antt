@@ -1,4 +1,4 @@
-use Rattle.bucket_discrete.proofs.Elapsed.{counted-within-elapsed}
+use Rattle.bucket_discrete.specs.ElapsedLaws.{counted-within-elapsed}
 use Prim.Native.Nat.{_-_}
 use native.Mathlib.Omega.{arith}
 use borrow.Author.Tests.{lt-leb, le-leb, eq-eqb, ne-eqb}

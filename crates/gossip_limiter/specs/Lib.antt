@@ -1,0 +1,4 @@
+pub mod Limiter
+pub mod Calls
+pub mod Carry
+pub mod LimiterLaws

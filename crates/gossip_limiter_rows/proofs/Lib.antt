@@ -1,0 +1,2 @@
+pub mod Buckets
+pub mod Pruning

@@ -1,0 +1,59 @@
+-- `place::store` meets its contract (`stored-under`). Assumes nothing.
+use mathlib.Core.Path.{_≡_, ap}
+use native.Mathlib.Omega.{arith}
+use lib.ListN.{length}
+use Rattle.table.specs.Memory.{wordBytes}
+use Rattle.table_laws.specs.ChangeLaws.{stored-under}
+use Rattle.gossip_limiter_rows.specs.RowsLaws.{limiter-faithful}
+use borrow.Author.Needs.{needs}
+use Rattle.gossip_limiter_rows.proofs.place.store.Statement.{statement}
+use Rattle.gossip_limiter_rows.proofs.place.store.Tie as tie
+use Rattle.gossip_limiter_rows.proofs.place.store.Reads as reads
+use Rattle.gossip_limiter_rows.proofs.place.store.Lts as lts
+use Rattle.gossip_limiter_rows.proofs.row.words_of.Reads as words-of-reads
+use Rattle.keyed_rows.proofs.change.store.Reads as store-reads
+use Rattle.pubkey.proofs.ChannelUpdateLimiterKey.bytes.Reads as bytes-reads
+
+-- src/place.rt:35:17
+words-of-requires : tie.Need-words-of-requires
+words-of-requires c κs = search needs
+
+-- src/place.rt:36:17
+bytes-requires : tie.Need-bytes-requires
+bytes-requires c κs = search needs
+
+-- src/place.rt:37:49
+slice-aggregate-store : tie.Need-slice-aggregate-store
+slice-aggregate-store c = search needs
+
+-- src/place.rt:37:57
+slice-aggregate-store-2 : tie.Need-slice-aggregate-store-2
+slice-aggregate-store-2 c = search needs
+
+-- src/place.rt:37:5
+store-requires : tie.Need-store-requires
+store-requires c κs = search needs
+
+-- src/place.rt:26:1
+same-length : tie.Need-same-length
+same-length c = search needs
+
+-- src/place.rt:26:1
+returns : tie.Need-returns
+returns c = let a = c .before .before .before .before .before .before .before .before .before .args in
+    let good = c .before .before .before .before .before .before .before .before .before .good in
+    let size : length (c .before .before .before .before .before .before .bytes .result) ≡ 70 = search needs in
+    rw (← c .before .before .before .before .before .before .bytes .ensures) (stored-under limiter-faithful (a .table .now) _ (a .count) (c .before .before .store .result) (c .before .before .before .before .before .before .bytes .result) (a .e) (wordBytes (c .before .before .before .before .before .before .before .words-of .result)) (λ i. c .slice-known2 .given i .fits) (omega (arith, c .before .before .before .before .before .before .before .before .before .pre))
+    (omega (arith, good), (omega (arith, good), (omega (arith, good), tt))) (ap wordBytes (c .before .before .before .before .before .before .before .words-of .ensures)) size (c .before .before .store .ensures))
+
+pub store-spec : {M : Type 1} → statement M
+store-spec =
+    tie.close
+    (tie.spec
+    words-of-requires
+    bytes-requires
+    slice-aggregate-store
+    slice-aggregate-store-2
+    store-requires
+    same-length
+    returns)
