@@ -2,3 +2,4 @@ pub mod ByteBucket
 pub mod Natural
 pub mod NaturalLaws
 pub mod ByteBucketLaws
+pub mod KeptLaws

@@ -170,7 +170,8 @@ impl ByteTokenBucket {
     }
 }
 
-fn is_sound(b: ByteTokenBucket) -> bool
+// The rules of a bucket: an i128, no minus zero, and never above the burst. Public for crates that keep buckets of their own.
+pub fn is_sound(b: ByteTokenBucket) -> bool
     ensures { λ r. ⌜ r ≡ byteSound b ⌝ }
 {
     let available = b.available_bytes;

@@ -1,0 +1,46 @@
+use Rattle.gossip_outbound_rows.specs.Entry.{entryOf}
+use borrow.Author.Needs.{needs}
+use Rattle.gossip_outbound_rows.proofs.entry.entry_of.Statement.{statement}
+use Rattle.gossip_outbound_rows.proofs.entry.entry_of.Tie as tie
+use Rattle.gossip_outbound_rows.proofs.entry.entry_of.Reads as reads
+use Rattle.gossip_outbound_rows.proofs.entry.entry_of.Lts as lts
+use Rattle.gossip_outbound_rows.proofs.entry.joined.Reads as joined-reads
+use Rattle.gossip_outbound_rows.proofs.entry.sign_of.Reads as sign-of-reads
+
+sign-of-requires : tie.Need-sign-of-requires
+sign-of-requires c κs = search needs
+
+array-read-joined : tie.Need-array-read-joined
+array-read-joined c = search needs
+
+array-read-joined-2 : tie.Need-array-read-joined-2
+array-read-joined-2 c = search needs
+
+joined-requires : tie.Need-joined-requires
+joined-requires c κs = search needs
+
+array-read-joined-3 : tie.Need-array-read-joined-3
+array-read-joined-3 c = search needs
+
+array-read-joined-4 : tie.Need-array-read-joined-4
+array-read-joined-4 c = search needs
+
+joined-requires-2 : tie.Need-joined-requires-2
+joined-requires-2 c κs = search needs
+
+returns : tie.Need-returns
+unfolding entryOf
+returns c = rw (c .before .before .sign-of .ensures, c .before .joined .ensures, c .joined2 .ensures)
+
+pub entry-of-spec : {M : Type 1} → statement M
+entry-of-spec =
+    tie.close
+    (tie.spec
+    sign-of-requires
+    array-read-joined
+    array-read-joined-2
+    joined-requires
+    array-read-joined-3
+    array-read-joined-4
+    joined-requires-2
+    returns)

@@ -1,0 +1,4 @@
+pub mod Entry
+pub mod EntryLaws
+pub mod Rows
+pub mod RowsLaws
