@@ -1,7 +1,7 @@
--- `amounts::words_of` meets its contract. Assumes nothing.
+-- `amount_words::words_of` meets its contract. Assumes nothing.
 use borrow.Author.Needs.{needs}
-use Rattle.c_buckets.proofs.amounts.words_of.Statement.{statement}
-use Rattle.c_buckets.proofs.amounts.words_of.Tie as tie
+use Rattle.c_terms.proofs.amount_words.words_of.Statement.{statement}
+use Rattle.c_terms.proofs.amount_words.words_of.Tie as tie
 
 array-read-t6 : tie.Need-array-read-t6
 array-read-t6 c = search needs

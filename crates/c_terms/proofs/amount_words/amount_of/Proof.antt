@@ -1,8 +1,8 @@
--- `amounts::amount_of` meets its contract. Assumes nothing.
+-- `amount_words::amount_of` meets its contract. Assumes nothing.
 use borrow.Author.Tests.{eq-eqb, ne-eqb}
 use borrow.Author.Needs.{needs}
-use Rattle.c_buckets.proofs.amounts.amount_of.Statement.{statement}
-use Rattle.c_buckets.proofs.amounts.amount_of.Tie as tie
+use Rattle.c_terms.proofs.amount_words.amount_of.Statement.{statement}
+use Rattle.c_terms.proofs.amount_words.amount_of.Tie as tie
 
 element-copy-out-if1 : tie.Need-element-copy-out-if1
 element-copy-out-if1 c = search needs

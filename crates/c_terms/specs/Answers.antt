@@ -11,7 +11,7 @@ use Rattle.bucket_terms.specs.declared.answer.Delay.{Delay}
 use Rattle.bucket_terms.specs.declared.answer.Delay.the-variants as Delay
 use Rattle.bucket_terms.specs.declared.answer.Told.{Told}
 use Rattle.bucket_terms.specs.declared.answer.Told.the-variants as Told
-use Rattle.c_buckets.specs.declared.said.Said.{Said}
+use Rattle.c_terms.specs.declared.said.Said.{Said}
 
 abbrev pub said : ℕ → ℕ → Said
 said number value = record { number = number; value = value }

@@ -1,10 +1,10 @@
 // The answers as numbers, each with one value.
 ghost use mathlib.Core.Path.{_≡_};
-ghost use Rattle.c_buckets.specs.Answers.{said, truthSaid, refilledSaid, consumedSaid, delaySaid, toldSaid};
-use token_bucket::answer::Consumed;
-use token_bucket::answer::Delay;
-use token_bucket::answer::Refilled;
-use token_bucket::answer::Told;
+ghost use Rattle.c_terms.specs.Answers.{said, truthSaid, refilledSaid, consumedSaid, delaySaid, toldSaid};
+use bucket_terms::answer::Consumed;
+use bucket_terms::answer::Delay;
+use bucket_terms::answer::Refilled;
+use bucket_terms::answer::Told;
 
 // Numbers below this one are refusals.
 pub const ANSWERS: u32 = 256;
@@ -22,13 +22,13 @@ pub struct Said {
     pub value: u64,
 }
 
-pub(crate) fn plain(number: u32) -> Said
+pub fn plain(number: u32) -> Said
     ensures { λ r. ⌜ r ≡ said number 0 ⌝ }
 {
     Said { number, value: 0 }
 }
 
-pub(crate) fn value(value: u64) -> Said
+pub fn value(value: u64) -> Said
     ensures { λ r. ⌜ r ≡ said 261 value ⌝ }
 {
     Said {
@@ -37,7 +37,7 @@ pub(crate) fn value(value: u64) -> Said
     }
 }
 
-pub(crate) fn truth(b: bool) -> Said
+pub fn truth(b: bool) -> Said
     ensures { λ r. ⌜ r ≡ truthSaid b ⌝ }
 {
     if b {
@@ -52,7 +52,7 @@ pub(crate) fn truth(b: bool) -> Said
     }
 }
 
-pub(crate) fn refilled(a: Refilled) -> Said
+pub fn refilled(a: Refilled) -> Said
     ensures { λ r. ⌜ r ≡ refilledSaid a ⌝ }
 {
     match a {
@@ -68,7 +68,7 @@ pub(crate) fn refilled(a: Refilled) -> Said
 }
 
 // The value of a no is by how much it fell short.
-pub(crate) fn consumed(a: Consumed) -> Said
+pub fn consumed(a: Consumed) -> Said
     ensures { λ r. ⌜ r ≡ consumedSaid a ⌝ }
 {
     match a {
@@ -87,7 +87,7 @@ pub(crate) fn consumed(a: Consumed) -> Said
     }
 }
 
-pub(crate) fn delay(a: Delay) -> Said
+pub fn delay(a: Delay) -> Said
     ensures { λ r. ⌜ r ≡ delaySaid a ⌝ }
 {
     match a {
@@ -102,7 +102,7 @@ pub(crate) fn delay(a: Delay) -> Said
     }
 }
 
-pub(crate) fn told(a: Told) -> Said
+pub fn told(a: Told) -> Said
     ensures { λ r. ⌜ r ≡ toldSaid a ⌝ }
 {
     match a {
