@@ -1,0 +1,3 @@
+pub mod LimiterOutcomeLaws
+pub mod LimiterSoundLaws
+pub mod LimiterSampleLaws
