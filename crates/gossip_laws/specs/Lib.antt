@@ -1,3 +1,6 @@
 pub mod BanOutcomeLaws
 pub mod BanSoundLaws
 pub mod BanSampleLaws
+pub mod LimiterOutcomeLaws
+pub mod LimiterSoundLaws
+pub mod LimiterSampleLaws
