@@ -14,7 +14,7 @@ use Rattle.table.specs.TableLaws.{by-test, Sub, sub-all, sub-length, sub-erase,
 use Rattle.table.specs.LookLaws.{some-is-not-none, sub-look-none}
 use Rattle.table.specs.LeastLaws.{least-found, least-nothing}
 use Rattle.table.specs.PlaceLaws.{length-removeAt}
-use Rattle.table_laws.specs.LeastRows.{by-best}
+use Rattle.table_laws.specs.RoomLaws.{by-best}
 use Rattle.gossip_ban_rows.specs.declared.entry.GossipBanEntry.{GossipBanEntry}
 use Rattle.gossip_ban_rows.specs.Entry.{isExpired}
 use Rattle.gossip_ban_rows.specs.Rows.{Bans}

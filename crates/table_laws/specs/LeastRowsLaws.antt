@@ -15,11 +15,6 @@ use Rattle.table.specs.TableLaws.{by-test}
 use Rattle.table.specs.LeastLaws.{least-ends, least-goes-on, least-found}
 use Rattle.table.specs.MemoryLaws.{length-rows, getD-rows}
 
--- a fact by the two answers of a search, each with the equation that says it
-pub by-best : {B : Type 0} (b : Best) → (b ≡ nothing → B) → ((j n : ℕ) → b ≡ best j n → B) → B
-by-best nothing f g = f refl
-by-best (best j n) f g = g j n refl
-
 module _ {A : Type 0} (L : Layout A) (measure : Row A → Option ℕ) (s : List ℕ) (n : ℕ) where
   module _ (i : ℕ) (found : Best) (from : leastFrom measure nothing 0 (rows L s n) ≡ leastFrom measure found i (drop i (rows L s n))) where
     -- no row is left
