@@ -1,3 +1,4 @@
 pub mod LimiterOutcomeLaws
 pub mod LimiterSoundLaws
+pub mod LimiterAnswerLaws
 pub mod LimiterSampleLaws
