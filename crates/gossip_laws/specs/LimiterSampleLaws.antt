@@ -4,8 +4,8 @@ use mathlib.Core.Path.{_≡_, refl}
 use mathlib.Core.List.{List, [], _∷_}
 use mathlib.Core.Option.{none}
 use Prim.Native.Nat.{ℕ}
-use Rattle.table.specs.Table.{Row, rowUnder, look, store, retain}
-use Rattle.table.specs.LookLaws.{look-below, look-store-other}
+use Rattle.table.specs.Table.{rowUnder, look, store, retain}
+use Rattle.table.specs.LookLaws.{look-store-other}
 use Rattle.table.specs.Outcome.{become, Outcome}
 use Rattle.table_laws.specs.Raw.{mapEntries}
 use Rattle.bucket_terms.specs.declared.answer.Told.{Told}

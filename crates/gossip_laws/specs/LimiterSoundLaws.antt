@@ -8,18 +8,19 @@ use Prim.Native.Nat.{ℕ, _+_, _*_, _≤_, _<_}
 use native.Mathlib.Omega.{arith}
 use borrow.Author.Tests.{leb-true, leb-false, le-leb, ltb-false}
 use lib.Dec.{ltb, leb}
-use lib.ListN.{length, getD, length-append}
+use lib.ListN.{length, getD}
 use lib.Seq.{getD-append-add}
 use Rattle.lent_bytes.specs.LentBytes.{Bytes}
+use Rattle.lent_bytes.specs.LentBytesLaws.{Bytes-nil, Bytes-cons, Bytes-append}
 use Rattle.pubkey.specs.declared.ChannelUpdateLimiterKey.{ChannelUpdateLimiterKey}
 use Rattle.pubkey.specs.Order.{sideByte, limiterKeyBytes}
-use Rattle.pubkey.specs.OrderLaws.{Whole}
-use Rattle.table.specs.Table.{Row, rowUnder, every, ascending, look, store}
+use Rattle.pubkey.specs.OrderLaws.{Whole, limiter-key-length}
+use Rattle.table.specs.Table.{rowUnder, every, ascending, look}
 use Rattle.table.specs.Memory.{rows}
 use Rattle.table.specs.TableLaws.{by-test, both, sub-retain}
 use Rattle.table.specs.LookLaws.{look-rule}
 use Rattle.table.specs.PlaceLaws.{length-store-some}
-use Rattle.table.specs.Outcome.{Change, same, become, rowsAfter, Memory, Outcome, Meets}
+use Rattle.table.specs.Outcome.{Change, become, rowsAfter, Memory, Outcome, Meets}
 use Rattle.table_laws.specs.Raw.{mapEntries}
 use Rattle.table_laws.specs.ChangeLaws.{length-store-most}
 use Rattle.table_laws.specs.Lent.{longEnough}
@@ -37,7 +38,7 @@ use Rattle.gossip_limiter_rows.specs.declared.entry.ChannelUpdateLimiterEntry.{
 use Rattle.gossip_limiter_rows.specs.Entry.{bucketOf, refilled, askedOf}
 use Rattle.gossip_limiter_rows.specs.Rows.{Limits, limiterNumbers, limiterLayout, limiterSound}
 use Rattle.gossip_limiter_rows.specs.RowsLaws.{sound-level, refilled-sound, asked-level}
-use Rattle.gossip_limiter_rows.specs.Prune.{notFull, pruneIdle, roomFor}
+use Rattle.gossip_limiter_rows.specs.Prune.{notFull, roomFor}
 use Rattle.gossip_limiter_rows.specs.PruneLaws.{by-room}
 use Rattle.gossip_limiter.specs.declared.limiter.ChannelUpdateLimiter.{ChannelUpdateLimiter}
 use Rattle.gossip_limiter.specs.declared.answer.MadeLimiter.{MadeLimiter}
@@ -48,6 +49,11 @@ use Rattle.gossip_limiter.specs.LimiterLaws.{limit-within, rows-within, within-
 use Rattle.gossip_limiter.specs.Calls.{limiterAfter, carried, refuse, fresh, madeOutcome, MadeMeets, tryAcquireOutcome, TryAcquireMeets}
 
 -- ---- a row stored ----
+
+-- a side is 0 or 1
+side-small : (b : Bool) → sideByte b ≤ 1
+side-small true = omega arith
+side-small false = omega arith
 
 -- the last of a key's 70 bytes is its side
 side-last : (k : ChannelUpdateLimiterKey) → Whole k → getD (limiterKeyBytes k) 69 0 ≤ 1
@@ -61,11 +67,17 @@ side-last k w =
     let there : getD (p ++ (o ++ side)) 69 0 ≡ sideByte (k .«is_node1») =
     ap (λ (i : ℕ). getD (p ++ (o ++ side)) i 0) behind ∙ getD-append-add p (o ++ side) 36 0
     ∙ ap (λ (i : ℕ). getD (o ++ side) i 0) last ∙ getD-append-add o side 0 0 in
-    rw there (small (k .«is_node1»))
-  where
-    small : (b : Bool) → sideByte b ≤ 1
-    small true = omega arith
-    small false = omega arith
+    rw there (side-small (k .«is_node1»))
+
+-- its 70 bytes are a key of the table
+key-held : (k : ChannelUpdateLimiterKey) → Whole k → Bytes (k .peer .bytes) → Bytes (k .«channel_outpoint» .bytes) → Key limiterLayout (limiterKeyBytes k)
+unfolding limiterKeyBytes
+key-held k w peer outpoint = (
+  limiter-key-length w,
+  Bytes-append (k .peer .bytes) (k .«channel_outpoint» .bytes ++ (sideByte (k .«is_node1») ∷ [])) peer
+  (Bytes-append (k .«channel_outpoint» .bytes) (sideByte (k .«is_node1») ∷ []) outpoint
+  (Bytes-cons (sideByte (k .«is_node1»)) [] (omega (arith, side-small (k .«is_node1»))) Bytes-nil)),
+)
 
 -- the row of a bucket that was asked, under a key with a side
 asked-sound : (c : ChannelUpdateRateLimitConfig) (k : List ℕ) (b : DiscreteTokenBucket) (now : ℕ) → getD k 69 0 ≤ 1 → b .capacity ≡ c .burst
@@ -185,12 +197,13 @@ module _ (c : ChannelUpdateRateLimitConfig) (limit : ℕ) (s u : List ℕ) where
 -- ---- the call ----
 
 module _ (l : ChannelUpdateLimiter) (s u : List ℕ) (now : ℕ) (h : sound l s ≡ true) (b : Bytes s) where
-  pub try-acquire-kept : (k : ChannelUpdateLimiterKey) → Whole k → Key limiterLayout (limiterKeyBytes k) → (r : LimiterTold)
+  pub try-acquire-kept : (k : ChannelUpdateLimiterKey) → Whole k → Bytes (k .peer .bytes) → Bytes (k .«channel_outpoint» .bytes) → (r : LimiterTold)
       → TryAcquireMeets l s k now r u → LimiterKept l s (r .limiter) u
   unfolding TryAcquireMeets tryAcquireOutcome
-  try-acquire-kept k w key r m =
+  try-acquire-kept k w peer outpoint r m =
       let o : Outcome ChannelUpdateLimiterEntry Told = tryAcquire (l .config) (limitOf (l .«max_entries»)) (limiterKeyBytes k) now (rowsOf l s) in
       let met : Meets limiterLayout r s u (l .rows) (carried l o) = rw h at m in
       subst (λ (q : ChannelUpdateLimiter). LimiterKept l s q u) (sym (ap (λ (p : LimiterTold). p .limiter) (met .answers)))
       (changed l s h b u (o .change)
-      (acquire-holds (l .config) (limitOf (l .«max_entries»)) now (limiterKeyBytes k) (rowsOf l s) (limited-hold l s h b) key (side-last k w)) (met .leaves))
+      (acquire-holds (l .config) (limitOf (l .«max_entries»)) now (limiterKeyBytes k) (rowsOf l s) (limited-hold l s h b)
+      (key-held k w peer outpoint) (side-last k w)) (met .leaves))
