@@ -1,6 +1,6 @@
 -- Making room in memory, over plain lists and numbers: which rows go, and that two changes are one. Assumes nothing.
 use mathlib.Core.Path.{_≡_, refl, sym, subst}
-use mathlib.Core.List.{List, []}
+use mathlib.Core.List.{List}
 use Prim.Native.Nat.{ℕ, _*_, _≤_, _<_}
 use native.Mathlib.Omega.{arith}
 use lib.ListN.{length}
@@ -42,6 +42,6 @@ module _ (limit duration now : ℕ) (s : List ℕ) (n : ℕ) (b : Bytes s) (h : 
     made-evicted l left u r gone =
         let rs : Bans = pruneExpired duration now (rows banLayout s n) in
         let fit : AllFit banLayout EntryFits rs = fit-retain ban-faithful (unexpired duration now) (rows banLayout s n) (fit-rows ban-faithful s n b h) in
-        let fewer : length rs ≤ n = omega (arith, sub-length (sub-prune duration now [] (rows banLayout s n)), length-rows banLayout s n) in
+        let fewer : length rs ≤ n = omega (arith, sub-length (sub-prune duration now (rows banLayout s n)), length-rows banLayout s n) in
         counted-same (sym (room-evicted limit duration now (rows banLayout s n) full-rows (omega (arith, left .1))))
         (counted-then ban-faithful (evict now) s t u n k r rs fit (omega arith) left gone)

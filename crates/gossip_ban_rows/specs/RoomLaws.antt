@@ -9,11 +9,12 @@ use native.Mathlib.Omega.{arith}
 use borrow.Author.Tests.{ltb-true, ltb-false, lt-ltb, le-ltb}
 use lib.Dec.{ltb}
 use lib.ListN.{length}
-use Rattle.table.specs.Table.{Best, nothing, best, leastFrom, ascending, look, erase, removeAt}
+use Rattle.table.specs.Table.{nothing, best, leastFrom, ascending, look, erase, removeAt}
 use Rattle.table.specs.TableLaws.{by-test, Sub, sub-all, sub-length, sub-erase, sub-retain, sub-removeAt, sub-trans}
 use Rattle.table.specs.LookLaws.{some-is-not-none, sub-look-none}
 use Rattle.table.specs.LeastLaws.{least-found, least-nothing}
 use Rattle.table.specs.PlaceLaws.{length-removeAt}
+use Rattle.table_laws.specs.RoomLaws.{by-best}
 use Rattle.gossip_ban_rows.specs.declared.entry.GossipBanEntry.{GossipBanEntry}
 use Rattle.gossip_ban_rows.specs.Entry.{isExpired}
 use Rattle.gossip_ban_rows.specs.Rows.{Bans}
@@ -46,9 +47,9 @@ module _ (duration now : ℕ) (k : List ℕ) (rs : Bans) where
       by none = sub-all rs
       by (some e) = by-test (isExpired e duration now) (λ h. rw h (sub-erase k rs)) (λ h. rw h (sub-all rs))
 
-  -- the expired entries are taken out
-  pub sub-prune : Sub (pruneExpired duration now rs) rs
-  sub-prune = sub-retain (unexpired duration now) rs
+-- the expired entries are taken out
+pub sub-prune : (duration now : ℕ) (rs : Bans) → Sub (pruneExpired duration now rs) rs
+sub-prune duration now rs = sub-retain (unexpired duration now) rs
 
 -- ---- the row evicted ----
 
@@ -56,10 +57,6 @@ module _ (duration now : ℕ) (k : List ℕ) (rs : Bans) where
 pub evict-found : (now : ℕ) (rs : Bans) {j n : ℕ} → leastFrom (evictionRank now) nothing 0 rs ≡ best j n → evict now rs ≡ removeAt j rs
 unfolding evict
 evict-found now rs h = rw h
-
-by-best : {B : Type 0} (b : Best) → (b ≡ nothing → B) → ((j n : ℕ) → b ≡ best j n → B) → B
-by-best nothing f g = f refl
-by-best (best j n) f g = g j n refl
 
 -- of rows that there are one goes, since each takes part
 pub length-evict : (now : ℕ) (rs : Bans) → 0 < length rs → length (evict now rs) + 1 ≡ length rs
@@ -113,20 +110,20 @@ module _ (limit duration now : ℕ) (rs : Bans) where
   -- rows are taken out, and no more
   pub sub-room : Sub (roomFor limit duration now rs) rs
   sub-room =
-      by-room (λ (qs : Bans). Sub qs rs) (λ h. sub-all rs) (λ h k. sub-prune duration now [] rs)
-      (λ h k. sub-trans (sub-evict now (pruneExpired duration now rs)) (sub-prune duration now [] rs))
+      by-room (λ (qs : Bans). Sub qs rs) (λ h. sub-all rs) (λ h k. sub-prune duration now rs)
+      (λ h k. sub-trans (sub-evict now (pruneExpired duration now rs)) (sub-prune duration now rs))
 
   -- a table that had at most the limit has room for one more afterwards
   pub room-for-one : 0 < limit → length rs ≤ limit → length (roomFor limit duration now rs) + 1 ≤ limit
   room-for-one least most =
       by-room (λ (qs : Bans). length qs + 1 ≤ limit) (λ h. omega arith) (λ h k. omega arith)
-      (λ h k. omega (arith, sub-length (sub-prune duration now [] rs), length-evict now (pruneExpired duration now rs) (omega arith)))
+      (λ h k. omega (arith, sub-length (sub-prune duration now rs), length-evict now (pruneExpired duration now rs) (omega arith)))
+
+or-true : (b : Bool) {c : Bool} → c ≡ true → (b || c) ≡ true
+or-true true h = refl
+or-true false h = h
 
 module _ (limit now : ℕ) (k : List ℕ) where
-  or-true : (b : Bool) {c : Bool} → c ≡ true → (b || c) ≡ true
-  or-true true h = refl
-  or-true false h = h
-
   -- the while ends at once where there is room
   while-free : (turns : ℕ) (rs : Bans) → length rs < limit → evictWhileFull turns limit now k rs ≡ rs
   unfolding evictWhileFull
@@ -144,7 +141,7 @@ module _ (limit duration now : ℕ) (k : List ℕ) (rs : Bans) where
   -- there is room
   pub make-free : length rs < limit → makeRoom limit duration now k rs ≡ rs
   unfolding makeRoom
-  make-free h = rw (or-true limit now k (contains k rs) (lt-ltb (length rs) limit h))
+  make-free h = rw (or-true (contains k rs) (lt-ltb (length rs) limit h))
 
   -- a peer that has an entry needs none
   pub make-present : {e : GossipBanEntry} → look k rs ≡ some e → makeRoom limit duration now k rs ≡ rs
@@ -157,8 +154,8 @@ module _ (limit duration now : ℕ) (k : List ℕ) (rs : Bans) where
   unfolding makeRoom
   room-absent h order least most =
       let left : Bans = pruneExpired duration now rs in
-      let gone : look k left ≡ none = sub-look-none (sub-prune duration now k rs) order k h in
-      let fewer : length left ≤ length rs = sub-length (sub-prune duration now k rs) in
+      let gone : look k left ≡ none = sub-look-none (sub-prune duration now rs) order k h in
+      let fewer : length left ≤ length rs = sub-length (sub-prune duration now rs) in
       by-test (ltb (length rs) limit)
       (λ t. rw (h, t) (sym (room-free limit duration now rs (ltb-true (length rs) limit t))))
       (λ t. let full : limit ≤ length rs = ltb-false (length rs) limit t in

@@ -137,7 +137,7 @@ module _ (c : GossipBanConfig) (limit now : ℕ) (k : List ℕ) (rs : Bans) (h :
   score-holds = expired-holds
 
   prune-holds : RowsHold banLayout banSound limit (pruneExpired (c .«duration_ms») now rs)
-  prune-holds = sub-hold banLayout banSound limit (sub-prune (c .«duration_ms») now k rs) h
+  prune-holds = sub-hold banLayout banSound limit (sub-prune (c .«duration_ms») now rs) h
 
   module _ (points : ℕ) (key : Key banLayout k) (least : 0 < limit) where
     -- an entry that a violation was added to

@@ -1,5 +1,4 @@
 // The limiter by value: how one is made, and its calls. try_acquire judges and finds; what follows is in `calls`.
-ghost use mathlib.Core.Path.{_≡_};
 ghost use Rattle.gossip_settings.specs.Settings.{maxTrackedKeys};
 ghost use Rattle.gossip_limiter.specs.Calls.{MadeMeets, TryAcquireMeets, TrackedKeysMeets};
 use super::answer::LimiterTold;

@@ -1,8 +1,7 @@
 -- Laws of pruning, which callers' proofs cite: when it happens, which rows are left, and that they fit. Assumes nothing.
-use mathlib.Core.Path.{_≡_, refl, sym, ap, _∙_, subst}
-use mathlib.Core.Bool.{true}
+use mathlib.Core.Path.{_≡_, sym, subst}
 use mathlib.Core.List.{List}
-use Prim.Native.Nat.{ℕ, _+_, _*_, _^_, _≤_, _<_}
+use Prim.Native.Nat.{ℕ, _*_, _^_, _≤_, _<_}
 use native.Mathlib.Omega.{arith}
 use borrow.Author.Tests.{leb-true, leb-false, le-leb, lt-leb}
 use lib.Dec.{leb}
@@ -11,7 +10,7 @@ use Rattle.lent_bytes.specs.LentBytes.{Bytes}
 use Rattle.table.specs.Memory.{rows}
 use Rattle.table.specs.TableLaws.{by-test}
 use Rattle.table.specs.RetainLaws.{length-retain}
-use Rattle.table.specs.MemoryLaws.{AllFit, length-rows, fit-rows, fit-retain}
+use Rattle.table.specs.MemoryLaws.{AllFit, fit-rows, fit-retain}
 use Rattle.table_laws.specs.Raw.{mapEntries}
 use Rattle.table_laws.specs.RawLaws.{length-map}
 use Rattle.table_laws.specs.MapLaws.{fit-map}

@@ -7,7 +7,7 @@ use Prim.Native.Nat.{ℕ, _+_, _^_, _≤_, _<_}
 use native.Mathlib.Omega.{arith}
 use borrow.Author.Tests.{leb-true, le-leb}
 use lib.Dec.{leb}
-use lib.ListN.{length, getD}
+use lib.ListN.{getD}
 use Rattle.lent_bytes.specs.LentBytes.{part, le}
 use Rattle.lent_bytes.specs.LentBytesLaws.{getD-part}
 use Rattle.table.specs.Table.{Row}

@@ -1,5 +1,4 @@
 // A row changed or stored.
-ghost use mathlib.Core.Path.{_≡_};
 ghost use Prim.Native.Nat.{_+_, _*_, _<_, _≤_};
 ghost use lib.ListN.{length};
 ghost use Rattle.pubkey.specs.Order.{limiterKeyBytes};

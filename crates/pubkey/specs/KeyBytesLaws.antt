@@ -1,9 +1,9 @@
 -- The 70 bytes of a limiter key, as they are written one after another into an array of zeros. Assumes nothing.
-use mathlib.Core.Path.{_≡_, refl, sym, ap, _∙_}
+use mathlib.Core.Path.{_≡_, ap, _∙_}
 use mathlib.Core.List.{List, [], _∷_, _++_, append-nil, append-assoc}
 use Prim.Native.Nat.{ℕ, _+_, _≤_}
 use native.Mathlib.Omega.{arith}
-use lib.ListN.{length, take, drop, set, length-append, drop-of-length-le}
+use lib.ListN.{length, set, length-append, drop-of-length-le}
 use Rattle.lent_bytes.specs.LentBytes.{put}
 use Rattle.lent_bytes.specs.LentBytesLaws.{put-put-at, put-snoc}
 

@@ -1,7 +1,6 @@
 -- `calls::acquire_known` meets its contract (`told-off`, `told-known`). Assumes nothing.
 use mathlib.Core.Path.{sym, _∙_}
 use native.Mathlib.Omega.{arith}
-use borrow.Author.Tests.{not-true, not-false}
 use Rattle.pubkey.specs.Order.{limiterKeyBytes}
 use Rattle.table_laws.specs.LentLaws.{known-inside, known-fits, known-rule}
 use Rattle.gossip_limiter_rows.specs.Rows.{limiterLayout, limiterSound}

@@ -1,7 +1,6 @@
 -- `calls::acquire_new` meets its contract (`told-off`, `told-full`, `told-new`). Assumes nothing.
-use mathlib.Core.Path.{sym, ap, _∙_}
+use mathlib.Core.Path.{sym, _∙_}
 use native.Mathlib.Omega.{arith}
-use Rattle.pubkey.specs.Order.{limiterKeyBytes}
 use Rattle.table_laws.specs.LentLaws.{rules-kept}
 use Rattle.gossip_limiter_rows.specs.Rows.{limiterLayout, limiterSound}
 use Rattle.gossip_limiter.specs.Limiter.{limitOf, limiterRecordSound}

@@ -1,7 +1,7 @@
 -- `judge::is_sound` meets its contract: by its two tests. Assumes nothing.
 use native.Mathlib.Omega.{arith}
 use borrow.Author.Tests.{le-leb, lt-leb}
-use Rattle.gossip_limiter.specs.Limiter.{limitOf, limiterRecordSound}
+use Rattle.gossip_limiter.specs.Limiter.{limiterRecordSound}
 use borrow.Author.Needs.{needs}
 use Rattle.gossip_limiter.proofs.judge.is_sound.Statement.{statement}
 use Rattle.gossip_limiter.proofs.judge.is_sound.Tie as tie

@@ -4,25 +4,16 @@ use Rattle.gossip_limiter_rows.proofs.Buckets.{refilled-by}
 use borrow.Author.Needs.{needs}
 use Rattle.gossip_limiter_rows.proofs.entry.refilled.Statement.{statement}
 use Rattle.gossip_limiter_rows.proofs.entry.refilled.Tie as tie
-use Rattle.gossip_limiter_rows.proofs.entry.refilled.Reads as reads
-use Rattle.gossip_limiter_rows.proofs.entry.refilled.Lts as lts
-use Rattle.bucket_discrete.proofs.discrete.DiscreteTokenBucket.refill.Reads as refill-reads
-use Rattle.gossip_limiter_rows.proofs.entry.bucket_of.Reads as bucket-of-reads
-use Rattle.gossip_limiter_rows.proofs.entry.entry_of.Reads as entry-of-reads
 
--- src/entry.rt:61:9
 bucket-of-requires : tie.Need-bucket-of-requires
 bucket-of-requires c κs = search needs
 
--- src/entry.rt:62:9
 refill-requires : tie.Need-refill-requires
 refill-requires c κs = search needs
 
--- src/entry.rt:64:5
 entry-of-requires : tie.Need-entry-of-requires
 entry-of-requires c κs = search needs
 
--- src/entry.rt:53:1
 returns : tie.Need-returns
 returns c = c .entry-of .ensures ∙ refilled-by (c .before .before .before .before .args .config) (c .before .before .before .before .args .e) (c .before .before .before .before .args .now-ms) (c .before .before .before .bucket-of .result) (c .before .before .refill .result) (c .before .before .before .bucket-of .ensures) (c .before .before .before .before .pre) (c .before .before .refill .ensures)
 

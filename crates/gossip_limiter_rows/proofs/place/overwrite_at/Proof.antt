@@ -7,36 +7,25 @@ use Rattle.gossip_limiter_rows.specs.RowsLaws.{limiter-faithful}
 use borrow.Author.Needs.{needs}
 use Rattle.gossip_limiter_rows.proofs.place.overwrite_at.Statement.{statement}
 use Rattle.gossip_limiter_rows.proofs.place.overwrite_at.Tie as tie
-use Rattle.gossip_limiter_rows.proofs.place.overwrite_at.Reads as reads
-use Rattle.gossip_limiter_rows.proofs.place.overwrite_at.Lts as lts
-use Rattle.gossip_limiter_rows.proofs.row.words_of.Reads as words-of-reads
-use Rattle.table.proofs.rows.put_words.Reads as put-words-reads
 
--- src/place.rt:21:17
 words-of-requires : tie.Need-words-of-requires
 words-of-requires c κs = search needs
 
--- src/place.rt:22:35
 mul-put-words : tie.Need-mul-put-words
 mul-put-words c = search needs
 
--- src/place.rt:22:35
 add-put-words : tie.Need-add-put-words
 add-put-words c = search needs
 
--- src/place.rt:22:52
 slice-aggregate-put-words : tie.Need-slice-aggregate-put-words
 slice-aggregate-put-words c = search needs
 
--- src/place.rt:22:5
 put-words-requires : tie.Need-put-words-requires
 put-words-requires c κs = search needs
 
--- src/place.rt:16:1
 same-length : tie.Need-same-length
 same-length c = search needs
 
--- src/place.rt:16:1
 returns : tie.Need-returns
 returns c = let a = c .before .before .before .before .before .before .before .args in
     let good = c .before .before .before .before .before .before .before .good in

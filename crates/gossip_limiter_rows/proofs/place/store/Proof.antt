@@ -8,37 +8,25 @@ use Rattle.gossip_limiter_rows.specs.RowsLaws.{limiter-faithful}
 use borrow.Author.Needs.{needs}
 use Rattle.gossip_limiter_rows.proofs.place.store.Statement.{statement}
 use Rattle.gossip_limiter_rows.proofs.place.store.Tie as tie
-use Rattle.gossip_limiter_rows.proofs.place.store.Reads as reads
-use Rattle.gossip_limiter_rows.proofs.place.store.Lts as lts
-use Rattle.gossip_limiter_rows.proofs.row.words_of.Reads as words-of-reads
-use Rattle.keyed_rows.proofs.change.store.Reads as store-reads
-use Rattle.pubkey.proofs.ChannelUpdateLimiterKey.bytes.Reads as bytes-reads
 
--- src/place.rt:35:17
 words-of-requires : tie.Need-words-of-requires
 words-of-requires c κs = search needs
 
--- src/place.rt:36:17
 bytes-requires : tie.Need-bytes-requires
 bytes-requires c κs = search needs
 
--- src/place.rt:37:49
 slice-aggregate-store : tie.Need-slice-aggregate-store
 slice-aggregate-store c = search needs
 
--- src/place.rt:37:57
 slice-aggregate-store-2 : tie.Need-slice-aggregate-store-2
 slice-aggregate-store-2 c = search needs
 
--- src/place.rt:37:5
 store-requires : tie.Need-store-requires
 store-requires c κs = search needs
 
--- src/place.rt:26:1
 same-length : tie.Need-same-length
 same-length c = search needs
 
--- src/place.rt:26:1
 returns : tie.Need-returns
 returns c = let a = c .before .before .before .before .before .before .before .before .before .args in
     let good = c .before .before .before .before .before .before .before .before .before .good in

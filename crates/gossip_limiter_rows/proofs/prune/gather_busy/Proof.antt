@@ -13,9 +13,6 @@ use Rattle.gossip_limiter_rows.specs.Prune.{notFull}
 use Rattle.gossip_limiter_rows.specs.PruneLaws.{refilled-fit}
 use Rattle.gossip_limiter_rows.proofs.prune.gather_busy.Statement.{statement}
 use Rattle.gossip_limiter_rows.proofs.prune.gather_busy.Tie as tie
-use Rattle.gossip_limiter_rows.proofs.prune.gather_busy.Reads as reads
-use Rattle.gossip_limiter_rows.proofs.prune.gather_busy.Lts as lts
-use Rattle.gossip_limiter_rows.proofs.prune.keep_busy.Reads as keep-busy-reads
 
 abbrev Inv-loop : tie.InvT-loop
 Inv-loop table₀ count config now-ms kept₀ i₀ table kept i = (i ≤ count) × (KeptSo limiterLayout (notFull config) table₀ (mapEntries (refilled config now-ms) (rows limiterLayout table₀ count)) i table kept × (length table ≡ length table₀))
@@ -23,37 +20,30 @@ Inv-loop table₀ count config now-ms kept₀ i₀ table kept i = (i ≤ count) 
 abbrev μ-loop : tie.MeasureT-loop
 μ-loop table₀ count config now-ms kept₀ i₀ table kept i = count - i
 
--- src/prune.rt:68:5
 loop-holds : tie.Need-loop-holds Inv-loop μ-loop
 loop-holds c = let a = c .before .args in
     (omega arith, (kept-begins limiterLayout (notFull (a .config)) (a .table .now) (mapEntries (refilled (a .config) (a .now-ms)) (rows limiterLayout (a .table .now) (a .count))), refl))
 
--- src/prune.rt:69:9
 keep-busy-requires : tie.Need-keep-busy-requires Inv-loop μ-loop
 keep-busy-requires c κs = let a = c .before .before .before .before .args in
     let so = c .before .before .loop .inv .1 .0 in
     (kept-most so, (omega (arith, c .before .before .loop .inv .1 .1, c .before .before .before .before .pre .0), kept-rule limiter-faithful (notFull (a .config)) (refilled (a .config) (a .now-ms)) (a .table .now) (a .count) (refilled-fit (a .config) (a .now-ms) (a .table .now) (a .count) (omega (arith, c .before .before .before .before .good)) (omega (arith, c .before .before .before .before .good)) (λ i. c .before .before .before .slice-known .given i .fits) (omega (arith, c .before .before .before .before .pre))) (omega arith) so (limiterSound (a .config)) (c .before .before .before .before .pre .1)))
 
--- src/prune.rt:70:9
 add-i : tie.Need-add-i Inv-loop μ-loop
 add-i c = omega arith
 
--- src/prune.rt:68:5
 loop-less : tie.Need-loop-less Inv-loop μ-loop
 loop-less c = omega arith
 
--- src/prune.rt:68:5
 loop-again : tie.Need-loop-again Inv-loop μ-loop
 loop-again c = let a = c .before .before .before .before .before .before .before .args in
     let turn = c .before .before .before .before .before .loop in
     let step = c .before .before .keep-busy in
     (omega arith, (keep-step limiter-faithful (notFull (a .config)) (refilled (a .config) (a .now-ms)) (a .table .now) (a .count) (refilled-fit (a .config) (a .now-ms) (a .table .now) (a .count) (omega (arith, c .before .before .before .before .before .before .before .good)) (omega (arith, c .before .before .before .before .before .before .before .good)) (λ i. c .before .before .before .before .before .before .slice-known .given i .fits) (omega (arith, c .before .before .before .before .before .before .before .pre))) (omega arith) (turn .inv .1 .0) _ (step .result) (step .ensures .0) (step .ensures .1), step .kept .0 ∙ turn .inv .1 .1))
 
--- src/prune.rt:56:1
 same-length : tie.Need-same-length Inv-loop μ-loop
 same-length c = c .before .loop .inv .1 .1
 
--- src/prune.rt:56:1
 returns : tie.Need-returns Inv-loop μ-loop
 returns c = let a = c .before .before .before .args in
     let fit = (refilled-fit (a .config) (a .now-ms) (a .table .now) (a .count) (omega (arith, c .before .before .before .good)) (omega (arith, c .before .before .before .good)) (λ i. c .before .before .slice-known .given i .fits) (omega (arith, c .before .before .before .pre))) in

@@ -4,35 +4,25 @@ use Rattle.gossip_limiter_rows.specs.RowsLaws.{entry-places}
 use borrow.Author.Needs.{needs}
 use Rattle.gossip_limiter_rows.proofs.row.entry_at.Statement.{statement}
 use Rattle.gossip_limiter_rows.proofs.row.entry_at.Tie as tie
-use Rattle.gossip_limiter_rows.proofs.row.entry_at.Reads as reads
-use Rattle.gossip_limiter_rows.proofs.row.entry_at.Lts as lts
-use Rattle.lent_bytes.proofs.number.get_u64.Reads as get-u64-reads
 
--- src/row.rt:18:35
 add-get-u64 : tie.Need-add-get-u64
 add-get-u64 c = search needs
 
--- src/row.rt:18:20
 get-u64-requires : tie.Need-get-u64-requires
 get-u64-requires c κs = search needs
 
--- src/row.rt:19:40
 add-get-u64-2 : tie.Need-add-get-u64-2
 add-get-u64-2 c = search needs
 
--- src/row.rt:19:25
 get-u64-requires-2 : tie.Need-get-u64-requires-2
 get-u64-requires-2 c κs = search needs
 
--- src/row.rt:20:38
 add-get-u64-3 : tie.Need-add-get-u64-3
 add-get-u64-3 c = search needs
 
--- src/row.rt:20:23
 get-u64-requires-3 : tie.Need-get-u64-requires-3
 get-u64-requires-3 c κs = search needs
 
--- src/row.rt:13:1
 returns : tie.Need-returns
 returns c = rw (c .before .before .get-u64 .ensures, c .before .get-u642 .ensures, c .get-u643 .ensures) (sym (entry-places (c .before .before .before .before .args .table .now) (c .before .before .before .before .args .at)))
 

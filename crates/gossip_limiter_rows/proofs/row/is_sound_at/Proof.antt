@@ -3,31 +3,22 @@ use Rattle.gossip_limiter_rows.proofs.Buckets.{row-over, row-side}
 use borrow.Author.Needs.{needs}
 use Rattle.gossip_limiter_rows.proofs.row.is_sound_at.Statement.{statement}
 use Rattle.gossip_limiter_rows.proofs.row.is_sound_at.Tie as tie
-use Rattle.gossip_limiter_rows.proofs.row.is_sound_at.Reads as reads
-use Rattle.gossip_limiter_rows.proofs.row.is_sound_at.Lts as lts
-use Rattle.gossip_limiter_rows.proofs.row.entry_at.Reads as entry-at-reads
 
--- src/row.rt:29:9
 entry-at-requires : tie.Need-entry-at-requires
 entry-at-requires c κs = search needs
 
--- src/row.rt:30:22
 cast-if1 : tie.Need-cast-if1
 cast-if1 c = search needs
 
--- src/row.rt:31:9
 returns : tie.Need-returns
 returns c = row-over (c .before .before .before .before .before .args .config) (c .before .before .before .before .before .args .table .now) (c .before .before .before .before .before .args .at) (c .before .before .before .entry-at .result) (c .before .before .before .entry-at .ensures) (c .if1 .taken)
 
--- src/row.rt:33:11
 add-result : tie.Need-add-result
 add-result c = search needs
 
--- src/row.rt:33:5
 shared-slice-read-result : tie.Need-shared-slice-read-result
 shared-slice-read-result c = search needs
 
--- src/row.rt:25:1
 returns-2 : tie.Need-returns-2
 returns-2 c = row-side (c .before .before .before .before .before .before .args .config) (c .before .before .before .before .before .before .args .table .now) (c .before .before .before .before .before .before .args .at) (c .before .before .before .before .entry-at .result) (c .before .before .before .before .entry-at .ensures) (c .before .if1 .left)
 

@@ -7,46 +7,33 @@ use Rattle.pubkey.specs.KeyBytesLaws.{put-three}
 use borrow.Author.Needs.{needs}
 use Rattle.pubkey.proofs.ChannelUpdateLimiterKey.bytes.Statement.{statement}
 use Rattle.pubkey.proofs.ChannelUpdateLimiterKey.bytes.Tie as tie
-use Rattle.pubkey.proofs.ChannelUpdateLimiterKey.bytes.Reads as reads
-use Rattle.pubkey.proofs.ChannelUpdateLimiterKey.bytes.Lts as lts
-use Rattle.lent_bytes.proofs.run.put_slice.Reads as put-slice-reads
-use Rattle.pubkey.proofs.side_byte.Reads as side-byte-reads
 
--- src/lib.rt:126:36
 slice-aggregate-put-slice : tie.Need-slice-aggregate-put-slice
 slice-aggregate-put-slice c = search needs
 
--- src/lib.rt:126:51
 slice-aggregate-put-slice-2 : tie.Need-slice-aggregate-put-slice-2
 slice-aggregate-put-slice-2 c = search needs
 
--- src/lib.rt:126:9
 put-slice-requires : tie.Need-put-slice-requires
 put-slice-requires c κs = let size : length (c .before .before .before .before .args .self .peer .bytes) ≡ 33 = search needs in
     omega arith
 
--- src/lib.rt:127:36
 slice-aggregate-put-slice-3 : tie.Need-slice-aggregate-put-slice-3
 slice-aggregate-put-slice-3 c = search needs
 
--- src/lib.rt:127:52
 slice-aggregate-put-slice-4 : tie.Need-slice-aggregate-put-slice-4
 slice-aggregate-put-slice-4 c = search needs
 
--- src/lib.rt:127:9
 put-slice-requires-2 : tie.Need-put-slice-requires-2
 put-slice-requires-2 c κs = let size : length (c .before .before .before .before .before .before .before .before .args .self .«channel_outpoint» .bytes) ≡ 36 = search needs in
     omega arith
 
--- src/lib.rt:128:21
 side-byte-requires : tie.Need-side-byte-requires
 side-byte-requires c κs = search needs
 
--- src/lib.rt:128:9
 array-write-bytes : tie.Need-array-write-bytes
 array-write-bytes c = search needs
 
--- src/lib.rt:120:5
 returns : tie.Need-returns
 unfolding limiterKeyBytes
 returns c = let k = c .before .before .before .before .before .before .before .before .before .before .before .args .self in

@@ -1,0 +1,54 @@
+-- A key that gets a fresh bucket is let in: where the limit is on a burst is at least one token. Assumes nothing.
+use mathlib.Core.Bool.{Bool, true, false, _||_, cond}
+use mathlib.Core.Path.{_≡_, refl, ap, _∙_}
+use mathlib.Core.List.{List}
+use mathlib.Core.Option.{none}
+use Prim.Native.Nat.{ℕ, _+_, _-_, _/_, _%_, _<_, min}
+use native.Mathlib.Omega.{arith}
+use lib.Dec.{leb, eqb}
+use lib.ListN.{length}
+use Rattle.table.specs.Table.{look}
+use Rattle.table.specs.Outcome.{Outcome}
+use Rattle.bucket_terms.specs.declared.answer.Told.{Told}
+use Rattle.bucket_terms.specs.declared.answer.Told.the-variants as Told
+use Rattle.bucket_discrete.specs.declared.discrete.DiscreteTokenBucket.{DiscreteTokenBucket}
+use Rattle.bucket_discrete.specs.DiscreteBucket.{discreteNew, discreteRefill, discreteTake, discreteTryConsume}
+use Rattle.gossip_settings.specs.declared.channel_update.ChannelUpdateRateLimitConfig.{ChannelUpdateRateLimitConfig}
+use Rattle.gossip_settings.specs.Settings.{channelUpdateDisabled}
+use Rattle.gossip_limiter_rows.specs.declared.entry.ChannelUpdateLimiterEntry.{ChannelUpdateLimiterEntry}
+use Rattle.gossip_limiter_rows.specs.Entry.{askedOf}
+use Rattle.gossip_limiter_rows.specs.Rows.{Limits}
+use Rattle.gossip_limiter_rows.specs.Prune.{roomFor}
+use Rattle.gossip_limiter.specs.Limiter.{tryAcquire}
+use Rattle.gossip_limiter.specs.LimiterLaws.{acquire-new}
+
+either : (P : DiscreteTokenBucket → Type 0) (t : Bool) {x y : DiscreteTokenBucket} → P x → P y → P (cond t x y)
+either P true first second = first
+either P false first second = second
+
+-- a full bucket stays full
+refill-full : (interval burst now : ℕ) → discreteRefill (discreteNew interval burst) now .available ≡ burst
+unfolding discreteRefill
+refill-full interval burst now =
+    let refill : ℕ = (now - 0) / interval % 4294967296 in
+    either (λ (b : DiscreteTokenBucket). b .available ≡ burst) (eqb interval 0 || (eqb burst 0 || leb now 0)) refl
+    (either (λ (b : DiscreteTokenBucket). b .available ≡ burst) (eqb refill 0) refl (most burst refill))
+  where
+    most : (a r : ℕ) → min (a + r) a ≡ a
+    most a r = omega arith
+
+-- so it has a token
+fresh-asked : (interval burst now : ℕ) → eqb burst 0 ≡ false → askedOf (discreteNew interval burst) now .answer ≡ Told.Yes
+unfolding askedOf discreteTryConsume discreteTake
+fresh-asked interval burst now some-burst = rw (refill-full interval burst now, some-burst)
+
+second-off : (a b : Bool) → (a || b) ≡ false → b ≡ false
+second-off true b h = absurd (let z : _≡_ {A = ℕ} 0 1 = cc in omega arith)
+second-off false b h = h
+
+-- a key without a row is let in wherever it gets one
+pub new-key-let-in : (c : ChannelUpdateRateLimitConfig) (limit : ℕ) (k : List ℕ) (now : ℕ) (rs : Limits) → channelUpdateDisabled c ≡ false
+    → look k rs ≡ none → length (roomFor limit c now rs) < limit → tryAcquire c limit k now rs .answer ≡ Told.Yes
+new-key-let-in c limit k now rs on missing free =
+    ap (λ (o : Outcome ChannelUpdateLimiterEntry Told). o .answer) (acquire-new c limit k now rs on missing free)
+    ∙ fresh-asked (c .«interval_ms») (c .burst) now (second-off (eqb (c .«interval_ms») 0) (eqb (c .burst) 0) on)
