@@ -1,0 +1,3 @@
+pub mod OutboundOutcomes
+pub mod OutboundKept
+pub mod OutboundKeptLaws
