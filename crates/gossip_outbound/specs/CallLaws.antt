@@ -22,16 +22,17 @@ use Rattle.bucket_bytes.specs.declared.bytes.ByteTokenBucket.{ByteTokenBucket}
 use Rattle.bucket_bytes.specs.ByteBucket.{bytePeekDelayAfterRefill, byteRefund, byteHasDebt}
 use Rattle.gossip_outbound_rows.specs.declared.entry.OutboundEntry.{OutboundEntry}
 use Rattle.gossip_outbound_rows.specs.Rows.{Buckets, outboundLayout}
-use Rattle.gossip_outbound.specs.declared.outbound.Outbound.{Outbound}
-use Rattle.gossip_outbound.specs.declared.charge.Charged.{Charged}
-use Rattle.gossip_outbound.specs.declared.charge.Promised.{Promised}
+use Rattle.gossip_outbound_state.specs.declared.state.Outbound.{Outbound}
+use Rattle.gossip_outbound_state.specs.declared.charge.Charged.{Charged}
+use Rattle.gossip_outbound_state.specs.declared.charge.Promised.{Promised}
 use Rattle.gossip_outbound.specs.declared.answer.OutboundTold.{OutboundTold}
 use Rattle.gossip_outbound.specs.declared.answer.OutboundReserved.{OutboundReserved}
 use Rattle.gossip_outbound.specs.declared.answer.OutboundSettled.{OutboundSettled}
 use Rattle.gossip_outbound.specs.declared.answer.Settled.the-variants as Settled
-use Rattle.gossip_outbound.specs.Outbound.{rowsOf, sound, bucketOrFresh, full, chargeBoth, promiseBoth, outboundWith, turn, refuse, outboundTold, outboundReserved, outboundSettled, kept, allowed, allow, reserved, reserve, refunded, refund, removed, peerDelay, estimate, exceeds, peerDebt, bypasses}
-use Rattle.gossip_outbound.specs.Carry.{fullAt, Placed, PeerBucket}
-use Rattle.gossip_outbound.specs.CarryLaws.{placed-full}
+use Rattle.gossip_outbound_state.specs.State.{rowsOf, sound, bucketOrFresh, full, chargeBoth, promiseBoth, outboundWith, peerDelay, exceeds, peerDebt}
+use Rattle.gossip_outbound.specs.Outbound.{turn, refuse, outboundTold, outboundReserved, outboundSettled, kept, allowed, allow, reserved, reserve, refunded, refund, removed, estimate, bypasses}
+use Rattle.gossip_outbound_state.specs.Carry.{fullAt, Placed, PeerBucket}
+use Rattle.gossip_outbound_state.specs.CarryLaws.{placed-full}
 use Rattle.gossip_outbound.specs.Calls.{allowOutcome, AllowMeets, reserveOutcome, ReserveMeets, refundOutcome, RefundMeets, removeOutcome, RemoveMeets, EstimateMeets, BypassMeets}
 
 -- ---- an outcome met ----

@@ -14,13 +14,14 @@ use Rattle.bucket_terms.specs.Answers.{told, toldSays, delaySays}
 use Rattle.table.specs.Outcome.{Outcome, Meets}
 use Rattle.gossip_outbound_rows.specs.declared.entry.OutboundEntry.{OutboundEntry}
 use Rattle.gossip_outbound_rows.specs.Rows.{outboundLayout}
-use Rattle.gossip_outbound.specs.declared.outbound.Outbound.{Outbound}
+use Rattle.gossip_outbound_state.specs.declared.state.Outbound.{Outbound}
 use Rattle.gossip_outbound.specs.declared.answer.OutboundTold.{OutboundTold}
 use Rattle.gossip_outbound.specs.declared.answer.OutboundReserved.{OutboundReserved}
 use Rattle.gossip_outbound.specs.declared.answer.OutboundSettled.{OutboundSettled}
 use Rattle.gossip_outbound.specs.declared.answer.Settled.{Settled}
 use Rattle.gossip_outbound.specs.declared.answer.Settled.the-variants as Settled
-use Rattle.gossip_outbound.specs.Outbound.{rowsOf, sound, refuse, outboundTold, outboundReserved, outboundSettled, allow, reserve, refund, removed, estimate, bypasses}
+use Rattle.gossip_outbound_state.specs.State.{rowsOf, sound}
+use Rattle.gossip_outbound.specs.Outbound.{refuse, outboundTold, outboundReserved, outboundSettled, allow, reserve, refund, removed, estimate, bypasses}
 
 -- ════ What the answers say ════════════════════════════════════════════════════════════════════════
 
