@@ -4,3 +4,5 @@ pub mod LeftLaws
 pub mod Blame
 pub mod Bans
 pub mod Limiter
+pub mod GossipWords
+pub mod Gossip
