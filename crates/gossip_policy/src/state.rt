@@ -167,9 +167,9 @@ impl GossipPolicyState {
         ensures { λ r. ⌜ RemoveMeets self (now («outbound_table» .entry)) peer r (now («outbound_table» .exit)) ⌝ }
     {
         let outbound = parts::outbound_of(self);
-        let r = calls::remove_outbound_peer(outbound, outbound_table, peer);
-        let after = r.outbound;
-        let answer = r.answer;
+        let removed = calls::remove_outbound_peer(outbound, outbound_table, peer);
+        let after = removed.outbound;
+        let answer = removed.answer;
         GossipSettled {
             state: parts::with_outbound(self, after),
             answer,
