@@ -7,7 +7,7 @@ use borrow.Author.Tests.{not-true, not-false}
 use lib.ListN.{drop}
 use Rattle.table.specs.Table.{every}
 use Rattle.table.specs.Memory.{rows}
-use Rattle.table_laws.specs.RuleLaws.{rules-end, rules-break, rules-go-on}
+use Rattle.table_laws.specs.WalkLaws.{rules-end, rules-break, rules-go-on}
 use Rattle.gossip_outbound_rows.specs.Entry.{entrySound}
 use Rattle.gossip_outbound_rows.specs.Rows.{outboundLayout, outboundSound}
 use Rattle.gossip_outbound_rows.proofs.walk.rules_kept.Statement.{statement}
