@@ -1,4 +1,4 @@
--- `gossip_ban_rows::walk::rules_kept` meets its contract: the invariant is that all rows keep the rule just where those from the i-th on do (`RuleLaws`); the measure is how many are left. Assumes nothing.
+-- `gossip_ban_rows::walk::rules_kept` meets its contract: the invariant is that all rows keep the rule just where those from the i-th on do (`WalkLaws`); the measure is how many are left. Assumes nothing.
 use mathlib.Core.Path.{_≡_, refl, sym, ap, _∙_}
 use Prim.Native.Nat.{_-_, _≤_}
 use native.Mathlib.Omega.{arith}
