@@ -5,3 +5,6 @@ pub mod LimiterOutcomeLaws
 pub mod LimiterSoundLaws
 pub mod LimiterAnswerLaws
 pub mod LimiterSampleLaws
+pub mod OutboundOutcomeLaws
+pub mod OutboundKept
+pub mod OutboundKeptLaws

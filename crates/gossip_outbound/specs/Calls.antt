@@ -2,7 +2,7 @@
 -- A call on an unsound state or memory is refused with 3 and changes nothing.
 use mathlib.Core.Path.{_≡_}
 use mathlib.Core.Bool.{cond}
-use mathlib.Core.List.{List, [], _∷_}
+use mathlib.Core.List.{List, []}
 use Prim.Native.Nat.{ℕ}
 use Rattle.pubkey.specs.declared.Pubkey.{Pubkey}
 use Rattle.refusal.specs.Refusal.{Said, gives, refused, unsound}
@@ -14,13 +14,14 @@ use Rattle.bucket_terms.specs.Answers.{told, toldSays, delaySays}
 use Rattle.table.specs.Outcome.{Outcome, Meets}
 use Rattle.gossip_outbound_rows.specs.declared.entry.OutboundEntry.{OutboundEntry}
 use Rattle.gossip_outbound_rows.specs.Rows.{outboundLayout}
-use Rattle.gossip_outbound.specs.declared.outbound.Outbound.{Outbound}
+use Rattle.gossip_outbound_state.specs.declared.state.Outbound.{Outbound}
 use Rattle.gossip_outbound.specs.declared.answer.OutboundTold.{OutboundTold}
 use Rattle.gossip_outbound.specs.declared.answer.OutboundReserved.{OutboundReserved}
 use Rattle.gossip_outbound.specs.declared.answer.OutboundSettled.{OutboundSettled}
 use Rattle.gossip_outbound.specs.declared.answer.Settled.{Settled}
 use Rattle.gossip_outbound.specs.declared.answer.Settled.the-variants as Settled
-use Rattle.gossip_outbound.specs.Outbound.{rowsOf, sound, refuse, outboundTold, outboundReserved, outboundSettled, allow, reserve, refund, removed, estimate, bypasses}
+use Rattle.gossip_outbound_state.specs.State.{rowsOf, sound}
+use Rattle.gossip_outbound.specs.Outbound.{refuse, outboundTold, outboundReserved, outboundSettled, allow, reserve, refund, removed, estimate, bypasses}
 
 -- ════ What the answers say ════════════════════════════════════════════════════════════════════════
 
@@ -28,18 +29,22 @@ use Rattle.gossip_outbound.specs.Outbound.{rowsOf, sound, refuse, outbou
 abbrev pub outboundToldSays : OutboundTold → Said
 outboundToldSays r = toldSays (r .answer)
 
+-- the milliseconds
 abbrev pub outboundReservedSays : OutboundReserved → Said
 outboundReservedSays r = delaySays (r .answer)
 
+-- nothing more
 abbrev pub settledSays : Settled → Said
 settledSays Settled.Done = gives []
 settledSays (Settled.Refused n) = refused n
 
+-- nothing more
 abbrev pub outboundSettledSays : OutboundSettled → Said
 outboundSettledSays r = settledSays (r .answer)
 
 -- ════ The calls ═══════════════════════════════════════════════════════════════════════════════════
 
+-- allow_outbound_message
 unfoldable pub allowOutcome : Outbound → List ℕ → Pubkey → ℕ → ℕ → Outcome OutboundEntry OutboundTold
 allowOutcome o s k bytes now =
     cond (sound o s) (allow o (k .bytes) bytes now (rowsOf o s)) (refuse (outboundTold o (Told.Refused unsound)))
@@ -47,6 +52,7 @@ allowOutcome o s k bytes now =
 unfoldable pub AllowMeets : Outbound → List ℕ → Pubkey → ℕ → ℕ → OutboundTold → List ℕ → Type 0
 AllowMeets o before k bytes now r after = Meets outboundLayout r before after (o .rows) (allowOutcome o before k bytes now)
 
+-- reserve_outbound_message
 unfoldable pub reserveOutcome : Outbound → List ℕ → Pubkey → ℕ → ℕ → Outcome OutboundEntry OutboundReserved
 reserveOutcome o s k bytes now =
     cond (sound o s) (reserve o (k .bytes) bytes now (rowsOf o s)) (refuse (outboundReserved o (Delay.Refused unsound)))
@@ -54,6 +60,7 @@ reserveOutcome o s k bytes now =
 unfoldable pub ReserveMeets : Outbound → List ℕ → Pubkey → ℕ → ℕ → OutboundReserved → List ℕ → Type 0
 ReserveMeets o before k bytes now r after = Meets outboundLayout r before after (o .rows) (reserveOutcome o before k bytes now)
 
+-- refund_outbound_message
 unfoldable pub refundOutcome : Outbound → List ℕ → Pubkey → ℕ → ℕ → Outcome OutboundEntry OutboundSettled
 refundOutcome o s k bytes now =
     cond (sound o s) (refund o (k .bytes) bytes now (rowsOf o s)) (refuse (outboundSettled o (Settled.Refused unsound)))
@@ -61,6 +68,7 @@ refundOutcome o s k bytes now =
 unfoldable pub RefundMeets : Outbound → List ℕ → Pubkey → ℕ → ℕ → OutboundSettled → List ℕ → Type 0
 RefundMeets o before k bytes now r after = Meets outboundLayout r before after (o .rows) (refundOutcome o before k bytes now)
 
+-- remove_outbound_peer
 unfoldable pub removeOutcome : Outbound → List ℕ → Pubkey → Outcome OutboundEntry OutboundSettled
 removeOutcome o s k =
     cond (sound o s) (removed o (k .bytes) (rowsOf o s)) (refuse (outboundSettled o (Settled.Refused unsound)))

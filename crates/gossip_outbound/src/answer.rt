@@ -1,7 +1,7 @@
 // What the calls answer: the state first, as it was where the answer is `Refused`, which carries the number of the refusal.
-use super::outbound::Outbound;
 use bucket_terms::answer::Delay;
 use bucket_terms::answer::Told;
+use gossip_outbound_state::state::Outbound;
 
 // Whether a message may be sent, and was charged.
 pub struct OutboundTold {

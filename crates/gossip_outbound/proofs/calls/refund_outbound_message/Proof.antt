@@ -1,0 +1,98 @@
+-- `gossip_outbound::calls::refund_outbound_message` meets its contract: a law of `CallLaws` for each answer. Assumes nothing.
+use mathlib.Core.Path.{sym, _∙_}
+use Rattle.gossip_outbound_state.specs.CarryLaws.{found-unsound, found-placed, placed-global}
+use Rattle.gossip_outbound.specs.CallLaws.{refund-unsound, refund-off, refund-full, refund-yes}
+use borrow.Author.Needs.{needs}
+use Rattle.gossip_outbound.proofs.calls.refund_outbound_message.Statement.{statement}
+use Rattle.gossip_outbound.proofs.calls.refund_outbound_message.Tie as tie
+
+sought-requires : tie.Need-sought-requires
+sought-requires c κs = search needs
+
+is-unsound-requires : tie.Need-is-unsound-requires
+is-unsound-requires c κs = search needs
+
+same-length : tie.Need-same-length
+same-length c = search needs
+
+returns : tie.Need-returns
+returns c = let a = c .before .before .before .before .before .args in
+    refund-unsound (a .o) (a .table .now) (a .peer) (a .bytes) (a .now-ms) (found-unsound (a .o) (a .table .now) (a .peer .bytes) (c .before .before .sought .result) (c .before .before .sought .ensures) (sym (c .before .is-unsound .ensures) ∙ c .if1 .taken))
+
+refunded-requires : tie.Need-refunded-requires
+refunded-requires c κs = let a = c .before .before .before .before .before .before .args in
+    let p = found-placed (a .o) (a .table .now) (a .peer .bytes) (c .before .before .before .sought .result) (c .before .before .before .sought .ensures) (sym (c .before .before .is-unsound .ensures) ∙ c .before .if1 .left) in
+    placed-global (a .o) (a .table .now) (a .peer .bytes) p
+
+is-disabled-requires : tie.Need-is-disabled-requires
+is-disabled-requires c κs = search needs
+
+with-requires : tie.Need-with-requires
+with-requires c κs = search needs
+
+same-length-2 : tie.Need-same-length-2
+same-length-2 c = search needs
+
+returns-2 : tie.Need-returns-2
+returns-2 c = let a = c .before .before .before .before .before .before .before .before .before .before .before .args in
+    let p = found-placed (a .o) (a .table .now) (a .peer .bytes) (c .before .before .before .before .before .before .before .before .sought .result) (c .before .before .before .before .before .before .before .before .sought .ensures) (sym (c .before .before .before .before .before .before .before .is-unsound .ensures) ∙ c .before .before .before .before .before .before .if1 .left) in
+    rw (c .with .ensures) (refund-off (a .o) (a .table .now) (a .peer) (a .bytes) (a .now-ms) (c .before .before .before .before .before .before .before .before .sought .result) p (c .before .before .before .before .refunded .result) (c .before .before .before .before .refunded .ensures) (sym (c .before .before .is-disabled .ensures) ∙ c .before .if2 .taken))
+
+is-full-requires : tie.Need-is-full-requires
+is-full-requires c κs = search needs
+
+same-length-3 : tie.Need-same-length-3
+same-length-3 c = search needs
+
+returns-3 : tie.Need-returns-3
+returns-3 c = let a = c .before .before .before .before .before .before .before .before .before .before .before .before .args in
+    let p = found-placed (a .o) (a .table .now) (a .peer .bytes) (c .before .before .before .before .before .before .before .before .before .sought .result) (c .before .before .before .before .before .before .before .before .before .sought .ensures) (sym (c .before .before .before .before .before .before .before .before .is-unsound .ensures) ∙ c .before .before .before .before .before .before .before .if1 .left) in
+    refund-full (a .o) (a .table .now) (a .peer) (a .bytes) (a .now-ms) (c .before .before .before .before .before .before .before .before .before .sought .result) p (c .before .before .before .before .before .refunded .result) (c .before .before .before .before .before .refunded .ensures) (sym (c .before .before .before .is-disabled .ensures) ∙ c .before .before .if2 .left) (sym (c .before .is-full .ensures) ∙ c .if3 .taken)
+
+peer-bucket-requires : tie.Need-peer-bucket-requires
+peer-bucket-requires c κs = let a = c .before .before .before .before .before .before .before .before .before .before .before .before .before .args in
+    let p = found-placed (a .o) (a .table .now) (a .peer .bytes) (c .before .before .before .before .before .before .before .before .before .before .sought .result) (c .before .before .before .before .before .before .before .before .before .before .sought .ensures) (sym (c .before .before .before .before .before .before .before .before .before .is-unsound .ensures) ∙ c .before .before .before .before .before .before .before .before .if1 .left) in
+    p
+
+refunded-requires-2 : tie.Need-refunded-requires-2
+refunded-requires-2 c κs = c .peer-bucket .ensures .is-sound
+
+write-row-requires : tie.Need-write-row-requires
+write-row-requires c κs = let a = c .before .before .before .before .before .before .before .before .before .before .before .before .before .before .before .before .args in
+    let p = found-placed (a .o) (a .table .now) (a .peer .bytes) (c .before .before .before .before .before .before .before .before .before .before .before .before .before .sought .result) (c .before .before .before .before .before .before .before .before .before .before .before .before .before .sought .ensures) (sym (c .before .before .before .before .before .before .before .before .before .before .before .before .is-unsound .ensures) ∙ c .before .before .before .before .before .before .before .before .before .before .before .if1 .left) in
+    (p, sym (c .before .before .before .before .before .is-full .ensures) ∙ c .before .before .before .before .if3 .left)
+
+with-requires-2 : tie.Need-with-requires-2
+with-requires-2 c κs = search needs
+
+same-length-4 : tie.Need-same-length-4
+same-length-4 c = search needs
+
+returns-4 : tie.Need-returns-4
+returns-4 c = let a = c .before .before .before .before .before .before .before .before .before .before .before .before .before .before .before .before .before .before .before .before .args in
+    let p = found-placed (a .o) (a .table .now) (a .peer .bytes) (c .before .before .before .before .before .before .before .before .before .before .before .before .before .before .before .before .before .sought .result) (c .before .before .before .before .before .before .before .before .before .before .before .before .before .before .before .before .before .sought .ensures) (sym (c .before .before .before .before .before .before .before .before .before .before .before .before .before .before .before .before .is-unsound .ensures) ∙ c .before .before .before .before .before .before .before .before .before .before .before .before .before .before .before .if1 .left) in
+    rw (c .with2 .ensures)
+    (refund-yes (a .o) (a .table .now) (a .peer) (a .bytes) (a .now-ms) (c .before .before .before .before .before .before .before .before .before .before .before .before .before .before .before .before .before .sought .result) p (c .before .before .before .before .before .before .before .before .before .before .before .before .before .refunded .result) (c .before .before .before .before .before .before .before .before .before .before .before .before .before .refunded .ensures) (sym (c .before .before .before .before .before .before .before .before .before .before .before .is-disabled .ensures) ∙ c .before .before .before .before .before .before .before .before .before .before .if2 .left) (sym (c .before .before .before .before .before .before .before .before .before .is-full .ensures) ∙ c .before .before .before .before .before .before .before .before .if3 .left) (c .before .before .before .before .before .before .peer-bucket .result) (c .before .before .before .before .before .before .peer-bucket .ensures) (c .before .before .before .before .before .refunded2 .result) (c .before .before .before .before .before .refunded2 .ensures) _ (c .before .before .before .write-row .result) (c .before .before .before .write-row .ensures))
+
+pub refund-outbound-message-spec : {M : Type 1} → statement M
+refund-outbound-message-spec =
+    tie.close
+    (tie.spec
+    sought-requires
+    is-unsound-requires
+    same-length
+    returns
+    refunded-requires
+    is-disabled-requires
+    with-requires
+    same-length-2
+    returns-2
+    is-full-requires
+    same-length-3
+    returns-3
+    peer-bucket-requires
+    refunded-requires-2
+    write-row-requires
+    with-requires-2
+    same-length-4
+    returns-4)
