@@ -16,6 +16,7 @@ use Rattle.table.specs.Memory.{rows, tableBytes, laid, Holds}
 use Rattle.table.specs.MemoryLaws.{length-rows, tableBytes-rows, fit-rows, laid-put, holds}
 use Rattle.table.specs.OutcomeLaws.{one-meets}
 use Rattle.table_laws.specs.LentLaws.{long-enough, too-short}
+use Rattle.refusal.specs.OneOutcome.{one-outcome}
 use Rattle.refusal.specs.Refusal.{tooShort, limitTooLarge, unsound}
 use Rattle.peer_settings.specs.Config.{limit}
 use Rattle.table.specs.TableLaws.{both, both-parts}
@@ -46,7 +47,7 @@ use Rattle.snapshot.specs.declared.answer.Written.the-variants as Writte
 use Rattle.snapshot.specs.declared.answer.PartPlace.{PartPlace}
 use Rattle.snapshot.specs.declared.answer.PartPlace.the-variants as PartPlace
 use Rattle.snapshot.specs.Form.{rowSize, first, lengthsOf, formSlots, settingsPlace, loadPlace, rowsPlace, rowsIn}
-use Rattle.snapshot.specs.Snapshot.{policyParts, snapshotBytes, snapshotLength, writeOutcome, WriteMeets, settingsIn, placed}
+use Rattle.snapshot.specs.Snapshot.{policyParts, snapshotBytes, snapshotLength, writeOutcome, WriteMeets, settingsIn, placed, partOf}
 use Rattle.snapshot.specs.Snapshot.{recordIn, loadIn, configIn, policyIn, readOutcome, ReadMeets, kindPlace, partPlace}
 
 -- ---- lengths
@@ -347,3 +348,11 @@ write-one p s before h k = (h .answers ∙ sym (k .answers), h .leaves ∙ sym (
 pub read-one : (z before : List ℕ) {r q : Made} {x y : List ℕ} → ReadMeets first z before r x → ReadMeets first z before q y → (r ≡ q) × (x ≡ y)
 unfolding ReadMeets
 read-one z before h k = one-meets h k
+
+-- so has asking for a kind
+pub place-one : (z : List ℕ) (kind : ℕ) {r q : PartPlace} → r ≡ partPlace first z kind → q ≡ partPlace first z kind → r ≡ q
+place-one z kind h k = one-outcome h k
+
+-- and the part that is handed back
+pub part-one : (z : List ℕ) (kind : ℕ) {x y : List ℕ} → x ≡ partOf z (partPlace first z kind) → y ≡ partOf z (partPlace first z kind) → x ≡ y
+part-one z kind h k = one-outcome h k

@@ -16,7 +16,8 @@ enum-known-place c = search needs
 
 sub-result : tie.Need-sub-result
 sub-result c = let a = c .before .before .before .before .before .args in
-    part-within (a .snapshot .now) (a .kind) (c .before .place .given .0 .0) (c .before .place .given .0 .1 .0) (sym (c .before .before .before .place-of-kind .ensures) ∙ c .before .place .given .1) .0
+    let w = part-within (a .snapshot .now) (a .kind) (c .before .place .given .0 .0) (c .before .place .given .0 .1 .0) (sym (c .before .before .before .place-of-kind .ensures) ∙ c .before .place .given .1) in
+    omega (arith, w .0, w .1)
 
 part-result-start : tie.Need-part-result-start
 part-result-start c = let a = c .before .before .before .before .before .args in
