@@ -11,11 +11,12 @@ use Rattle.amount.specs.declared.Amount.{Amount}
 use Rattle.amount_limbs.specs.Limbs.{saturatedUnsigned, ceilDiv}
 use Rattle.amount.specs.Amount.{amountOf, value, saturated, natural, lesser, isI128}
 use Rattle.bucket_bytes.specs.ByteBucket.{msPerSec}
-use Rattle.c_buckets.specs.declared.said.Said.{Said}
+use Rattle.c_terms.specs.declared.said.Said.{Said}
 use Rattle.c_buckets.specs.declared.amounts.AmountOperation.{AmountOperation}
 use Rattle.c_buckets.specs.declared.amounts.AmountOperation.the-variants.{FromU64, IsNegative, IsBelow, IsAbove, Lesser, SaturatingAdd, SaturatingSub, Deficit, ToU64, IsI128, ProductPerThousand, TimesThousand, DivCeilLow, Unknown}
 use Rattle.c_buckets.specs.declared.amounts.AmountDone.{AmountDone}
-use Rattle.c_buckets.specs.Answers.{said, truthSaid, kept}
+use Rattle.c_terms.specs.Answers.{said, truthSaid, kept}
+use Rattle.c_terms.specs.AmountWords.{amountOfWords, amountWords}
 
 -- the operation of a number
 abbrev pub amountOperation : ℕ → AmountOperation
@@ -31,28 +32,6 @@ amountOperation n =
     (cond (eqb n 8) ToU64
     (cond (eqb n 9) IsI128
     (cond (eqb n 10) ProductPerThousand (cond (eqb n 11) TimesThousand (cond (eqb n 12) DivCeilLow Unknown))))))))))))
-
--- the amount that five words say: a sign, 0 for plus, and four limbs
-abbrev pub amountOfWords : List ℕ → Amount
-amountOfWords w =
-    record {
-      negative = not (eqb (getD w 0 0) 0);
-      limbs = getD w 1 0 ∷ getD w 2 0 ∷ getD w 3 0 ∷ getD w 4 0 ∷ [];
-    }
-
-abbrev pub signWord : Bool → ℕ
-signWord true = 1
-signWord false = 0
-
--- an amount's five words
-abbrev pub amountWords : Amount → List ℕ
-amountWords a =
-    signWord (a .negative)
-    ∷ getD (a .limbs) 0 0
-    ∷ getD (a .limbs) 1 0
-    ∷ getD (a .limbs) 2 0
-    ∷ getD (a .limbs) 3 0
-    ∷ []
 
 -- a quotient rounded up, its low 64 bits; by 0 there is none
 abbrev pub quotientSaid : Amount → ℕ → Said

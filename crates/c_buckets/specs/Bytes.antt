@@ -10,12 +10,12 @@ use Rattle.bucket_bytes.specs.declared.bytes.ByteTokenBucket.{ByteTokenBucket}
 use Rattle.bucket_terms.specs.Limit.{byteLimit, byteDisabled}
 use Rattle.bucket_bytes.specs.ByteBucket.{byteNew}
 use Rattle.bucket_bytes.specs.ByteBucket.{ByteRefillMeets, ByteTryConsumeMeets, ByteReserveMeets, BytePeekDelayMeets, ByteRefundMeets, ByteHasDebtMeets}
-use Rattle.c_buckets.specs.declared.said.Said.{Said}
+use Rattle.c_terms.specs.declared.said.Said.{Said}
 use Rattle.c_buckets.specs.declared.bytes.ByteOperation.{ByteOperation}
 use Rattle.c_buckets.specs.declared.bytes.ByteOperation.the-variants.{New, Refill, TryConsume, Reserve, PeekDelay, Refund, HasDebt, BurstBytes, IsDisabled, Unknown}
 use Rattle.c_buckets.specs.declared.bytes.ByteDone.{ByteDone}
-use Rattle.c_buckets.specs.Answers.{said, truthSaid, refilledSaid, consumedSaid, delaySaid, toldSaid, kept}
-use Rattle.c_buckets.specs.Amounts.{amountOfWords, amountWords}
+use Rattle.c_terms.specs.Answers.{said, truthSaid, refilledSaid, consumedSaid, delaySaid, toldSaid, kept}
+use Rattle.c_terms.specs.AmountWords.{amountOfWords, amountWords}
 
 -- the operation of a number
 abbrev pub byteOperation : ℕ → ByteOperation

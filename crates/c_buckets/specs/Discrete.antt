@@ -8,11 +8,11 @@ use lib.ListN.{getD}
 use Rattle.refusal.specs.Some.{Some}
 use Rattle.bucket_discrete.specs.declared.discrete.DiscreteTokenBucket.{DiscreteTokenBucket}
 use Rattle.bucket_discrete.specs.DiscreteBucket.{discreteNew, DiscreteRefillMeets, DiscreteTryConsumeMeets, DiscreteIsFullMeets}
-use Rattle.c_buckets.specs.declared.said.Said.{Said}
+use Rattle.c_terms.specs.declared.said.Said.{Said}
 use Rattle.c_buckets.specs.declared.discrete.DiscreteOperation.{DiscreteOperation}
 use Rattle.c_buckets.specs.declared.discrete.DiscreteOperation.the-variants.{New, Refill, TryConsume, IsFull, Unknown}
 use Rattle.c_buckets.specs.declared.discrete.DiscreteDone.{DiscreteDone}
-use Rattle.c_buckets.specs.Answers.{said, refilledSaid, consumedSaid, toldSaid, kept}
+use Rattle.c_terms.specs.Answers.{said, refilledSaid, consumedSaid, toldSaid, kept}
 
 -- the operation of a number
 abbrev pub discreteOperation : ℕ → DiscreteOperation

@@ -1,4 +1,3 @@
-pub mod Answers
 pub mod Discrete
 pub mod Amounts
 pub mod Bytes

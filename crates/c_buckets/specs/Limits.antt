@@ -7,11 +7,11 @@ use lib.Dec.{eqb}
 use lib.ListN.{getD}
 use Rattle.bucket_terms.specs.declared.limit.ByteRateLimitConfig.{ByteRateLimitConfig}
 use Rattle.bucket_terms.specs.Limit.{byteLimit, byteDisabled}
-use Rattle.c_buckets.specs.declared.said.Said.{Said}
+use Rattle.c_terms.specs.declared.said.Said.{Said}
 use Rattle.c_buckets.specs.declared.limits.LimitOperation.{LimitOperation}
 use Rattle.c_buckets.specs.declared.limits.LimitOperation.the-variants.{DefaultGlobal, DefaultPeer, IsDisabled, Unknown}
 use Rattle.c_buckets.specs.declared.limits.LimitDone.{LimitDone}
-use Rattle.c_buckets.specs.Answers.{said, truthSaid, kept}
+use Rattle.c_terms.specs.Answers.{said, truthSaid, kept}
 
 -- the operation of a number
 abbrev pub limitOperation : ℕ → LimitOperation

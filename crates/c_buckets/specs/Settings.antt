@@ -7,11 +7,11 @@ use lib.Dec.{eqb}
 use lib.ListN.{getD}
 use Rattle.peer_settings.specs.declared.config.PeerMessagePolicyConfig.{PeerMessagePolicyConfig}
 use Rattle.peer_settings.specs.Config.{configDefault, configWithLimits, messageLimitDisabled, banDisabled, unlimited}
-use Rattle.c_buckets.specs.declared.said.Said.{Said}
+use Rattle.c_terms.specs.declared.said.Said.{Said}
 use Rattle.c_buckets.specs.declared.settings.SettingsOperation.{SettingsOperation}
 use Rattle.c_buckets.specs.declared.settings.SettingsOperation.the-variants.{Default, WithLimits, MessageLimitDisabled, BanDisabled, IsUnlimited, Unknown}
 use Rattle.c_buckets.specs.declared.settings.SettingsDone.{SettingsDone}
-use Rattle.c_buckets.specs.Answers.{said, truthSaid, kept}
+use Rattle.c_terms.specs.Answers.{said, truthSaid, kept}
 
 -- the operation of a number
 abbrev pub settingsOperation : ℕ → SettingsOperation

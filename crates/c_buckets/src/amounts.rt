@@ -1,10 +1,11 @@
 // Amounts, under the numbers of the recorded lists: 0 from_u64, 1 is_negative, 2 is_below, 3 is_above, 4 lesser, 5 saturating_add,
 // 6 saturating_sub, 7 deficit, 8 to_u64, 9 is_i128, 10 product_over 1,000, 11 times 1,000, 12 div_ceil_low.
 ghost use mathlib.Core.Path.{_≡_};
-ghost use Rattle.c_buckets.specs.Amounts.{amountOperation, amountOfWords, amountWords, quotientSaid, amountDone, AmountLeft, AmountExported};
-use super::said;
-use super::said::Said;
+ghost use Rattle.c_buckets.specs.Amounts.{amountOperation, quotientSaid, amountDone, AmountLeft, AmountExported};
 use amount::Amount;
+use c_terms::amount_words;
+use c_terms::said;
+use c_terms::said::Said;
 use token_bucket::bytes::ByteTokenBucket;
 
 pub enum AmountOperation {
@@ -49,32 +50,6 @@ fn operation_of(n: u32) -> AmountOperation
         12 => AmountOperation::DivCeilLow,
         _ => AmountOperation::Unknown,
     }
-}
-
-pub(crate) fn amount_of(words: &[u32; 5]) -> Amount
-    ensures { λ r. ⌜ r ≡ amountOfWords (now (words .entry)) ⌝ }
-{
-    let limbs = [words[1], words[2], words[3], words[4]];
-    if words[0] == 0 {
-        return Amount {
-            negative: false,
-            limbs,
-        };
-    }
-    Amount {
-        negative: true,
-        limbs,
-    }
-}
-
-pub(crate) fn words_of(a: Amount) -> [u32; 5]
-    ensures { λ r. ⌜ r ≡ amountWords a ⌝ }
-{
-    let limbs = a.limbs;
-    if a.negative {
-        return [1, limbs[0], limbs[1], limbs[2], limbs[3]];
-    }
-    [0, limbs[0], limbs[1], limbs[2], limbs[3]]
 }
 
 // No number is divided by 0.
@@ -159,7 +134,7 @@ fn leave(result: &mut [u32; 5], value: &mut u64, d: AmountDone) -> u32
         return said.number;
     }
     let amount = d.amount;
-    *result = words_of(amount);
+    *result = amount_words::words_of(amount);
     *value = said.value;
     said.number
 }
@@ -176,8 +151,8 @@ pub extern "C" fn uglezmir_amount(
 ) -> u32
     ensures { λ r. ⌜ AmountExported operation (now (first .entry)) (now (second .entry)) n m (now (result .entry)) (now (value .entry)) r (now (result .exit)) (now (value .exit)) ⌝ }
 {
-    let a = amount_of(first);
-    let b = amount_of(second);
+    let a = amount_words::amount_of(first);
+    let b = amount_words::amount_of(second);
     let d = done(operation_of(operation), a, b, n, m);
     leave(result, value, d)
 }

@@ -2,9 +2,9 @@
 // bytes, 7 promises them, 8 asks for the delay, 9 gives bytes back, 10 asks for debt, 11 for the burst, 12 whether it is off.
 ghost use mathlib.Core.Path.{_≡_};
 ghost use Rattle.c_buckets.specs.Bytes.{byteOperation, byteOf, ByteDoes, ByteLeft, ByteExported};
-use super::amounts;
-use super::said;
-use super::said::Said;
+use c_terms::amount_words;
+use c_terms::said;
+use c_terms::said::Said;
 use token_bucket::bytes::ByteRateLimitConfig;
 use token_bucket::bytes::ByteTokenBucket;
 
@@ -47,7 +47,7 @@ fn operation_of(n: u32) -> ByteOperation
 fn bucket_of(longs: &[u64; 3], available: &[u32; 5]) -> ByteTokenBucket
     ensures { λ r. ⌜ r ≡ byteOf (now (longs .entry)) (now (available .entry)) ⌝ }
 {
-    let available_bytes = amounts::amount_of(available);
+    let available_bytes = amount_words::amount_of(available);
     ByteTokenBucket {
         config: ByteRateLimitConfig {
             rate_bytes_per_sec: longs[0],
@@ -144,7 +144,7 @@ fn leave(longs: &mut [u64; 3], available: &mut [u32; 5], value: &mut u64, d: Byt
         config.burst_bytes,
         b.last_refill_ms,
     ];
-    *available = amounts::words_of(amount);
+    *available = amount_words::words_of(amount);
     *value = said.value;
     said.number
 }

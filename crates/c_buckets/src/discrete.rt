@@ -1,8 +1,8 @@
 // The discrete bucket: 0 makes a full one of the words' interval and capacity, 1 refills, 2 takes a token, 3 asks whether it is full.
 ghost use mathlib.Core.Path.{_≡_};
 ghost use Rattle.c_buckets.specs.Discrete.{discreteOperation, discreteOf, discreteLongs, discreteShorts, DiscreteDoes, DiscreteLeft, DiscreteExported};
-use super::said;
-use super::said::Said;
+use c_terms::said;
+use c_terms::said::Said;
 use token_bucket::discrete::DiscreteTokenBucket;
 
 pub enum DiscreteOperation {

@@ -14,5 +14,4 @@ pub mod amounts;
 pub mod bytes;
 pub mod discrete;
 pub mod limits;
-mod said;
 pub mod settings;

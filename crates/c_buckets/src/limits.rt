@@ -1,8 +1,8 @@
 // The settings of a byte bucket: 0 leaves the global default, 1 the peers' default, 2 asks whether the limit is off.
 ghost use mathlib.Core.Path.{_≡_};
 ghost use Rattle.c_buckets.specs.Limits.{limitOperation, limitOf, limitDone, LimitLeft, LimitExported};
-use super::said;
-use super::said::Said;
+use c_terms::said;
+use c_terms::said::Said;
 use token_bucket::bytes::ByteRateLimitConfig;
 
 pub enum LimitOperation {

@@ -2,8 +2,8 @@
 // the message limit is off, 3 whether bans are, 4 whether the ceiling is.
 ghost use mathlib.Core.Path.{_≡_};
 ghost use Rattle.c_buckets.specs.Settings.{settingsOperation, settingsOf, settingsLongs, settingsShorts, settingsDone, SettingsLeft, SettingsExported};
-use super::said;
-use super::said::Said;
+use c_terms::said;
+use c_terms::said::Said;
 use peer_settings::config::PeerMessagePolicyConfig;
 
 pub enum SettingsOperation {
