@@ -7,7 +7,6 @@ use lib.ListN.{length}
 use Rattle.lent_bytes.specs.LentBytes.{part, zeros}
 use Rattle.refusal.specs.Refusal.{wrongLayout}
 use Rattle.table.specs.Memory.{rowOf}
-use Rattle.peer_state.specs.declared.entry.PeerMessagePolicyEntry.{PeerMessagePolicyEntry}
 use Rattle.peer_state.specs.Entry.{level, window}
 use Rattle.peer_rows.specs.Rows.{peerLayout}
 use Rattle.peer_rows.specs.Peer.{ban}

@@ -1,13 +1,13 @@
 -- Laws of the walk over a snapshot's rows. Assumes nothing.
 use mathlib.Core.Path.{_≡_, refl, sym, ap, _∙_}
-use mathlib.Core.Bool.{Bool, true, false, _&&_, cond}
-use mathlib.Core.List.{List, [], _++_, append-nil}
+use mathlib.Core.Bool.{true, false}
+use mathlib.Core.List.{List, _++_, append-nil}
 use Prim.Native.Nat.{ℕ, _+_, _-_, _*_, _%_, _≤_, _<_}
 use native.Mathlib.Omega.{arith}
 use borrow.Author.Tests.{leb-true, le-leb, lt-leb, eqb-true, eq-eqb, ne-eqb}
 use lib.Dec.{leb, eqb}
-use lib.ListN.{length, take, drop, drop-of-length-le}
-use Rattle.lent_bytes.specs.LentBytes.{part, put}
+use lib.ListN.{length, drop-of-length-le}
+use Rattle.lent_bytes.specs.LentBytes.{put}
 use Rattle.refusal.specs.Refusal.{wrongLayout}
 use Rattle.table.specs.TableLaws.{both-parts}
 use Rattle.snapshot_layout.specs.Layout.{placeFrom, placeOf}
@@ -17,7 +17,7 @@ use Rattle.snapshot.specs.declared.answer.PartPlace.{PartPlace}
 use Rattle.snapshot.specs.declared.answer.PartPlace.the-variants as PartPlace
 use Rattle.snapshot.specs.Form.{rowSize, first, rowsPlace, rowsIn}
 use Rattle.snapshot.specs.Snapshot.{wasRead, settingsIn, layoutRight, kindPlace, partPlace}
-use Rattle.snapshot.specs.SnapshotLaws.{read-length}
+use Rattle.snapshot.specs.JudgeLaws.{read-length}
 use Rattle.snapshot_reader.specs.Reader.{given, done, givenAt, ended, rowPlace, stands, stepAt}
 
 -- bytes written over all of a list are what is left

@@ -5,7 +5,7 @@ use Prim.Native.Nat.{ℕ}
 use Rattle.lent_bytes.specs.LentBytes.{part}
 use Rattle.table.specs.Memory.{rowOf}
 use Rattle.peer_rows.specs.Rows.{peerLayout}
-use Rattle.snapshot.specs.SnapshotLaws.{whole-tail}
+use Rattle.snapshot.specs.JudgeLaws.{whole-tail}
 use borrow.Author.Needs.{needs}
 use Rattle.snapshot_reader.proofs.row.given_at.Statement.{statement}
 use Rattle.snapshot_reader.proofs.row.given_at.Tie as tie
