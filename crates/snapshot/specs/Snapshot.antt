@@ -1,5 +1,5 @@
 -- A peer policy's snapshot: the bytes that are written, what is read from any bytes at all, and what the calls' contracts say of every
--- answer and every lent byte. Definitions only; their laws are in `SnapshotLaws`.
+-- answer and every lent byte. Definitions only; their laws are in `JudgeLaws`, `ReadLaws`, `WriteLaws` and `PartLaws`.
 use mathlib.Core.Path.{_≡_}
 use mathlib.Core.Bool.{Bool, true, false, _&&_, cond}
 use mathlib.Core.List.{List, [], _∷_}

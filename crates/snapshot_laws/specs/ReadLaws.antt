@@ -6,7 +6,6 @@ use mathlib.Core.List.{List, [], _∷_, _++_}
 use Prim.Native.Nat.{ℕ, _+_, _-_, _*_, _≤_, max}
 use native.Mathlib.Omega.{arith}
 use borrow.Author.Tests.{leb-true}
-use lib.Dec.{leb}
 use lib.Seq.{take-at}
 use lib.ListN.{length, take, drop, length-drop}
 use Rattle.lent_bytes.specs.LentBytes.{part, zeros, Bytes}
@@ -26,15 +25,15 @@ use Rattle.peer_message_policy.specs.declared.answer.Made.the-variants as Made
 use Rattle.peer_message_policy.specs.Policy.{rowsOf, longEnough, sound, become}
 use Rattle.peer_message_policy.specs.Calls.{Meets, refuse}
 use Rattle.peer_laws.specs.SoundLaws.{record-holds, holds-policy}
-use Rattle.snapshot_layout.specs.Layout.{Part, snapshotOf, laidOut, cutFrom, cut}
+use Rattle.snapshot_layout.specs.Layout.{snapshotOf, laidOut, cutFrom, cut}
 use Rattle.snapshot_layout.specs.LayoutLaws.{accepted-is}
-use Rattle.snapshot_settings.specs.Settings.{settingsSize, settingsBytes}
+use Rattle.snapshot_settings.specs.Settings.{settingsBytes}
 use Rattle.snapshot_settings.specs.SettingsLaws.{settings-write-back}
-use Rattle.snapshot_settings.specs.Load.{loadSize, loadBytes}
+use Rattle.snapshot_settings.specs.Load.{loadBytes}
 use Rattle.snapshot_settings.specs.LoadLaws.{load-write-back}
-use Rattle.snapshot.specs.Form.{rowSize, first, formSlots, settingsPlace, loadPlace, rowsPlace, rowsIn}
+use Rattle.snapshot.specs.Form.{rowSize, first, formSlots, rowsPlace}
 use Rattle.snapshot.specs.Snapshot.{policyParts, snapshotBytes, limitOf, policyIn, restored, readOutcome, ReadMeets}
-use Rattle.snapshot.specs.SnapshotLaws.{read-laid, read-settings, Describes, policy-describes, describes-length}
+use Rattle.snapshot.specs.JudgeLaws.{read-laid, read-settings, Describes, policy-describes, describes-length}
 
 -- the snapshot describes the policy, and the table that had room for its limit holds its rows
 pub record Restored (z before : List ℕ) (q : PeerMessagePolicy) (after : List ℕ) : Type 0 where

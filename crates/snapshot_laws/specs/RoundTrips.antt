@@ -16,13 +16,14 @@ use Rattle.peer_message_policy.specs.declared.policy.PeerMessagePolicy.{PeerMes
 use Rattle.peer_message_policy.specs.declared.answer.Made.{Made}
 use Rattle.peer_message_policy.specs.declared.answer.Made.the-variants as Made
 use Rattle.peer_message_policy.specs.Policy.{rowsOf, longEnough, sound, Change, become}
-use Rattle.peer_message_policy.specs.Calls.{Outcome, refuse}
+use Rattle.peer_message_policy.specs.Calls.{refuse}
 use Rattle.peer_laws.specs.Fits.{PolicyFits}
 use Rattle.snapshot.specs.declared.answer.Written.{Written}
 use Rattle.snapshot.specs.declared.answer.Written.the-variants as Written
 use Rattle.snapshot.specs.Form.{rowSize, first, rowsPlace}
 use Rattle.snapshot.specs.Snapshot.{snapshotBytes, snapshotLength, WriteOutcome, writeOutcome, WriteMeets, policyIn, restored, readOutcome, ReadMeets}
-use Rattle.snapshot.specs.SnapshotLaws.{describes-policy, describes-length, write-done, write-one}
+use Rattle.snapshot.specs.JudgeLaws.{describes-policy, describes-length}
+use Rattle.snapshot.specs.WriteLaws.{write-done, write-one}
 use Rattle.snapshot_laws.specs.WrittenLaws.{written-length, written-tail, written-rows, written-describes}
 use Rattle.snapshot_laws.specs.ReadLaws.{Restored, read-restored, restored-rows, restored-sound, restored-front, bytes-again}
 

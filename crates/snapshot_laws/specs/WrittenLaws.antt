@@ -1,9 +1,9 @@
 -- What stands in a snapshot that was written: the layout is right, and settings, load and rows are those of the policy. Assumes nothing.
 use Prim.{tt}
 use mathlib.Core.Path.{_≡_, refl, sym, ap, _∙_, subst}
-use mathlib.Core.Bool.{Bool, true, false, _&&_, cond}
-use mathlib.Core.List.{List, [], _∷_}
-use Prim.Native.Nat.{ℕ, _+_, _-_, _*_, _^_, _≤_, _<_}
+use mathlib.Core.Bool.{Bool, true, _&&_, cond}
+use mathlib.Core.List.{List}
+use Prim.Native.Nat.{ℕ, _+_, _-_, _*_, _≤_}
 use native.Mathlib.Omega.{arith}
 use lib.Seq.{take-all}
 use lib.ListN.{length, take, drop, length-drop}
@@ -18,19 +18,19 @@ use Rattle.peer_laws.specs.SoundLaws.{policy-holds, holds-record}
 use Rattle.peer_laws.specs.Fits.{PolicyFits}
 use Rattle.snapshot_layout.specs.declared.place.Place.{Place}
 use Rattle.snapshot_layout.specs.declared.place.Place.the-variants as Place
-use Rattle.snapshot_layout.specs.Layout.{Slot, slotsOf, snapshotSize, snapshotOf, laidOut, bodyOf, placeFrom, placeOf, SlotsFit}
+use Rattle.snapshot_layout.specs.Layout.{slotsOf, snapshotSize, laidOut, bodyOf, placeFrom, placeOf, SlotsFit}
 use Rattle.snapshot_layout.specs.LayoutLaws.{length-snapshot, laid-out}
 use Rattle.snapshot_layout.specs.PlaceLaws.{place-snapshot}
 use Rattle.snapshot_settings.specs.declared.settings.ReadSettings.{ReadSettings}
 use Rattle.snapshot_settings.specs.declared.settings.ReadSettings.the-variants as ReadSettings
-use Rattle.snapshot_settings.specs.declared.load.ReadLoad.the-variants as ReadLoad
 use Rattle.snapshot_settings.specs.Settings.{settingsSize, settingsBytes, settingsOf}
 use Rattle.snapshot_settings.specs.SettingsLaws.{settings-read-back}
 use Rattle.snapshot_settings.specs.Load.{loadSize, loadBytes, loadOf}
 use Rattle.snapshot_settings.specs.LoadLaws.{load-read-back}
 use Rattle.snapshot.specs.Form.{rowSize, first, formSlots, settingsPlace, loadPlace, rowsPlace, rowsIn}
 use Rattle.snapshot.specs.Snapshot.{policyParts, snapshotBytes, snapshotLength, settingsIn}
-use Rattle.snapshot.specs.SnapshotLaws.{slots-parts, sound-rows, Describes}
+use Rattle.snapshot.specs.WriteLaws.{sound-rows, slots-parts}
+use Rattle.snapshot.specs.JudgeLaws.{Describes}
 
 module _ (p : PeerMessagePolicy) (s : List ℕ) (h : sound p s ≡ true) where
   slots-here : slotsOf (policyParts p s) ≡ formSlots first (p .rows)

@@ -5,7 +5,7 @@ use Prim.Native.Nat.{ℕ, _+_, _-_, _*_}
 use native.Mathlib.Omega.{arith}
 use lib.ListN.{take, drop}
 use Rattle.lent_bytes.specs.LentBytes.{put, zeros}
-use Rattle.snapshot.specs.SnapshotLaws.{copied-rows}
+use Rattle.snapshot.specs.ReadLaws.{copied-rows}
 use borrow.Author.Needs.{needs}
 use Rattle.snapshot.proofs.copy.copy_rows.Statement.{statement}
 use Rattle.snapshot.proofs.copy.copy_rows.Tie as tie

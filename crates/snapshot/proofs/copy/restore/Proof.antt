@@ -5,7 +5,8 @@ use native.Mathlib.Omega.{arith}
 use lib.ListN.{length}
 use Rattle.peer_settings.specs.Config.{limit}
 use Rattle.peer_laws.specs.SoundLaws.{record-holds}
-use Rattle.snapshot.specs.SnapshotLaws.{policy-describes, describes-length, read-short, read-done}
+use Rattle.snapshot.specs.JudgeLaws.{policy-describes, describes-length}
+use Rattle.snapshot.specs.ReadLaws.{read-short, read-done}
 use borrow.Author.Needs.{needs}
 use Rattle.snapshot.proofs.copy.restore.Statement.{statement}
 use Rattle.snapshot.proofs.copy.restore.Tie as tie

@@ -3,7 +3,7 @@ use mathlib.Core.Path.{sym, ap, _∙_}
 use native.Mathlib.Omega.{arith}
 use Rattle.snapshot.specs.Form.{first}
 use Rattle.snapshot.specs.Snapshot.{configIn, policyIn}
-use Rattle.snapshot.specs.SnapshotLaws.{read-length}
+use Rattle.snapshot.specs.JudgeLaws.{read-length}
 use borrow.Author.Needs.{needs}
 use Rattle.snapshot.proofs.judge.policy_in.Statement.{statement}
 use Rattle.snapshot.proofs.judge.policy_in.Tie as tie

@@ -4,7 +4,7 @@ use Prim.Native.Nat.{ℕ}
 use native.Mathlib.Omega.{arith}
 use Rattle.snapshot.specs.Form.{first}
 use Rattle.snapshot.specs.Snapshot.{recordIn}
-use Rattle.snapshot.specs.SnapshotLaws.{limit-refused, load-refused, load-told}
+use Rattle.snapshot.specs.JudgeLaws.{limit-refused, load-refused, load-told}
 use borrow.Author.Needs.{needs}
 use Rattle.snapshot.proofs.judge.policy_with.Statement.{statement}
 use Rattle.snapshot.proofs.judge.policy_with.Tie as tie

@@ -4,7 +4,7 @@ use mathlib.Core.List.{List}
 use Prim.Native.Nat.{ℕ}
 use borrow.Author.Tests.{not-true, not-false}
 use Rattle.peer_message_policy.specs.Policy.{rowsSound}
-use Rattle.snapshot.specs.SnapshotLaws.{whole-tail, record-refused, rows-refused, record-taken}
+use Rattle.snapshot.specs.JudgeLaws.{whole-tail, record-refused, rows-refused, record-taken}
 use borrow.Author.Needs.{needs}
 use Rattle.snapshot.proofs.judge.record_in.Statement.{statement}
 use Rattle.snapshot.proofs.judge.record_in.Tie as tie

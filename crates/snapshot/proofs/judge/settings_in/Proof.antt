@@ -4,7 +4,7 @@ use native.Mathlib.Omega.{arith}
 use borrow.Author.Tests.{not-true, not-false}
 use Rattle.snapshot_layout.specs.Layout.{laidOut}
 use Rattle.snapshot.specs.Form.{first, rowsIn}
-use Rattle.snapshot.specs.SnapshotLaws.{slots-are, laid-length, settings-refused, settings-told}
+use Rattle.snapshot.specs.JudgeLaws.{slots-are, laid-length, settings-refused, settings-told}
 use borrow.Author.Needs.{needs}
 use Rattle.snapshot.proofs.judge.settings_in.Statement.{statement}
 use Rattle.snapshot.proofs.judge.settings_in.Tie as tie

@@ -4,7 +4,7 @@ use native.Mathlib.Omega.{arith}
 use Rattle.snapshot_layout.specs.Layout.{placeOf}
 use Rattle.snapshot.specs.Form.{first, rowsIn}
 use Rattle.snapshot.specs.Snapshot.{placed}
-use Rattle.snapshot.specs.SnapshotLaws.{slots-are}
+use Rattle.snapshot.specs.JudgeLaws.{slots-are}
 use borrow.Author.Needs.{needs}
 use Rattle.snapshot.proofs.part.kind_place.Statement.{statement}
 use Rattle.snapshot.proofs.part.kind_place.Tie as tie

@@ -3,7 +3,7 @@ use mathlib.Core.Path.{sym, ap, _∙_}
 use native.Mathlib.Omega.{arith}
 use Rattle.lent_bytes.specs.LentBytes as lent
 use Rattle.snapshot.specs.Snapshot.{partOf}
-use Rattle.snapshot.specs.SnapshotLaws.{part-within}
+use Rattle.snapshot.specs.PartLaws.{part-within}
 use borrow.Author.Needs.{needs}
 use Rattle.snapshot.proofs.part.part.Statement.{statement}
 use Rattle.snapshot.proofs.part.part.Tie as tie

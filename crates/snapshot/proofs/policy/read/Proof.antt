@@ -1,6 +1,6 @@
 -- `policy::read` meets its contract. Assumes nothing.
 use mathlib.Core.Path.{sym, _∙_}
-use Rattle.snapshot.specs.SnapshotLaws.{read-refused}
+use Rattle.snapshot.specs.ReadLaws.{read-refused}
 use borrow.Author.Needs.{needs}
 use Rattle.snapshot.proofs.policy.read.Statement.{statement}
 use Rattle.snapshot.proofs.policy.read.Tie as tie

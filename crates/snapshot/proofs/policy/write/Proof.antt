@@ -4,7 +4,7 @@ use mathlib.Core.Bool.{true}
 use native.Mathlib.Omega.{arith}
 use borrow.Author.Tests.{not-true, not-false}
 use Rattle.peer_message_policy.specs.Policy.{sound}
-use Rattle.snapshot.specs.SnapshotLaws.{sound-rows, write-unsound, write-short, write-done}
+use Rattle.snapshot.specs.WriteLaws.{sound-rows, write-unsound, write-short, write-done}
 use borrow.Author.Needs.{needs}
 use Rattle.snapshot.proofs.policy.write.Statement.{statement}
 use Rattle.snapshot.proofs.policy.write.Tie as tie

@@ -6,7 +6,7 @@ use native.Mathlib.Omega.{arith}
 use lib.ListN.{length, take}
 use Rattle.lent_bytes.specs.LentBytes.{put}
 use Rattle.snapshot_settings.specs.Load.{loadBytes}
-use Rattle.snapshot.specs.SnapshotLaws.{rows-length, put-parts}
+use Rattle.snapshot.specs.WriteLaws.{rows-length, put-parts}
 use borrow.Author.Needs.{needs}
 use Rattle.snapshot.proofs.put.put_bodies.Statement.{statement}
 use Rattle.snapshot.proofs.put.put_bodies.Tie as tie

@@ -6,7 +6,8 @@ use native.Mathlib.Omega.{arith}
 use Rattle.lent_bytes.specs.LentBytes.{put}
 use Rattle.snapshot_layout.specs.Layout.{Slot, contents, bodies}
 use Rattle.snapshot.specs.Snapshot.{policyParts}
-use Rattle.snapshot.specs.SnapshotLaws.{slots-are, put-whole}
+use Rattle.snapshot.specs.JudgeLaws.{slots-are}
+use Rattle.snapshot.specs.WriteLaws.{put-whole}
 use borrow.Author.Needs.{needs}
 use Rattle.snapshot.proofs.put.put_snapshot.Statement.{statement}
 use Rattle.snapshot.proofs.put.put_snapshot.Tie as tie
