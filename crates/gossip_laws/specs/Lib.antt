@@ -8,3 +8,7 @@ pub mod LimiterSampleLaws
 pub mod OutboundOutcomeLaws
 pub mod OutboundKept
 pub mod OutboundKeptLaws
+pub mod PolicyOutcomeLaws
+pub mod PolicyKept
+pub mod PolicyKeptLaws
+pub mod PolicyMadeLaws

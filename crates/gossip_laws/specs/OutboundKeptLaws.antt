@@ -46,7 +46,7 @@ use Rattle.gossip_outbound.specs.Calls.{AllowMeets, allowOutcome, RemoveMeets, 
 use Rattle.gossip_laws.specs.OutboundKept.{Given, Kept, fresh}
 
 -- an entry's bytes, whatever it is
-outbound-encodes : Encodes outboundLayout
+pub outbound-encodes : Encodes outboundLayout
 outbound-encodes =
     let num = of-numbers 33 65 outboundNumbers (omega arith) refl (λ e. refl) (λ e. refl) (λ s. refl) in
     record { key-fits = omega arith; length-encode = length-encode num; encode-bytes = encode-bytes num }

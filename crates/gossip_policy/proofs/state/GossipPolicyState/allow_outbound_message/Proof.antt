@@ -1,0 +1,25 @@
+-- `gossip_policy::state::GossipPolicyState::allow_outbound_message` meets its contract. Assumes nothing.
+use Rattle.gossip_policy.proofs.Whole.{allowed}
+use borrow.Author.Needs.{needs}
+use Rattle.gossip_policy.proofs.state.GossipPolicyState.allow_outbound_message.Statement.{statement}
+use Rattle.gossip_policy.proofs.state.GossipPolicyState.allow_outbound_message.Tie as tie
+
+outbound-of-requires : tie.Need-outbound-of-requires
+outbound-of-requires c κs = search needs
+
+allow-outbound-message-requires : tie.Need-allow-outbound-message-requires
+allow-outbound-message-requires c κs = search needs
+
+with-outbound-requires : tie.Need-with-outbound-requires
+with-outbound-requires c κs = search needs
+
+same-length : tie.Need-same-length
+same-length c = search needs
+
+returns : tie.Need-returns
+returns c = let a = c .before .before .before .before .before .before .before .before .args in
+    rw (c .with-outbound .ensures)
+    (allowed (a .self) (a .outbound-table .now) _ (a .peer) (a .bytes) (a .now-ms) (c .before .before .before .before .allow-outbound-message .result) (rw (c .before .before .before .before .before .before .outbound-of .ensures) at (c .before .before .before .before .allow-outbound-message .ensures)))
+
+pub allow-outbound-message-spec : {M : Type 1} → statement M
+allow-outbound-message-spec = tie.close (tie.spec outbound-of-requires allow-outbound-message-requires with-outbound-requires same-length returns)
