@@ -1,3 +1,3 @@
 pub mod WrittenLaws
 pub mod ReadLaws
-pub mod RoundTrips
+pub mod RoundTripLaws
