@@ -6,9 +6,17 @@ use Prim.Native.Nat.{ℕ, _+_, _-_, _*_, _%_, _≤_, _<_}
 use native.Mathlib.Omega.{arith}
 use borrow.Author.Tests.{leb-true, le-leb, lt-leb, eqb-true, eq-eqb, ne-eqb}
 use lib.Dec.{leb, eqb}
-use lib.ListN.{length, drop-of-length-le}
-use Rattle.lent_bytes.specs.LentBytes.{put}
+use lib.Seq.{drop-drop}
+use lib.ListN.{getD, drop, take, length, drop-of-length-le}
+use Rattle.lent_bytes.specs.LentBytes.{part, put}
 use Rattle.refusal.specs.Refusal.{wrongLayout}
+use Rattle.table.specs.Table.{Row}
+use Rattle.table.specs.Memory.{rowOf, rows}
+use Rattle.table.specs.MemoryLaws.{getD-rows, key-rowOf}
+use Rattle.peer_state.specs.declared.entry.PeerMessagePolicyEntry.{PeerMessagePolicyEntry}
+use Rattle.peer_rows.specs.Rows.{peerLayout}
+use Rattle.peer_rows.specs.RowsLaws.{peer-faithful}
+use Rattle.peer_rows.specs.Peer.{peerRow}
 use Rattle.table.specs.TableLaws.{both-parts}
 use Rattle.snapshot_layout.specs.Layout.{placeFrom, placeOf}
 use Rattle.snapshot_settings.specs.declared.settings.ReadSettings.{ReadSettings}
@@ -127,3 +135,12 @@ module _ (z : List ℕ) (h : layoutRight first z ≡ true) (k : ℕ) where
 pub walk-done : (z : List ℕ) → layoutRight first z ≡ true → stepAt z (placeOfRow (rowsIn first z)) ≡ ended done (placeOfRow (rowsIn first z))
 walk-done z h =
     step-done z (placeOfRow (rowsIn first z)) (place-here z h (rowsIn first z) (omega arith)) (sym (size-here z h (rowsIn first z)))
+
+-- what the walk gives at the place of the k-th row is the k-th of the rows that a policy reads there
+pub walk-gives : (z : List ℕ) (n k : ℕ) (d : Row PeerMessagePolicyEntry) → k < n
+    → getD (rows peerLayout (drop (rowsPlace first) z) n) k d ≡ peerRow (givenAt z (placeOfRow k) .key .bytes) (givenAt z (placeOfRow k) .entry)
+unfolding part
+walk-gives z n k d h =
+    getD-rows peerLayout (drop (rowsPlace first) z) n k d h
+    ∙ ap (λ (w : List ℕ). rowOf peerLayout (take rowSize w)) (drop-drop (rowSize * k) (rowsPlace first) z)
+    ∙ ap (λ (x : List ℕ). peerRow x (rowOf peerLayout (part z (placeOfRow k) rowSize) .entry)) (key-rowOf peer-faithful z (placeOfRow k))
