@@ -1,7 +1,7 @@
 -- A sound byte bucket stays sound, whatever is done with it: each operation leaves it as it was, or at a level of its own settings that
 -- is sound. In order: levels; what an operation leaves; the operations. Assumes nothing.
-use mathlib.Core.Path.{_≡_, refl, sym, ap, _∙_}
-use mathlib.Core.Bool.{Bool, true, false, _&&_, _||_, not, cond}
+use mathlib.Core.Path.{_≡_, refl, ap, _∙_}
+use mathlib.Core.Bool.{Bool, true, false, _&&_, _||_, cond}
 use Prim.Native.Nat.{ℕ, zero, suc, _+_, _-_, _*_, _/_, _^_, _<_, _≤_, min}
 use native.Mathlib.Nat.{le-trans, le-of-lt, le-refl, min-le-left, sub-le}
 use native.Mathlib.Omega.{arith}
@@ -9,7 +9,7 @@ use borrow.Author.Tests.{leb-true, le-leb, ltb-true, ltb-false, le-ltb, not-true
 use lib.Dec.{leb, ltb, lit≤}
 use lib.IntN.{ℤ, pos, negsuc, _+ℤ_, _-ℤ_, subℕ}
 use lib.Signed.{ltZ}
-use Rattle.amount.specs.Amount.{value, amountOf, isI128, inRange, saturated, lesser}
+use Rattle.amount.specs.Amount.{value, isI128, inRange, saturated, lesser}
 use Rattle.amount.specs.AmountLaws.{saturated-in-range}
 use Rattle.amount.specs.AmountOfLaws.{magnitude, amountOf-is}
 use Rattle.bucket_terms.specs.declared.limit.ByteRateLimitConfig.{ByteRateLimitConfig}

@@ -5,7 +5,7 @@ pub mod LimiterOutcomeLaws
 pub mod LimiterSoundLaws
 pub mod LimiterAnswerLaws
 pub mod LimiterSampleLaws
-pub mod OutboundOutcomes
+pub mod OutboundOutcomeLaws
 pub mod OutboundKept
 pub mod OutboundKeptLaws
 pub mod PolicyOutcomeLaws

@@ -1,6 +1,6 @@
 -- A key that gets a fresh bucket is let in: where the limit is on a burst is at least one token. Assumes nothing.
-use mathlib.Core.Bool.{Bool, true, false, _||_, cond}
-use mathlib.Core.Path.{_≡_, refl, ap, _∙_}
+use mathlib.Core.Bool.{Bool, true, false, _||_}
+use mathlib.Core.Path.{_≡_, ap, _∙_}
 use mathlib.Core.List.{List}
 use mathlib.Core.Option.{none}
 use Prim.Native.Nat.{ℕ, _+_, _-_, _/_, _%_, _<_, min}
@@ -8,10 +8,10 @@ use native.Mathlib.Omega.{arith}
 use lib.Dec.{leb, eqb}
 use lib.ListN.{length}
 use Rattle.table.specs.Table.{look}
+use Rattle.table.specs.TableLaws.{by-test}
 use Rattle.table.specs.Outcome.{Outcome}
 use Rattle.bucket_terms.specs.declared.answer.Told.{Told}
 use Rattle.bucket_terms.specs.declared.answer.Told.the-variants as Told
-use Rattle.bucket_discrete.specs.declared.discrete.DiscreteTokenBucket.{DiscreteTokenBucket}
 use Rattle.bucket_discrete.specs.DiscreteBucket.{discreteNew, discreteRefill, discreteTake, discreteTryConsume}
 use Rattle.gossip_settings.specs.declared.channel_update.ChannelUpdateRateLimitConfig.{ChannelUpdateRateLimitConfig}
 use Rattle.gossip_settings.specs.Settings.{channelUpdateDisabled}
@@ -22,17 +22,13 @@ use Rattle.gossip_limiter_rows.specs.Prune.{roomFor}
 use Rattle.gossip_limiter.specs.Limiter.{tryAcquire}
 use Rattle.gossip_limiter.specs.LimiterLaws.{acquire-new}
 
-either : (P : DiscreteTokenBucket → Type 0) (t : Bool) {x y : DiscreteTokenBucket} → P x → P y → P (cond t x y)
-either P true first second = first
-either P false first second = second
-
 -- a full bucket stays full
 refill-full : (interval burst now : ℕ) → discreteRefill (discreteNew interval burst) now .available ≡ burst
 unfolding discreteRefill
 refill-full interval burst now =
     let refill : ℕ = (now - 0) / interval % 4294967296 in
-    either (λ (b : DiscreteTokenBucket). b .available ≡ burst) (eqb interval 0 || (eqb burst 0 || leb now 0)) refl
-    (either (λ (b : DiscreteTokenBucket). b .available ≡ burst) (eqb refill 0) refl (most burst refill))
+    by-test (eqb interval 0 || (eqb burst 0 || leb now 0)) (λ t. rw t)
+    (λ t. rw t (by-test (eqb refill 0) (λ z. rw z) (λ z. rw z (most burst refill))))
   where
     most : (a r : ℕ) → min (a + r) a ≡ a
     most a r = omega arith

@@ -75,8 +75,8 @@ unfolding limiterKeyBytes
 key-held k w peer outpoint = (
   limiter-key-length w,
   Bytes-append (k .peer .bytes) (k .«channel_outpoint» .bytes ++ (sideByte (k .«is_node1») ∷ [])) peer
-  (Bytes-append (k .«channel_outpoint» .bytes) (sideByte (k .«is_node1») ∷ []) outpoint
-  (Bytes-cons (sideByte (k .«is_node1»)) [] (omega (arith, side-small (k .«is_node1»))) Bytes-nil)),
+      (Bytes-append (k .«channel_outpoint» .bytes) (sideByte (k .«is_node1») ∷ []) outpoint
+      (Bytes-cons (sideByte (k .«is_node1»)) [] (omega (arith, side-small (k .«is_node1»))) Bytes-nil)),
 )
 
 -- the row of a bucket that was asked, under a key with a side

@@ -1,20 +1,19 @@
 -- Every outbound call on a sound state leaves a sound one, the memory's length, and the settings; and a fresh state is sound. In order:
 -- a fresh state; a change kept; a peer's bucket; allow; remove; reserve; refund. The calls that are lent the memory to read leave no
 -- state. Assumes nothing.
-use mathlib.Core.Path.{_≡_, refl, sym, ap, _∙_}
+use mathlib.Core.Path.{_≡_, refl, ap}
 use mathlib.Core.Bool.{Bool, true, false, cond}
-use mathlib.Core.List.{List, []}
+use mathlib.Core.List.{List}
 use mathlib.Core.Option.{Option, none, some}
-use Prim.Native.Nat.{ℕ, _+_, _*_, _^_, _≤_, _<_}
+use Prim.Native.Nat.{ℕ, _^_, _≤_, _<_}
 use native.Mathlib.Omega.{arith}
-use borrow.Author.Tests.{le-leb, leb-false}
+use borrow.Author.Tests.{leb-false}
 use lib.ListN.{length}
-use Rattle.lent_bytes.specs.LentBytes.{Bytes}
 use Rattle.pubkey.specs.declared.Pubkey.{Pubkey}
-use Rattle.refusal.specs.Refusal.{unsound, noRow}
+use Rattle.refusal.specs.Refusal.{noRow}
 use Rattle.table.specs.Table.{every, ascending, look, store, erase}
 use Rattle.table.specs.Memory.{rows}
-use Rattle.table.specs.Outcome.{Change, same, become, Memory, rowsAfter, Outcome, Meets}
+use Rattle.table.specs.Outcome.{Change, same, become, Memory, rowsAfter, Meets}
 use Rattle.table.specs.TableLaws.{sub-erase}
 use Rattle.table.specs.LookLaws.{look-rule}
 use Rattle.table.specs.PlaceLaws.{length-store-some, length-store-none}

@@ -20,7 +20,7 @@ use Rattle.gossip_policy.specs.declared.answer.GossipReserved.{GossipReserved}
 use Rattle.gossip_policy.specs.declared.answer.DelayedByteCapacity.{DelayedByteCapacity}
 use Rattle.gossip_policy.specs.State.{outboundOf, delayedByteCapacity}
 use Rattle.gossip_policy.specs.Calls.{NewMeets, RecordViolationMeets, IsBannedMeets, PruneBansMeets, AllowMeets, EstimateMeets, RemoveMeets, ReserveMeets, RefundMeets, BypassMeets}
-use Rattle.gossip_laws.specs.OutboundOutcomes.{estimate-outcome, bypass-outcome}
+use Rattle.gossip_laws.specs.OutboundOutcomeLaws.{estimate-outcome, bypass-outcome}
 
 -- new; default is new with other settings
 pub policy-new-one : (c : GossipPolicyConfig) (b o : List ℕ) {r q : GossipSettled} {b' b'' o' o'' : List ℕ} → NewMeets c b o r b' o'

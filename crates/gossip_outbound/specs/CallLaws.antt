@@ -1,16 +1,15 @@
 -- What each call's answer comes to, by what was found and decided on the way: one law for each `return` of the code. In order: an
 -- outcome met; allow; reserve; refund; remove; estimate; bypass. Assumes nothing.
 use mathlib.Core.Path.{_≡_, refl, sym, ap, _∙_, subst}
-use mathlib.Core.Bool.{Bool, true, false, _&&_, _||_, not, cond}
+use mathlib.Core.Bool.{Bool, true, false, not, cond}
 use mathlib.Core.List.{List}
 use Prim.Native.Nat.{ℕ, max}
-use lib.Dec.{ltb}
 use lib.ListN.{length}
 use Rattle.pubkey.specs.declared.Pubkey.{Pubkey}
 use Rattle.refusal.specs.Refusal.{unsound, noRow}
 use Rattle.table.specs.declared.seek.Seek.{Seek}
 use Rattle.table.specs.Table.{look, erase}
-use Rattle.table.specs.Outcome.{same, become, Outcome, Meets}
+use Rattle.table.specs.Outcome.{become, Outcome, Meets}
 use Rattle.table_laws.specs.StoreLaws.{Counted}
 use Rattle.bucket_terms.specs.declared.answer.Told.{Told}
 use Rattle.bucket_terms.specs.declared.answer.Told.the-variants as Told
@@ -25,12 +24,9 @@ use Rattle.gossip_outbound_rows.specs.Rows.{Buckets, outboundLayout}
 use Rattle.gossip_outbound_state.specs.declared.state.Outbound.{Outbound}
 use Rattle.gossip_outbound_state.specs.declared.charge.Charged.{Charged}
 use Rattle.gossip_outbound_state.specs.declared.charge.Promised.{Promised}
-use Rattle.gossip_outbound.specs.declared.answer.OutboundTold.{OutboundTold}
-use Rattle.gossip_outbound.specs.declared.answer.OutboundReserved.{OutboundReserved}
-use Rattle.gossip_outbound.specs.declared.answer.OutboundSettled.{OutboundSettled}
 use Rattle.gossip_outbound.specs.declared.answer.Settled.the-variants as Settled
-use Rattle.gossip_outbound_state.specs.State.{rowsOf, sound, bucketOrFresh, full, chargeBoth, promiseBoth, outboundWith, peerDelay, exceeds, peerDebt}
-use Rattle.gossip_outbound.specs.Outbound.{turn, refuse, outboundTold, outboundReserved, outboundSettled, kept, allowed, allow, reserved, reserve, refunded, refund, removed, estimate, bypasses}
+use Rattle.gossip_outbound_state.specs.State.{rowsOf, sound, bucketOrFresh, chargeBoth, promiseBoth, outboundWith, peerDelay, exceeds, peerDebt}
+use Rattle.gossip_outbound.specs.Outbound.{turn, refuse, outboundTold, outboundReserved, outboundSettled, kept, allowed, allow, reserved, reserve, refunded, refund, estimate, bypasses}
 use Rattle.gossip_outbound_state.specs.Carry.{fullAt, Placed, PeerBucket}
 use Rattle.gossip_outbound_state.specs.CarryLaws.{placed-full}
 use Rattle.gossip_outbound.specs.Calls.{allowOutcome, AllowMeets, reserveOutcome, ReserveMeets, refundOutcome, RefundMeets, removeOutcome, RemoveMeets, EstimateMeets, BypassMeets}

@@ -2,7 +2,7 @@
 -- A call on an unsound state or memory is refused with 3 and changes nothing.
 use mathlib.Core.Path.{_≡_}
 use mathlib.Core.Bool.{cond}
-use mathlib.Core.List.{List, [], _∷_}
+use mathlib.Core.List.{List, []}
 use Prim.Native.Nat.{ℕ}
 use Rattle.pubkey.specs.declared.Pubkey.{Pubkey}
 use Rattle.refusal.specs.Refusal.{Said, gives, refused, unsound}
@@ -29,18 +29,22 @@ use Rattle.gossip_outbound.specs.Outbound.{refuse, outboundTold, outboun
 abbrev pub outboundToldSays : OutboundTold → Said
 outboundToldSays r = toldSays (r .answer)
 
+-- the milliseconds
 abbrev pub outboundReservedSays : OutboundReserved → Said
 outboundReservedSays r = delaySays (r .answer)
 
+-- nothing more
 abbrev pub settledSays : Settled → Said
 settledSays Settled.Done = gives []
 settledSays (Settled.Refused n) = refused n
 
+-- nothing more
 abbrev pub outboundSettledSays : OutboundSettled → Said
 outboundSettledSays r = settledSays (r .answer)
 
 -- ════ The calls ═══════════════════════════════════════════════════════════════════════════════════
 
+-- allow_outbound_message
 unfoldable pub allowOutcome : Outbound → List ℕ → Pubkey → ℕ → ℕ → Outcome OutboundEntry OutboundTold
 allowOutcome o s k bytes now =
     cond (sound o s) (allow o (k .bytes) bytes now (rowsOf o s)) (refuse (outboundTold o (Told.Refused unsound)))
@@ -48,6 +52,7 @@ allowOutcome o s k bytes now =
 unfoldable pub AllowMeets : Outbound → List ℕ → Pubkey → ℕ → ℕ → OutboundTold → List ℕ → Type 0
 AllowMeets o before k bytes now r after = Meets outboundLayout r before after (o .rows) (allowOutcome o before k bytes now)
 
+-- reserve_outbound_message
 unfoldable pub reserveOutcome : Outbound → List ℕ → Pubkey → ℕ → ℕ → Outcome OutboundEntry OutboundReserved
 reserveOutcome o s k bytes now =
     cond (sound o s) (reserve o (k .bytes) bytes now (rowsOf o s)) (refuse (outboundReserved o (Delay.Refused unsound)))
@@ -55,6 +60,7 @@ reserveOutcome o s k bytes now =
 unfoldable pub ReserveMeets : Outbound → List ℕ → Pubkey → ℕ → ℕ → OutboundReserved → List ℕ → Type 0
 ReserveMeets o before k bytes now r after = Meets outboundLayout r before after (o .rows) (reserveOutcome o before k bytes now)
 
+-- refund_outbound_message
 unfoldable pub refundOutcome : Outbound → List ℕ → Pubkey → ℕ → ℕ → Outcome OutboundEntry OutboundSettled
 refundOutcome o s k bytes now =
     cond (sound o s) (refund o (k .bytes) bytes now (rowsOf o s)) (refuse (outboundSettled o (Settled.Refused unsound)))
@@ -62,6 +68,7 @@ refundOutcome o s k bytes now =
 unfoldable pub RefundMeets : Outbound → List ℕ → Pubkey → ℕ → ℕ → OutboundSettled → List ℕ → Type 0
 RefundMeets o before k bytes now r after = Meets outboundLayout r before after (o .rows) (refundOutcome o before k bytes now)
 
+-- remove_outbound_peer
 unfoldable pub removeOutcome : Outbound → List ℕ → Pubkey → Outcome OutboundEntry OutboundSettled
 removeOutcome o s k =
     cond (sound o s) (removed o (k .bytes) (rowsOf o s)) (refuse (outboundSettled o (Settled.Refused unsound)))

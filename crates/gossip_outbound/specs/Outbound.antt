@@ -36,12 +36,15 @@ turn answer change = record { answer = answer; change = change }
 abbrev pub refuse : {R : Type 0} → R → Outcome OutboundEntry R
 refuse answer = turn answer same
 
+-- the state, and yes or no
 abbrev pub outboundTold : Outbound → Told → OutboundTold
 outboundTold o answer = record { outbound = o; answer = answer }
 
+-- the state, and a delay
 abbrev pub outboundReserved : Outbound → Delay → OutboundReserved
 outboundReserved o answer = record { outbound = o; answer = answer }
 
+-- the state, and that the call was carried out
 abbrev pub outboundSettled : Outbound → Settled → OutboundSettled
 outboundSettled o answer = record { outbound = o; answer = answer }
 

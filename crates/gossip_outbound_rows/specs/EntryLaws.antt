@@ -2,12 +2,11 @@
 -- operation leaves of a bucket that stands in a row stands there again. In order: numbers; there and back; one row; buckets that stand
 -- in a row. Assumes nothing.
 use mathlib.Core.Path.{_≡_, refl, sym, ap, _∙_}
-use mathlib.Core.Bool.{Bool, true, false, _&&_}
+use mathlib.Core.Bool.{Bool, true, false}
 use mathlib.Core.List.{List, [], _∷_}
 use Prim.Native.Nat.{ℕ, zero, suc, _+_, _*_, _/_, _%_, _^_, _≤_, _<_}
-use native.Mathlib.Nat.{div-lt-iff-lt-mul, mod-lt}
 use native.Mathlib.Omega.{arith}
-use borrow.Author.Tests.{leb-true, le-leb, eq-eqb, ne-eqb}
+use borrow.Author.Tests.{leb-true}
 use lib.Dec.{eqb, leb}
 use lib.IntN.{pos}
 use lib.ListN.{length, getD}
@@ -19,9 +18,9 @@ use Rattle.table.specs.TableLaws.{both, both-parts}
 use Rattle.bucket_terms.specs.declared.limit.ByteRateLimitConfig.{ByteRateLimitConfig}
 use Rattle.bucket_bytes.specs.declared.bytes.ByteTokenBucket.{ByteTokenBucket}
 use Rattle.bucket_bytes.specs.ByteBucket.{byteSound, byteLevel, byteNew}
-use Rattle.bucket_bytes.specs.KeptLaws.{Left, as-it-was, level, left-config, left-sound, byte-new-sound}
+use Rattle.bucket_bytes.specs.KeptLaws.{Left, as-it-was, level, byte-new-sound}
 use Rattle.gossip_outbound_rows.specs.declared.entry.OutboundEntry.{OutboundEntry}
-use Rattle.gossip_outbound_rows.specs.Entry.{outboundEntry, amountFrom, bucketOf, signOf, entryOf, entrySound}
+use Rattle.gossip_outbound_rows.specs.Entry.{amountFrom, bucketOf, signOf, entryOf, entrySound}
 
 -- ---- numbers ----
 

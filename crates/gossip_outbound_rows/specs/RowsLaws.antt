@@ -4,7 +4,6 @@ use mathlib.Core.Path.{_≡_, refl}
 use mathlib.Core.List.{List}
 use Prim.Native.Nat.{ℕ, _+_}
 use native.Mathlib.Omega.{arith}
-use lib.ListN.{length}
 use Rattle.lent_bytes.specs.LentBytes.{part, le}
 use Rattle.table.specs.Memory.{rowOf}
 use Rattle.table.specs.MemoryLaws.{Faithful}

@@ -12,6 +12,7 @@ use Rattle.bucket_bytes.specs.ByteBucket.{byteSound}
 use Rattle.gossip_outbound_state.specs.declared.state.Outbound.{Outbound}
 use Rattle.gossip_outbound_state.specs.State.{rowsOf, sound, bucketOrFresh}
 
+-- whether the search found the rows, the record or the memory unsound
 abbrev pub isUnsound : Seek → Bool
 isUnsound Unsound = true
 isUnsound (At i) = false

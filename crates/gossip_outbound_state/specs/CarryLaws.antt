@@ -1,9 +1,9 @@
 -- Laws of two buckets asked, and of a peer that was found, or its place: soundness of the record, what is found there, and what a row
 -- written or taken out comes to. Assumes nothing.
 use mathlib.Core.Path.{_≡_, refl, sym, ap, _∙_}
-use mathlib.Core.Bool.{Bool, true, false, _&&_}
-use mathlib.Core.List.{List, []}
-use mathlib.Core.Option.{Option, none, some}
+use mathlib.Core.Bool.{Bool, true, false}
+use mathlib.Core.List.{List}
+use mathlib.Core.Option.{none, some}
 use Prim.Native.Nat.{ℕ, _+_, _-_, _*_, _^_, _≤_, _<_}
 use native.Mathlib.Omega.{arith}
 use borrow.Author.Tests.{leb-true, leb-false, le-leb}
@@ -16,12 +16,11 @@ use Rattle.table.specs.Table.{look, store, erase, insertAt, removeAt, rowUnder}
 use Rattle.table.specs.Memory.{rowOf, rows, Holds}
 use Rattle.table.specs.TableLaws.{both, both-parts, true-is-not-false}
 use Rattle.table.specs.MemoryLaws.{length-rows}
-use Rattle.table.specs.PlaceLaws.{place-is-sound, at-look, gap-look, gap-erase}
+use Rattle.table.specs.PlaceLaws.{place-is-sound, gap-erase}
 use Rattle.table_laws.specs.Lent as lent
-use Rattle.table_laws.specs.LentLaws.{sought-unsound, sought-known, sought-unknown, own-sound, limit-fits, rows-fit, known-inside, known-fits, known-rule, known-look, unknown-within, unknown-look}
+use Rattle.table_laws.specs.LentLaws.{sought-unsound, sought-known, sought-unknown, own-sound, limit-fits, known-inside, known-rule, known-look, unknown-within, unknown-look}
 use Rattle.table_laws.specs.ChangeLaws.{over, holds-same, stored-at, stored-gap, erased-at, unchanged}
 use Rattle.table_laws.specs.StoreLaws.{Counted}
-use Rattle.bucket_terms.specs.declared.limit.ByteRateLimitConfig.{ByteRateLimitConfig}
 use Rattle.bucket_bytes.specs.declared.bytes.ByteTokenBucket.{ByteTokenBucket}
 use Rattle.bucket_terms.specs.Answers.{told}
 use Rattle.bucket_bytes.specs.declared.bytes.ByteConsumed.{ByteConsumed}

@@ -45,7 +45,7 @@ soughtIn o s k = lentSought outboundLayout (outboundSound (o .«peer_outbound_co
 
 -- ════ A peer's bucket ═════════════════════════════════════════════════════════════════════════════
 
--- or a new one, where the peer has none
+-- unwrap_or_else, or_insert_with: what was found, or a new bucket
 abbrev pub bucketOrFresh : ByteRateLimitConfig → Option OutboundEntry → ByteTokenBucket
 bucketOrFresh c none = byteNew c
 bucketOrFresh c (some e) = bucketOf c e
@@ -57,20 +57,24 @@ full n (some e) = false
 
 -- ════ Two buckets ═════════════════════════════════════════════════════════════════════════════════
 
+-- whether a bucket gave what was asked
 abbrev pub isYes : Consumed → Bool
 isYes Consumed.Yes = true
 isYes (Consumed.No short) = false
 isYes (Consumed.Refused n) = false
 
+-- the milliseconds of a delay
 abbrev pub waitOf : Delay → ℕ
 waitOf (Delay.Wait ms) = ms
 waitOf (Delay.Refused n) = 0
 
+-- whether the answer to a question is yes
 abbrev pub isToldYes : Told → Bool
 isToldYes Told.Yes = true
 isToldYes Told.No = false
 isToldYes (Told.Refused n) = false
 
+-- two buckets, and whether both gave
 abbrev pub charged : ByteTokenBucket → ByteTokenBucket → Bool → Charged
 charged g p gave = record { global = g; peer = p; yes = gave }
 

@@ -3,3 +3,4 @@ pub mod OneOutcome
 pub mod SoundLaws
 pub mod CallLaws
 pub mod PeerLaws
+pub mod Fits

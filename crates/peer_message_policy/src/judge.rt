@@ -1,6 +1,6 @@
 // Judging a policy and the memory lent to it, and finding a peer: what every call begins with.
 ghost use mathlib.Core.Path.{_≡_};
-ghost use Rattle.peer_message_policy.specs.Policy.{policySound};
+ghost use Rattle.peer_message_policy.specs.Policy.{policySound, sound};
 ghost use Rattle.peer_message_policy.specs.Sought.{soughtIn};
 use super::policy::PeerMessagePolicy;
 use peer_settings::config::PeerMessagePolicyConfig;
@@ -43,4 +43,17 @@ pub(crate) fn sought(p: PeerMessagePolicy, table: &[u8], peer: Pubkey) -> Seek
         return Seek::Unsound;
     }
     peer_rows::walk::sought(config, table, p.rows as usize, peer)
+}
+
+// The record and the memory lent to it: the same walk, with any peer.
+pub(crate) fn is_sound_in(p: PeerMessagePolicy, table: &[u8]) -> bool
+    ensures { λ r. ⌜ r ≡ sound p (now (table .entry)) ⌝ }
+{
+    let any = Pubkey { bytes: [0; 33] };
+    let found = sought(p, table, any);
+    match found {
+        Seek::Unsound => false,
+        Seek::At(_) => true,
+        Seek::Gap(_) => true,
+    }
 }

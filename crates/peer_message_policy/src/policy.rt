@@ -1,6 +1,7 @@
 // The policy by value: how one is made, and its calls. Each call judges and finds; what follows is in `calls`.
 ghost use mathlib.Core.Path.{_≡_};
 ghost use Rattle.peer_settings.specs.Config.{configDefault, configWithLimits};
+ghost use Rattle.peer_message_policy.specs.Policy.{policySound, sound};
 ghost use Rattle.peer_message_policy.specs.Calls.{fresh, policyWith, NewMeets, AdmitMeets, RecordInvalidMeets, IsBannedMeets, OnDisconnectedMeets, ReleaseIngressMeets, InFlightMeets, HeldTimeMeets};
 use super::answer::Changed;
 use super::answer::HeldTime;
@@ -179,5 +180,19 @@ impl PeerMessagePolicy {
             Seek::At(index) => calls::held_known(self, table, peer, index, given_ms),
             Seek::Gap(_) => HeldTime::At(given_ms),
         }
+    }
+
+    // Whether the record keeps its own rules. No table is judged.
+    pub fn is_sound(self) -> bool
+        ensures { λ r. ⌜ r ≡ policySound self ⌝ }
+    {
+        judge::is_sound(self)
+    }
+
+    // Whether record and table are sound: the calls refuse with 3 just where they are not.
+    pub fn is_sound_in(self, table: &[u8]) -> bool
+        ensures { λ r. ⌜ r ≡ sound self (now (table .entry)) ⌝ }
+    {
+        judge::is_sound_in(self, table)
     }
 }

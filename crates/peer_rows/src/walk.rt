@@ -4,6 +4,7 @@ ghost use Prim.Native.Nat.{_*_, _≤_};
 ghost use lib.ListN.{length};
 ghost use Rattle.table.specs.Table.{seek};
 ghost use Rattle.table.specs.Memory.{rows};
+ghost use Rattle.table_laws.specs.Lent.{rowsSound};
 ghost use Rattle.peer_rows.specs.Rows.{peerLayout, peerSound};
 use super::row::row_sound;
 use keyed_rows::find::in_order;
@@ -48,4 +49,18 @@ pub fn sought(config: PeerMessagePolicyConfig, table: &[u8], count: usize, key: 
 {
     let bytes = key.bytes;
     walked(config, table, count, &bytes)
+}
+
+// Whether the rows are sound, whoever they are of: the same walk, with any key.
+pub fn rows_sound(config: PeerMessagePolicyConfig, table: &[u8], count: usize) -> bool
+    requires { ⌜ 121 * count ≤ length (now table) ⌝ }
+    ensures { λ r. ⌜ r ≡ rowsSound peerLayout (peerSound config) (now (table .entry)) count ⌝ }
+{
+    let any = Pubkey { bytes: [0; 33] };
+    let found = sought(config, table, count, any);
+    match found {
+        Seek::Unsound => false,
+        Seek::At(_) => true,
+        Seek::Gap(_) => true,
+    }
 }

@@ -14,6 +14,5 @@ pub mod Kept
 pub mod KeptLaws
 pub mod Room
 pub mod RoomLaws
-pub mod RuleLaws
 pub mod StoreLaws
 pub mod MapLaws

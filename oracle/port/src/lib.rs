@@ -1,7 +1,6 @@
 //! The proved library as the port under test: each call goes to a C function of crate `c_peers` (peers), `c_trace` (inputs of
-//! the trace program), `c_gossip` (bans, limiter and gossip state, where its archive exists) or `c_buckets` (the rest).
+//! the trace program), `c_gossip` (bans, limiter and gossip state) or `c_buckets` (the rest).
 
-#[cfg(gossip)]
 mod gossip;
 mod peers;
 mod plain;
@@ -11,7 +10,6 @@ use traces::Scan;
 use vocabulary::amounts::{DIV_CEIL_LOW, FROM_U64, PRODUCT_PER_THOUSAND, TO_U64};
 use vocabulary::settings::{self, SettingsCall};
 use vocabulary::{Amount, Answer, BucketCall, BucketOperation, Buckets, PeerCall, PeerOperation, Port, Record, Words};
-#[cfg(gossip)]
 use vocabulary::{GossipCall, GossipWords};
 
 pub struct Proved;
@@ -113,12 +111,10 @@ impl Port for Proved {
         panic!("more lines written than read");
     }
 
-    #[cfg(gossip)]
     fn has_gossip(&self) -> bool {
         true
     }
 
-    #[cfg(gossip)]
     fn gossip(&self, call: &GossipCall, words: &mut GossipWords, tables: [&mut [u8]; 2]) -> Answer {
         gossip::call(call, words, tables)
     }

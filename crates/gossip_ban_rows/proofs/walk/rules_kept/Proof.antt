@@ -1,4 +1,4 @@
--- `gossip_ban_rows::walk::rules_kept` meets its contract: the invariant is that all rows keep the rule just where those from the i-th on do (`RuleLaws`); the measure is how many are left. Assumes nothing.
+-- `gossip_ban_rows::walk::rules_kept` meets its contract: the invariant is that all rows keep the rule just where those from the i-th on do (`WalkLaws`); the measure is how many are left. Assumes nothing.
 use mathlib.Core.Path.{_≡_, refl, sym, ap, _∙_}
 use Prim.Native.Nat.{_-_, _≤_}
 use native.Mathlib.Omega.{arith}
@@ -7,7 +7,7 @@ use borrow.Author.Tests.{not-true, not-false}
 use lib.ListN.{drop}
 use Rattle.table.specs.Table.{every}
 use Rattle.table.specs.Memory.{rows}
-use Rattle.table_laws.specs.RuleLaws.{rules-end, rules-break, rules-go-on}
+use Rattle.table_laws.specs.WalkLaws.{rules-end, rules-break, rules-go-on}
 use Rattle.gossip_ban_rows.specs.Entry.{entrySound}
 use Rattle.gossip_ban_rows.specs.Rows.{banLayout, banSound}
 use Rattle.gossip_ban_rows.proofs.walk.rules_kept.Statement.{statement}

@@ -6,7 +6,7 @@ use borrow.Author.Tests.{not-true, not-false}
 use lib.ListN.{drop}
 use Rattle.table.specs.Table.{every}
 use Rattle.table.specs.Memory.{rows}
-use Rattle.table_laws.specs.RuleLaws.{rules-end, rules-break, rules-go-on}
+use Rattle.table_laws.specs.WalkLaws.{rules-end, rules-break, rules-go-on}
 use Rattle.gossip_limiter_rows.specs.Rows.{limiterLayout, limiterSound}
 use Rattle.gossip_limiter_rows.proofs.walk.rules_kept.Statement.{statement}
 use Rattle.gossip_limiter_rows.proofs.walk.rules_kept.Tie as tie

@@ -1,3 +1,4 @@
+-- `gossip_outbound::calls::allow_outbound_message` meets its contract: a law of `CallLaws` for each answer. Assumes nothing.
 use mathlib.Core.Path.{sym, _∙_}
 use borrow.Author.Tests.{not-true, not-false}
 use Rattle.gossip_outbound_state.specs.CarryLaws.{found-unsound, found-placed, placed-global}
@@ -5,8 +6,6 @@ use Rattle.gossip_outbound.specs.CallLaws.{allow-unsound, allow-no, allo
 use borrow.Author.Needs.{needs}
 use Rattle.gossip_outbound.proofs.calls.allow_outbound_message.Statement.{statement}
 use Rattle.gossip_outbound.proofs.calls.allow_outbound_message.Tie as tie
-use Rattle.gossip_outbound.proofs.calls.allow_outbound_message.Reads as reads
-use Rattle.gossip_outbound.proofs.calls.allow_outbound_message.Lts as lts
 
 sought-requires : tie.Need-sought-requires
 sought-requires c κs = search needs

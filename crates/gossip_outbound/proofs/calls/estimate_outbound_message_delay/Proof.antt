@@ -1,19 +1,10 @@
+-- `gossip_outbound::calls::estimate_outbound_message_delay` meets its contract: a law of `CallLaws` for each answer. Assumes nothing.
 use mathlib.Core.Path.{sym, _∙_}
-use borrow.Author.Tests.{not-true, not-false}
 use Rattle.gossip_outbound_state.specs.CarryLaws.{found-unsound, found-placed, placed-global}
 use Rattle.gossip_outbound.specs.CallLaws.{estimate-unsound, estimate-wait}
 use borrow.Author.Needs.{needs}
-use Rattle.gossip_outbound.proofs.calls.estimate_outbound_message_delay.Statement.{
-  statement,
-}
+use Rattle.gossip_outbound.proofs.calls.estimate_outbound_message_delay.Statement.{statement}
 use Rattle.gossip_outbound.proofs.calls.estimate_outbound_message_delay.Tie as tie
-use Rattle.gossip_outbound.proofs.calls.estimate_outbound_message_delay.Reads as reads
-use Rattle.gossip_outbound.proofs.calls.estimate_outbound_message_delay.Lts as lts
-use Rattle.gossip_outbound_state.proofs.carry.peer_delay.Reads as peer-delay-reads
-use Rattle.gossip_outbound_state.proofs.charge.delay_of.Reads as delay-of-reads
-use Rattle.gossip_outbound_state.proofs.charge.longer.Reads as longer-reads
-use Rattle.gossip_outbound_state.proofs.judge.is_unsound.Reads as is-unsound-reads
-use Rattle.gossip_outbound_state.proofs.judge.sought.Reads as sought-reads
 
 sought-requires : tie.Need-sought-requires
 sought-requires c κs = search needs

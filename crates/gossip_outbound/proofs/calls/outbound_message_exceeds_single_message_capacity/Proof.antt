@@ -1,12 +1,8 @@
+-- `gossip_outbound::calls::outbound_message_exceeds_single_message_capacity` meets its contract: a law of `CallLaws` for each answer. Assumes nothing.
 use mathlib.Core.Path.{sym, _∙_}
 use borrow.Author.Needs.{needs}
-use Rattle.gossip_outbound.proofs.calls.outbound_message_exceeds_single_message_capacity.Statement.{
-  statement,
-}
+use Rattle.gossip_outbound.proofs.calls.outbound_message_exceeds_single_message_capacity.Statement.{statement}
 use Rattle.gossip_outbound.proofs.calls.outbound_message_exceeds_single_message_capacity.Tie as tie
-use Rattle.gossip_outbound.proofs.calls.outbound_message_exceeds_single_message_capacity.Reads as reads
-use Rattle.gossip_outbound.proofs.calls.outbound_message_exceeds_single_message_capacity.Lts as lts
-use Rattle.gossip_outbound_state.proofs.charge.exceeds_burst.Reads as exceeds-burst-reads
 
 exceeds-burst-requires : tie.Need-exceeds-burst-requires
 exceeds-burst-requires c κs = search needs

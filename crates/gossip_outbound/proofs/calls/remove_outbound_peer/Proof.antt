@@ -1,18 +1,10 @@
+-- `gossip_outbound::calls::remove_outbound_peer` meets its contract: a law of `CallLaws` for each answer. Assumes nothing.
 use mathlib.Core.Path.{sym, _∙_}
-use borrow.Author.Tests.{not-true, not-false}
 use Rattle.gossip_outbound_state.specs.CarryLaws.{found-unsound, found-placed}
 use Rattle.gossip_outbound.specs.CallLaws.{remove-unsound, remove-done}
 use borrow.Author.Needs.{needs}
-use Rattle.gossip_outbound.proofs.calls.remove_outbound_peer.Statement.{
-  statement,
-}
+use Rattle.gossip_outbound.proofs.calls.remove_outbound_peer.Statement.{statement}
 use Rattle.gossip_outbound.proofs.calls.remove_outbound_peer.Tie as tie
-use Rattle.gossip_outbound.proofs.calls.remove_outbound_peer.Reads as reads
-use Rattle.gossip_outbound.proofs.calls.remove_outbound_peer.Lts as lts
-use Rattle.gossip_outbound_state.proofs.carry.drop_row.Reads as drop-row-reads
-use Rattle.gossip_outbound_state.proofs.carry.with.Reads as with-reads
-use Rattle.gossip_outbound_state.proofs.judge.is_unsound.Reads as is-unsound-reads
-use Rattle.gossip_outbound_state.proofs.judge.sought.Reads as sought-reads
 
 sought-requires : tie.Need-sought-requires
 sought-requires c κs = search needs

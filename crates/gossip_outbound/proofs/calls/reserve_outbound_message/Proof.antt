@@ -1,21 +1,10 @@
+-- `gossip_outbound::calls::reserve_outbound_message` meets its contract: a law of `CallLaws` for each answer. Assumes nothing.
 use mathlib.Core.Path.{sym, _∙_}
-use borrow.Author.Tests.{not-true, not-false}
 use Rattle.gossip_outbound_state.specs.CarryLaws.{found-unsound, found-placed, placed-global}
 use Rattle.gossip_outbound.specs.CallLaws.{reserve-unsound, reserve-full, reserve-yes}
 use borrow.Author.Needs.{needs}
-use Rattle.gossip_outbound.proofs.calls.reserve_outbound_message.Statement.{
-  statement,
-}
+use Rattle.gossip_outbound.proofs.calls.reserve_outbound_message.Statement.{statement}
 use Rattle.gossip_outbound.proofs.calls.reserve_outbound_message.Tie as tie
-use Rattle.gossip_outbound.proofs.calls.reserve_outbound_message.Reads as reads
-use Rattle.gossip_outbound.proofs.calls.reserve_outbound_message.Lts as lts
-use Rattle.gossip_outbound_state.proofs.carry.peer_bucket.Reads as peer-bucket-reads
-use Rattle.gossip_outbound_state.proofs.carry.with.Reads as with-reads
-use Rattle.gossip_outbound_state.proofs.carry.write_row.Reads as write-row-reads
-use Rattle.gossip_outbound_state.proofs.charge.promise_both.Reads as promise-both-reads
-use Rattle.gossip_outbound_state.proofs.judge.is_full.Reads as is-full-reads
-use Rattle.gossip_outbound_state.proofs.judge.is_unsound.Reads as is-unsound-reads
-use Rattle.gossip_outbound_state.proofs.judge.sought.Reads as sought-reads
 
 sought-requires : tie.Need-sought-requires
 sought-requires c κs = search needs

@@ -1,19 +1,11 @@
+-- `gossip_outbound::calls::should_bypass_oversized_outbound_message` meets its contract: a law of `CallLaws` for each answer. Assumes nothing.
 use mathlib.Core.Path.{sym, _∙_}
 use borrow.Author.Tests.{not-true, not-false}
 use Rattle.gossip_outbound_state.specs.CarryLaws.{found-unsound, found-placed, placed-global}
 use Rattle.gossip_outbound.specs.CallLaws.{bypass-unsound, bypass-fits, bypass-global-debt, bypass-peer}
 use borrow.Author.Needs.{needs}
-use Rattle.gossip_outbound.proofs.calls.should_bypass_oversized_outbound_message.Statement.{
-  statement,
-}
+use Rattle.gossip_outbound.proofs.calls.should_bypass_oversized_outbound_message.Statement.{statement}
 use Rattle.gossip_outbound.proofs.calls.should_bypass_oversized_outbound_message.Tie as tie
-use Rattle.gossip_outbound.proofs.calls.should_bypass_oversized_outbound_message.Reads as reads
-use Rattle.gossip_outbound.proofs.calls.should_bypass_oversized_outbound_message.Lts as lts
-use Rattle.gossip_outbound_state.proofs.carry.peer_debt.Reads as peer-debt-reads
-use Rattle.gossip_outbound_state.proofs.charge.in_debt.Reads as in-debt-reads
-use Rattle.gossip_outbound_state.proofs.judge.is_unsound.Reads as is-unsound-reads
-use Rattle.gossip_outbound_state.proofs.judge.sought.Reads as sought-reads
-use Rattle.gossip_outbound.proofs.calls.outbound_message_exceeds_single_message_capacity.Reads as outbound-message-exceeds-single-message-capacity-reads
 
 sought-requires : tie.Need-sought-requires
 sought-requires c κs = search needs

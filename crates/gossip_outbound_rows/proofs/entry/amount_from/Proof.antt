@@ -1,10 +1,9 @@
+-- `gossip_outbound_rows::entry::amount_from` meets its contract: the definition, number by number. Assumes nothing.
 use mathlib.Core.Path.{refl}
 use Rattle.gossip_outbound_rows.specs.Entry.{amountFrom}
 use borrow.Author.Needs.{needs}
 use Rattle.gossip_outbound_rows.proofs.entry.amount_from.Statement.{statement}
 use Rattle.gossip_outbound_rows.proofs.entry.amount_from.Tie as tie
-use Rattle.gossip_outbound_rows.proofs.entry.amount_from.Reads as reads
-use Rattle.gossip_outbound_rows.proofs.entry.amount_from.Lts as lts
 
 cast-t6 : tie.Need-cast-t6
 cast-t6 c = search needs

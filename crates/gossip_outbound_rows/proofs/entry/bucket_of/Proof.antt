@@ -1,9 +1,7 @@
+-- `gossip_outbound_rows::entry::bucket_of` meets its contract: the definition, number by number. Assumes nothing.
 use borrow.Author.Needs.{needs}
 use Rattle.gossip_outbound_rows.proofs.entry.bucket_of.Statement.{statement}
 use Rattle.gossip_outbound_rows.proofs.entry.bucket_of.Tie as tie
-use Rattle.gossip_outbound_rows.proofs.entry.bucket_of.Reads as reads
-use Rattle.gossip_outbound_rows.proofs.entry.bucket_of.Lts as lts
-use Rattle.gossip_outbound_rows.proofs.entry.amount_from.Reads as amount-from-reads
 
 amount-from-requires : tie.Need-amount-from-requires
 amount-from-requires c κs = search needs

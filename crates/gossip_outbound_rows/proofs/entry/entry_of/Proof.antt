@@ -1,11 +1,8 @@
+-- `gossip_outbound_rows::entry::entry_of` meets its contract: the definition, number by number. Assumes nothing.
 use Rattle.gossip_outbound_rows.specs.Entry.{entryOf}
 use borrow.Author.Needs.{needs}
 use Rattle.gossip_outbound_rows.proofs.entry.entry_of.Statement.{statement}
 use Rattle.gossip_outbound_rows.proofs.entry.entry_of.Tie as tie
-use Rattle.gossip_outbound_rows.proofs.entry.entry_of.Reads as reads
-use Rattle.gossip_outbound_rows.proofs.entry.entry_of.Lts as lts
-use Rattle.gossip_outbound_rows.proofs.entry.joined.Reads as joined-reads
-use Rattle.gossip_outbound_rows.proofs.entry.sign_of.Reads as sign-of-reads
 
 sign-of-requires : tie.Need-sign-of-requires
 sign-of-requires c κs = search needs

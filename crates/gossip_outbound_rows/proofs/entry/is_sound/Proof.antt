@@ -1,3 +1,4 @@
+-- `gossip_outbound_rows::entry::is_sound` meets its contract: the definition, number by number. Assumes nothing.
 use mathlib.Core.Path.{ap, _∙_}
 use borrow.Author.Tests.{le-leb, lt-leb}
 use Rattle.bucket_bytes.specs.ByteBucket.{byteSound}
@@ -5,10 +6,6 @@ use Rattle.gossip_outbound_rows.specs.Entry.{entrySound}
 use borrow.Author.Needs.{needs}
 use Rattle.gossip_outbound_rows.proofs.entry.is_sound.Statement.{statement}
 use Rattle.gossip_outbound_rows.proofs.entry.is_sound.Tie as tie
-use Rattle.gossip_outbound_rows.proofs.entry.is_sound.Reads as reads
-use Rattle.gossip_outbound_rows.proofs.entry.is_sound.Lts as lts
-use Rattle.bucket_bytes.proofs.bytes.is_sound.Reads as is-sound-reads
-use Rattle.gossip_outbound_rows.proofs.entry.bucket_of.Reads as bucket-of-reads
 
 returns : tie.Need-returns
 unfolding entrySound

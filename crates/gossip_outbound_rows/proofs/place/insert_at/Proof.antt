@@ -1,5 +1,5 @@
+-- `gossip_outbound_rows::place::insert_at` meets its contract: a law of `ChangeLaws` on this layout. Assumes nothing.
 use mathlib.Core.Path.{_≡_, ap}
-use Prim.Native.Nat.{_*_, _≤_}
 use native.Mathlib.Omega.{arith}
 use lib.ListN.{length, getD}
 use mir.Val.{Fits}
@@ -11,10 +11,6 @@ use Rattle.gossip_outbound_rows.specs.RowsLaws.{outbound-faithful}
 use borrow.Author.Needs.{needs}
 use Rattle.gossip_outbound_rows.proofs.place.insert_at.Statement.{statement}
 use Rattle.gossip_outbound_rows.proofs.place.insert_at.Tie as tie
-use Rattle.gossip_outbound_rows.proofs.place.insert_at.Reads as reads
-use Rattle.gossip_outbound_rows.proofs.place.insert_at.Lts as lts
-use Rattle.gossip_outbound_rows.proofs.row.words_of.Reads as words-of-reads
-use Rattle.table.proofs.rows.insert_row.Reads as insert-row-reads
 
 words-of-requires : tie.Need-words-of-requires
 words-of-requires c κs = search needs

@@ -1,3 +1,4 @@
+-- `gossip_outbound_rows::place::overwrite_at` meets its contract: a law of `ChangeLaws` on this layout. Assumes nothing.
 use mathlib.Core.Path.{ap}
 use native.Mathlib.Omega.{arith}
 use Rattle.table.specs.Memory.{wordBytes}
@@ -6,10 +7,6 @@ use Rattle.gossip_outbound_rows.specs.RowsLaws.{outbound-faithful}
 use borrow.Author.Needs.{needs}
 use Rattle.gossip_outbound_rows.proofs.place.overwrite_at.Statement.{statement}
 use Rattle.gossip_outbound_rows.proofs.place.overwrite_at.Tie as tie
-use Rattle.gossip_outbound_rows.proofs.place.overwrite_at.Reads as reads
-use Rattle.gossip_outbound_rows.proofs.place.overwrite_at.Lts as lts
-use Rattle.gossip_outbound_rows.proofs.row.words_of.Reads as words-of-reads
-use Rattle.table.proofs.rows.put_words.Reads as put-words-reads
 
 words-of-requires : tie.Need-words-of-requires
 words-of-requires c κs = search needs

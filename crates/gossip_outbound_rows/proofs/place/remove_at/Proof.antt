@@ -1,12 +1,10 @@
+-- `gossip_outbound_rows::place::remove_at` meets its contract: a law of `ChangeLaws` on this layout. Assumes nothing.
 use native.Mathlib.Omega.{arith}
 use Rattle.table_laws.specs.ChangeLaws.{removed}
 use Rattle.gossip_outbound_rows.specs.RowsLaws.{outbound-faithful}
 use borrow.Author.Needs.{needs}
 use Rattle.gossip_outbound_rows.proofs.place.remove_at.Statement.{statement}
 use Rattle.gossip_outbound_rows.proofs.place.remove_at.Tie as tie
-use Rattle.gossip_outbound_rows.proofs.place.remove_at.Reads as reads
-use Rattle.gossip_outbound_rows.proofs.place.remove_at.Lts as lts
-use Rattle.table.proofs.rows.remove_row.Reads as remove-row-reads
 
 remove-row-requires : tie.Need-remove-row-requires
 remove-row-requires c κs = search needs

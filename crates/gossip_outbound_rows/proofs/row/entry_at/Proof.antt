@@ -1,11 +1,9 @@
+-- `gossip_outbound_rows::row::entry_at` meets its contract: the numbers by their places. Assumes nothing.
 use mathlib.Core.Path.{sym}
 use Rattle.gossip_outbound_rows.specs.RowsLaws.{entry-places}
 use borrow.Author.Needs.{needs}
 use Rattle.gossip_outbound_rows.proofs.row.entry_at.Statement.{statement}
 use Rattle.gossip_outbound_rows.proofs.row.entry_at.Tie as tie
-use Rattle.gossip_outbound_rows.proofs.row.entry_at.Reads as reads
-use Rattle.gossip_outbound_rows.proofs.row.entry_at.Lts as lts
-use Rattle.lent_bytes.proofs.number.get_u64.Reads as get-u64-reads
 
 add-get-u64 : tie.Need-add-get-u64
 add-get-u64 c = search needs

@@ -1,21 +1,17 @@
-use mathlib.Core.Bool.{true, false}
+-- `gossip_outbound_rows::walk::rules_kept` meets its contract: the rules row by row, then the order of the keys. Assumes nothing.
 use mathlib.Core.Path.{_≡_, refl, sym, ap, _∙_}
-use Prim.Native.Nat.{_*_, _-_, _≤_}
+use Prim.Native.Nat.{_-_, _≤_}
 use native.Mathlib.Omega.{arith}
 use borrow.Author.Needs.{needs}
 use borrow.Author.Tests.{not-true, not-false}
 use lib.ListN.{drop}
 use Rattle.table.specs.Table.{every}
 use Rattle.table.specs.Memory.{rows}
-use Rattle.table_laws.specs.RuleLaws.{rules-end, rules-break, rules-go-on}
+use Rattle.table_laws.specs.WalkLaws.{rules-end, rules-break, rules-go-on}
 use Rattle.gossip_outbound_rows.specs.Entry.{entrySound}
 use Rattle.gossip_outbound_rows.specs.Rows.{outboundLayout, outboundSound}
 use Rattle.gossip_outbound_rows.proofs.walk.rules_kept.Statement.{statement}
 use Rattle.gossip_outbound_rows.proofs.walk.rules_kept.Tie as tie
-use Rattle.gossip_outbound_rows.proofs.walk.rules_kept.Reads as reads
-use Rattle.gossip_outbound_rows.proofs.walk.rules_kept.Lts as lts
-use Rattle.gossip_outbound_rows.proofs.entry.is_sound.Reads as is-sound-reads
-use Rattle.gossip_outbound_rows.proofs.row.entry_at.Reads as entry-at-reads
 
 abbrev Inv-loop : tie.InvT-loop
 Inv-loop table count config i₀ i = (i ≤ count) × (every (outboundSound config) (rows outboundLayout table count) ≡ every (outboundSound config) (drop i (rows outboundLayout table count)))

@@ -1,3 +1,4 @@
+-- `gossip_outbound_rows::walk::sought` meets its contract: the rules row by row, then the order of the keys. Assumes nothing.
 use mathlib.Core.Path.{_≡_, sym, _∙_}
 use native.Mathlib.Omega.{arith}
 use borrow.Author.Tests.{not-true, not-false}
@@ -9,10 +10,6 @@ use Rattle.gossip_outbound_rows.specs.Rows.{outboundLayout, outboundSoun
 use borrow.Author.Needs.{needs}
 use Rattle.gossip_outbound_rows.proofs.walk.sought.Statement.{statement}
 use Rattle.gossip_outbound_rows.proofs.walk.sought.Tie as tie
-use Rattle.gossip_outbound_rows.proofs.walk.sought.Reads as reads
-use Rattle.gossip_outbound_rows.proofs.walk.sought.Lts as lts
-use Rattle.gossip_outbound_rows.proofs.walk.rules_kept.Reads as rules-kept-reads
-use Rattle.keyed_rows.proofs.find.find.Reads as find-reads
 
 rules-kept-requires : tie.Need-rules-kept-requires
 rules-kept-requires c κs = search needs

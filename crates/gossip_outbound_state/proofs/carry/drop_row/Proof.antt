@@ -1,12 +1,10 @@
+-- `gossip_outbound_state::carry::drop_row` meets its contract: by what was found, a law of `CarryLaws`. Assumes nothing.
 use native.Mathlib.Omega.{arith}
 use mathlib.Core.Path.{refl}
 use Rattle.gossip_outbound_state.specs.CarryLaws.{placed-as, placed-few, placed-room, placed-inside, not-unsound, dropped-known, dropped-none}
 use borrow.Author.Needs.{needs}
 use Rattle.gossip_outbound_state.proofs.carry.drop_row.Statement.{statement}
 use Rattle.gossip_outbound_state.proofs.carry.drop_row.Tie as tie
-use Rattle.gossip_outbound_state.proofs.carry.drop_row.Reads as reads
-use Rattle.gossip_outbound_state.proofs.carry.drop_row.Lts as lts
-use Rattle.gossip_outbound_rows.proofs.place.remove_at.Reads as remove-at-reads
 
 enum-known-found : tie.Need-enum-known-found
 enum-known-found c = search needs

@@ -1,16 +1,12 @@
+-- `gossip_outbound_state::carry::peer_delay` meets its contract: by what was found, a law of `CarryLaws`. Assumes nothing.
 use mathlib.Core.Path.{ap, _∙_}
 use native.Mathlib.Omega.{arith}
 use Rattle.bucket_bytes.specs.declared.bytes.ByteTokenBucket.{ByteTokenBucket}
-use Rattle.bucket_bytes.specs.ByteBucket.{bytePeekDelayAfterRefill, byteHasDebt}
-use Rattle.gossip_outbound_state.specs.CarryLaws.{placed-as, placed-few, placed-room, placed-inside, not-unsound, known-bucket, new-bucket, known-sound, known-delay, new-delay, known-debt, new-debt}
+use Rattle.bucket_bytes.specs.ByteBucket.{bytePeekDelayAfterRefill}
+use Rattle.gossip_outbound_state.specs.CarryLaws.{placed-as, placed-few, placed-room, placed-inside, not-unsound, known-sound, known-delay, new-delay}
 use borrow.Author.Needs.{needs}
 use Rattle.gossip_outbound_state.proofs.carry.peer_delay.Statement.{statement}
 use Rattle.gossip_outbound_state.proofs.carry.peer_delay.Tie as tie
-use Rattle.gossip_outbound_state.proofs.carry.peer_delay.Reads as reads
-use Rattle.gossip_outbound_state.proofs.carry.peer_delay.Lts as lts
-use Rattle.gossip_outbound_state.proofs.charge.delay_of.Reads as delay-of-reads
-use Rattle.gossip_outbound_rows.proofs.entry.bucket_of.Reads as bucket-of-reads
-use Rattle.gossip_outbound_rows.proofs.row.entry_at.Reads as entry-at-reads
 
 enum-known-found : tie.Need-enum-known-found
 enum-known-found c = search needs

@@ -1,14 +1,9 @@
+-- `gossip_outbound_state::carry::write_row` meets its contract: by what was found, a law of `CarryLaws`. Assumes nothing.
 use native.Mathlib.Omega.{arith}
-use mathlib.Core.Path.{refl}
 use Rattle.gossip_outbound_state.specs.CarryLaws.{placed-as, placed-few, placed-room, placed-inside, placed-within, room-left, not-unsound, written-known, written-new}
 use borrow.Author.Needs.{needs}
 use Rattle.gossip_outbound_state.proofs.carry.write_row.Statement.{statement}
 use Rattle.gossip_outbound_state.proofs.carry.write_row.Tie as tie
-use Rattle.gossip_outbound_state.proofs.carry.write_row.Reads as reads
-use Rattle.gossip_outbound_state.proofs.carry.write_row.Lts as lts
-use Rattle.gossip_outbound_rows.proofs.entry.entry_of.Reads as entry-of-reads
-use Rattle.gossip_outbound_rows.proofs.place.insert_at.Reads as insert-at-reads
-use Rattle.gossip_outbound_rows.proofs.place.overwrite_at.Reads as overwrite-at-reads
 
 entry-of-requires : tie.Need-entry-of-requires
 entry-of-requires c κs = search needs

@@ -1,3 +1,4 @@
+-- `gossip_outbound_state::charge::charge_both` meets its contract: the buckets are sound, so they refuse nothing. Assumes nothing.
 use mathlib.Core.Path.{sym, _∙_}
 use borrow.Author.Tests.{not-true, not-false}
 use Rattle.bucket_bytes.specs.ByteBucketLaws.{byte-try-consume-sound}
@@ -5,8 +6,6 @@ use Rattle.gossip_outbound_state.specs.CarryLaws.{charge-no, charge-peer
 use borrow.Author.Needs.{needs}
 use Rattle.gossip_outbound_state.proofs.charge.charge_both.Statement.{statement}
 use Rattle.gossip_outbound_state.proofs.charge.charge_both.Tie as tie
-use Rattle.gossip_outbound_state.proofs.charge.charge_both.Reads as reads
-use Rattle.gossip_outbound_state.proofs.charge.charge_both.Lts as lts
 
 try-consume-requires : tie.Need-try-consume-requires
 try-consume-requires c κs = search needs

@@ -1,13 +1,10 @@
+-- `gossip_outbound_state::charge::delay_of` meets its contract: the buckets are sound, so they refuse nothing. Assumes nothing.
 use mathlib.Core.Path.{ap, _∙_}
 use Rattle.bucket_bytes.specs.ByteBucketLaws.{byte-peek-delay-sound}
 use Rattle.gossip_outbound_state.specs.State.{waitOf}
 use borrow.Author.Needs.{needs}
 use Rattle.gossip_outbound_state.proofs.charge.delay_of.Statement.{statement}
 use Rattle.gossip_outbound_state.proofs.charge.delay_of.Tie as tie
-use Rattle.gossip_outbound_state.proofs.charge.delay_of.Reads as reads
-use Rattle.gossip_outbound_state.proofs.charge.delay_of.Lts as lts
-use Rattle.bucket_bytes.proofs.bytes.ByteTokenBucket.peek_delay_after_refill.Reads as peek-delay-after-refill-reads
-use Rattle.gossip_outbound_state.proofs.charge.wait_of.Reads as wait-of-reads
 
 peek-delay-after-refill-requires : tie.Need-peek-delay-after-refill-requires
 peek-delay-after-refill-requires c κs = search needs

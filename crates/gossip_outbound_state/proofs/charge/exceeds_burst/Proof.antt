@@ -1,12 +1,10 @@
+-- `gossip_outbound_state::charge::exceeds_burst` meets its contract: the buckets are sound, so they refuse nothing. Assumes nothing.
 use mathlib.Core.Path.{_≡_, sym, _∙_}
 use mathlib.Core.Bool.{true, false}
 use Rattle.bucket_terms.specs.Limit.{byteDisabled}
 use borrow.Author.Needs.{needs}
 use Rattle.gossip_outbound_state.proofs.charge.exceeds_burst.Statement.{statement}
 use Rattle.gossip_outbound_state.proofs.charge.exceeds_burst.Tie as tie
-use Rattle.gossip_outbound_state.proofs.charge.exceeds_burst.Reads as reads
-use Rattle.gossip_outbound_state.proofs.charge.exceeds_burst.Lts as lts
-use Rattle.bucket_terms.proofs.limit.ByteRateLimitConfig.is_disabled.Reads as is-disabled-reads
 
 is-disabled-requires : tie.Need-is-disabled-requires
 is-disabled-requires c κs = search needs

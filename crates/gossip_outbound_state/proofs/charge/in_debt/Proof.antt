@@ -1,3 +1,4 @@
+-- `gossip_outbound_state::charge::in_debt` meets its contract: the buckets are sound, so they refuse nothing. Assumes nothing.
 use mathlib.Core.Path.{ap, _∙_}
 use Rattle.bucket_bytes.specs.ByteBucket.{byteHasDebt}
 use Rattle.bucket_bytes.specs.ByteBucketLaws.{byte-has-debt-sound}
@@ -6,10 +7,6 @@ use Rattle.gossip_outbound_state.specs.CarryLaws.{told-back}
 use borrow.Author.Needs.{needs}
 use Rattle.gossip_outbound_state.proofs.charge.in_debt.Statement.{statement}
 use Rattle.gossip_outbound_state.proofs.charge.in_debt.Tie as tie
-use Rattle.gossip_outbound_state.proofs.charge.in_debt.Reads as reads
-use Rattle.gossip_outbound_state.proofs.charge.in_debt.Lts as lts
-use Rattle.bucket_bytes.proofs.bytes.ByteTokenBucket.has_debt.Reads as has-debt-reads
-use Rattle.gossip_outbound_state.proofs.charge.is_told_yes.Reads as is-told-yes-reads
 
 has-debt-requires : tie.Need-has-debt-requires
 has-debt-requires c κs = search needs

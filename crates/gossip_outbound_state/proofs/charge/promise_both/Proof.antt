@@ -1,3 +1,4 @@
+-- `gossip_outbound_state::charge::promise_both` meets its contract: the buckets are sound, so they refuse nothing. Assumes nothing.
 use mathlib.Core.Path.{_≡_}
 use Rattle.bucket_bytes.specs.ByteBucketLaws.{byte-reserve-sound}
 use Rattle.bucket_bytes.specs.ByteBucket.{byteReserve}
@@ -5,11 +6,6 @@ use Rattle.gossip_outbound_state.specs.State.{promiseBoth}
 use borrow.Author.Needs.{needs}
 use Rattle.gossip_outbound_state.proofs.charge.promise_both.Statement.{statement}
 use Rattle.gossip_outbound_state.proofs.charge.promise_both.Tie as tie
-use Rattle.gossip_outbound_state.proofs.charge.promise_both.Reads as reads
-use Rattle.gossip_outbound_state.proofs.charge.promise_both.Lts as lts
-use Rattle.bucket_bytes.proofs.bytes.ByteTokenBucket.reserve.Reads as reserve-reads
-use Rattle.gossip_outbound_state.proofs.charge.longer.Reads as longer-reads
-use Rattle.gossip_outbound_state.proofs.charge.wait_of.Reads as wait-of-reads
 
 reserve-requires : tie.Need-reserve-requires
 reserve-requires c κs = search needs

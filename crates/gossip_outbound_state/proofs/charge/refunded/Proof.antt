@@ -1,12 +1,10 @@
+-- `gossip_outbound_state::charge::refunded` meets its contract: the buckets are sound, so they refuse nothing. Assumes nothing.
 use mathlib.Core.Path.{ap}
 use Rattle.bucket_bytes.specs.declared.bytes.ByteRefilled.{ByteRefilled}
 use Rattle.bucket_bytes.specs.ByteBucketLaws.{byte-refund-sound}
 use borrow.Author.Needs.{needs}
 use Rattle.gossip_outbound_state.proofs.charge.refunded.Statement.{statement}
 use Rattle.gossip_outbound_state.proofs.charge.refunded.Tie as tie
-use Rattle.gossip_outbound_state.proofs.charge.refunded.Reads as reads
-use Rattle.gossip_outbound_state.proofs.charge.refunded.Lts as lts
-use Rattle.bucket_bytes.proofs.bytes.ByteTokenBucket.refund.Reads as refund-reads
 
 refund-requires : tie.Need-refund-requires
 refund-requires c κs = search needs

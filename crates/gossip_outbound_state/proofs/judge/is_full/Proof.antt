@@ -1,8 +1,7 @@
+-- `gossip_outbound_state::judge::is_full` meets its contract: each test is one of the definition's. Assumes nothing.
 use borrow.Author.Needs.{needs}
 use Rattle.gossip_outbound_state.proofs.judge.is_full.Statement.{statement}
 use Rattle.gossip_outbound_state.proofs.judge.is_full.Tie as tie
-use Rattle.gossip_outbound_state.proofs.judge.is_full.Reads as reads
-use Rattle.gossip_outbound_state.proofs.judge.is_full.Lts as lts
 
 enum-told : tie.Need-enum-told
 enum-told c = search needs

@@ -1,11 +1,9 @@
+-- `gossip_outbound_state::judge::is_sound` meets its contract: each test is one of the definition's. Assumes nothing.
 use borrow.Author.Tests.{le-leb, lt-leb}
 use Rattle.gossip_outbound_state.specs.State.{ownSound}
 use borrow.Author.Needs.{needs}
 use Rattle.gossip_outbound_state.proofs.judge.is_sound.Statement.{statement}
 use Rattle.gossip_outbound_state.proofs.judge.is_sound.Tie as tie
-use Rattle.gossip_outbound_state.proofs.judge.is_sound.Reads as reads
-use Rattle.gossip_outbound_state.proofs.judge.is_sound.Lts as lts
-use Rattle.bucket_bytes.proofs.bytes.is_sound.Reads as is-sound-reads
 
 returns : tie.Need-returns
 unfolding ownSound

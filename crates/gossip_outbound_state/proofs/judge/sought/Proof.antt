@@ -1,5 +1,6 @@
+-- `gossip_outbound_state::judge::sought` meets its contract: each test is one of the definition's. Assumes nothing.
 use mathlib.Core.Path.{_≡_, sym, _∙_}
-use mathlib.Core.Bool.{true, false}
+use mathlib.Core.Bool.{true}
 use Prim.Native.Nat.{_*_}
 use native.Mathlib.Omega.{arith}
 use borrow.Author.Tests.{not-true, not-false, le-leb, lt-leb}
@@ -11,10 +12,6 @@ use Rattle.gossip_outbound_state.specs.CarryLaws.{rows-within}
 use borrow.Author.Needs.{needs}
 use Rattle.gossip_outbound_state.proofs.judge.sought.Statement.{statement}
 use Rattle.gossip_outbound_state.proofs.judge.sought.Tie as tie
-use Rattle.gossip_outbound_state.proofs.judge.sought.Reads as reads
-use Rattle.gossip_outbound_state.proofs.judge.sought.Lts as lts
-use Rattle.gossip_outbound_state.proofs.judge.is_sound.Reads as is-sound-reads
-use Rattle.gossip_outbound_rows.proofs.walk.sought.Reads as sought-reads
 
 is-sound-requires : tie.Need-is-sound-requires
 is-sound-requires c κs = search needs

@@ -1,0 +1,57 @@
+-- `judge::settings_in` meets its contract: the contents, then the settings. Assumes nothing.
+use mathlib.Core.Path.{sym, ap, _∙_}
+use native.Mathlib.Omega.{arith}
+use borrow.Author.Tests.{not-true, not-false}
+use Rattle.snapshot_layout.specs.Layout.{laidOut}
+use Rattle.snapshot.specs.Form.{first, rowsIn}
+use Rattle.snapshot.specs.JudgeLaws.{slots-are, laid-length, settings-refused, settings-told}
+use borrow.Author.Needs.{needs}
+use Rattle.snapshot.proofs.judge.settings_in.Statement.{statement}
+use Rattle.snapshot.proofs.judge.settings_in.Tie as tie
+
+kinds-requires : tie.Need-kinds-requires
+kinds-requires c κs = search needs
+
+rows-in-requires : tie.Need-rows-in-requires
+rows-in-requires c κs = search needs
+
+lengths-requires : tie.Need-lengths-requires
+lengths-requires c κs = search needs
+
+slice-aggregate-laid-out : tie.Need-slice-aggregate-laid-out
+slice-aggregate-laid-out c = search needs
+
+slice-aggregate-laid-out-2 : tie.Need-slice-aggregate-laid-out-2
+slice-aggregate-laid-out-2 c = search needs
+
+laid-out-requires : tie.Need-laid-out-requires
+laid-out-requires c κs = search needs
+
+returns : tie.Need-returns
+returns c = let z = c .before .before .before .before .before .before .before .before .args .snapshot .now in
+    let told = slots-are (c .before .before .before .before .before .before .kinds .result) (c .before .before .before .before .lengths .result) (c .before .before .before .before .before .rows-in .result) (rowsIn first z) (c .before .before .before .before .before .before .kinds .ensures) (c .before .before .before .before .lengths .ensures) (c .before .before .before .before .before .rows-in .ensures) in
+    sym (settings-refused z (ap (laidOut z) (sym told) ∙ sym (c .before .laid-out .ensures) ∙ not-true (c .before .laid-out .result) (c .if1 .taken)))
+
+read-settings-requires : tie.Need-read-settings-requires
+read-settings-requires c κs = let z = c .before .before .before .before .before .before .before .before .args .snapshot .now in
+    let told = slots-are (c .before .before .before .before .before .before .kinds .result) (c .before .before .before .before .lengths .result) (c .before .before .before .before .before .rows-in .result) (rowsIn first z) (c .before .before .before .before .before .before .kinds .ensures) (c .before .before .before .before .lengths .ensures) (c .before .before .before .before .before .rows-in .ensures) in
+    omega (arith, laid-length z (ap (laidOut z) (sym told) ∙ sym (c .before .laid-out .ensures) ∙ not-false (c .before .laid-out .result) (c .if1 .left)))
+
+returns-2 : tie.Need-returns-2
+returns-2 c = let z = c .before .before .before .before .before .before .before .before .before .args .snapshot .now in
+    let told = slots-are (c .before .before .before .before .before .before .before .kinds .result) (c .before .before .before .before .before .lengths .result) (c .before .before .before .before .before .before .rows-in .result) (rowsIn first z) (c .before .before .before .before .before .before .before .kinds .ensures) (c .before .before .before .before .before .lengths .ensures) (c .before .before .before .before .before .before .rows-in .ensures) in
+    c .read-settings .ensures ∙ sym (settings-told z (ap (laidOut z) (sym told) ∙ sym (c .before .before .laid-out .ensures) ∙ not-false (c .before .before .laid-out .result) (c .before .if1 .left)))
+
+pub settings-in-spec : {M : Type 1} → statement M
+settings-in-spec =
+    tie.close
+    (tie.spec
+    kinds-requires
+    rows-in-requires
+    lengths-requires
+    slice-aggregate-laid-out
+    slice-aggregate-laid-out-2
+    laid-out-requires
+    returns
+    read-settings-requires
+    returns-2)

@@ -1,0 +1,6 @@
+pub mod Form
+pub mod Snapshot
+pub mod JudgeLaws
+pub mod ReadLaws
+pub mod WriteLaws
+pub mod PartLaws

@@ -1,0 +1,96 @@
+-- Laws of writing a snapshot: what the call leaves, and the bytes part by part. Assumes nothing.
+use mathlib.Core.Path.{_≡_, sym, ap, _∙_}
+use mathlib.Core.Bool.{true, false}
+use mathlib.Core.List.{List, _++_, append-assoc, append-nil}
+use Prim.Native.Nat.{ℕ, _+_, _-_, _*_, _≤_, _<_}
+use native.Mathlib.Omega.{arith}
+use borrow.Author.Tests.{le-leb, lt-leb}
+use lib.ListN.{length, take, length-append, length-take}
+use Rattle.lent_bytes.specs.LentBytes.{put}
+use Rattle.lent_bytes.specs.LentBytesLaws.{put-put-at}
+use Rattle.refusal.specs.Refusal.{tooShort, unsound}
+use Rattle.peer_message_policy.specs.declared.policy.PeerMessagePolicy.{PeerMessagePolicy}
+use Rattle.peer_message_policy.specs.Policy.{sound}
+use Rattle.peer_laws.specs.SoundLaws.{policy-holds}
+use Rattle.snapshot_layout.specs.Layout.{contentsSize, Slot, slotsOf, contents, bodies}
+use Rattle.snapshot_layout.specs.LayoutLaws.{put-snapshot}
+use Rattle.snapshot_settings.specs.Settings.{settingsSize, settingsBytes}
+use Rattle.snapshot_settings.specs.SettingsLaws.{length-settingsBytes}
+use Rattle.snapshot_settings.specs.Load.{loadSize, loadBytes}
+use Rattle.snapshot_settings.specs.LoadLaws.{length-loadBytes}
+use Rattle.snapshot.specs.declared.answer.Written.{Written}
+use Rattle.snapshot.specs.declared.answer.Written.the-variants as Written
+use Rattle.snapshot.specs.Form.{rowSize, first, formSlots, settingsPlace, loadPlace, rowsPlace}
+use Rattle.snapshot.specs.Snapshot.{policyParts, snapshotBytes, snapshotLength, writeOutcome, WriteMeets}
+
+-- ---- what writing leaves
+
+-- a sound policy has at most 1,024 rows, and they stand in its memory
+pub sound-rows : (p : PeerMessagePolicy) (s : List ℕ) → sound p s ≡ true → (p .rows ≤ 1024) × (rowSize * p .rows ≤ length s)
+sound-rows p s h =
+    let holds = policy-holds p s h in
+    (omega (arith, holds .own .tracked, holds .own .few), omega (arith, holds .own .few, holds .long))
+
+module _ (p : PeerMessagePolicy) (s out : List ℕ) where
+  -- an unsound policy or table
+  pub write-unsound : sound p s ≡ false → WriteMeets p s out (Written.Refused unsound) out
+  unfolding writeOutcome
+  write-unsound h = record { answers = rw h; leaves = rw h }
+
+  module _ (h : sound p s ≡ true) where
+    -- an output that is too short
+    pub write-short : length out < snapshotLength p → WriteMeets p s out (Written.Refused tooShort) out
+    unfolding writeOutcome
+    write-short l = let short = lt-leb (snapshotLength p) (length out) l in record { answers = rw (h, short); leaves = rw (h, short) }
+
+    -- an output that is long enough
+    pub write-done : snapshotLength p ≤ length out → (n : ℕ) → n ≡ snapshotLength p → (t : List ℕ) → t ≡ put out 0 (snapshotBytes p s)
+        → WriteMeets p s out (Written.Length n) t
+    unfolding writeOutcome
+    write-done l n m t e =
+        let long = le-leb (snapshotLength p) (length out) l in
+        record { answers = ap Written.Length m ∙ rw (h, long); leaves = e ∙ rw (h, long) }
+
+-- ---- written
+
+module _ (p : PeerMessagePolicy) (s : List ℕ) (fits : rowSize * p .rows ≤ length s) where
+  -- the rows take their bytes
+  pub rows-length : length (take (rowSize * p .rows) s) ≡ rowSize * p .rows
+  rows-length = simp length-take (omega arith)
+
+  -- the parts have the form's kinds and lengths
+  pub slots-parts : slotsOf (policyParts p s) ≡ formSlots first (p .rows)
+  unfolding policyParts
+  slots-parts = rw (length-settingsBytes (p .config), length-loadBytes (p .ingress), rows-length)
+
+  front-length : length (settingsBytes (p .config) ++ loadBytes (p .ingress)) ≡ settingsSize + loadSize
+  front-length =
+      length-append (settingsBytes (p .config)) (loadBytes (p .ingress))
+      ∙ omega (arith, length-settingsBytes (p .config), length-loadBytes (p .ingress))
+
+  -- three bodies, written one behind the other
+  pub put-parts : (out : List ℕ) → settingsPlace first ≤ length out
+      → put (put (put out (settingsPlace first) (settingsBytes (p .config))) (loadPlace first) (loadBytes (p .ingress))) (rowsPlace first) (take (rowSize * p .rows) s)
+      ≡ put out (settingsPlace first) (bodies (policyParts p s))
+  unfolding policyParts bodies
+  put-parts out h =
+      let a : List ℕ = settingsBytes (p .config) in
+      let b : List ℕ = loadBytes (p .ingress) in
+      let c : List ℕ = take (rowSize * p .rows) s in
+      ap (λ (l : List ℕ). put l (rowsPlace first) c) (put-put-at out (settingsPlace first) a b settingsSize (length-settingsBytes (p .config)) h)
+      ∙ put-put-at out (settingsPlace first) (a ++ b) c (settingsSize + loadSize) front-length h
+      ∙ ap (put out (settingsPlace first)) (append-assoc a b c ∙ ap (λ (l : List ℕ). a ++ (b ++ l)) (sym (append-nil c)))
+
+  -- contents and bodies are the snapshot
+  pub put-whole : (out : List ℕ) → put (put out 0 (contents (formSlots first (p .rows)))) (settingsPlace first) (bodies (policyParts p s)) ≡ put out 0 (snapshotBytes p s)
+  unfolding snapshotBytes
+  put-whole out =
+      ap (λ (l : List Slot). put (put out 0 (contents l)) (contentsSize (length l)) (bodies (policyParts p s))) (sym slots-parts)
+      ∙ put-snapshot out (policyParts p s)
+
+-- ---- one outcome
+
+-- write has one answer and leaves one output
+pub write-one : (p : PeerMessagePolicy) (s before : List ℕ) {r q : Written} {x y : List ℕ} → WriteMeets p s before r x → WriteMeets p s before q y
+    → (r ≡ q) × (x ≡ y)
+write-one p s before h k = (h .answers ∙ sym (k .answers), h .leaves ∙ sym (k .leaves))

@@ -1,0 +1,3 @@
+pub mod WrittenLaws
+pub mod ReadLaws
+pub mod RoundTripLaws

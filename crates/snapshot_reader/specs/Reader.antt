@@ -1,0 +1,63 @@
+-- The rows of a snapshot, walked: the step at a place. Definitions only; their laws are in `ReaderLaws`.
+use mathlib.Core.Bool.{Bool, _&&_, cond}
+use mathlib.Core.List.{List}
+use Prim.Native.Nat.{ℕ, _+_, _-_, _%_}
+use lib.Dec.{leb, eqb}
+use lib.ListN.{length}
+use Rattle.lent_bytes.specs.LentBytes.{part, zeros}
+use Rattle.refusal.specs.Refusal.{wrongLayout}
+use Rattle.table.specs.Memory.{rowOf}
+use Rattle.peer_state.specs.Entry.{level, window}
+use Rattle.peer_rows.specs.Rows.{peerLayout}
+use Rattle.peer_rows.specs.Peer.{ban}
+use Rattle.snapshot.specs.Form.{rowSize, first, rowsPlace}
+use Rattle.snapshot.specs.Snapshot.{layoutRight}
+use Rattle.snapshot_reader.specs.declared.row.SnapshotRow.{SnapshotRow}
+use Rattle.snapshot_reader.specs.declared.row.RowStep.{RowStep}
+
+-- the mark of a step that gives a row
+abbrev pub given : ℕ
+given = 0
+
+-- the mark of a step behind the last row
+abbrev pub done : ℕ
+done = 1
+
+-- the row whose bytes stand at a place: its key and its entry, unjudged
+abbrev pub givenAt : List ℕ → ℕ → SnapshotRow
+givenAt z at = record { key = record { bytes = part z at 33 }; entry = rowOf peerLayout (part z at rowSize) .entry }
+
+-- a row of zeros
+abbrev pub noRow : SnapshotRow
+noRow =
+    record {
+      key = record { bytes = zeros 33 };
+      entry =
+          record {
+            messages = level 0 0;
+            bytes = level 0 0;
+            «rate_limit_violations» = window 0 0;
+            «invalid_messages» = window 0 0;
+            ban = ban 0 0;
+            «last_used_ms» = 0;
+          };
+    }
+
+-- a step that gives no row and goes nowhere
+abbrev pub ended : ℕ → ℕ → RowStep
+ended mark at = record { row = noRow; mark = mark; at = at }
+
+-- the place is within the rows, a whole number of rows behind the first, or at their end
+abbrev pub rowPlace : List ℕ → ℕ → Bool
+rowPlace z at = leb (rowsPlace first) at && (leb at (length z) && eqb ((at - rowsPlace first) % rowSize) 0)
+
+-- the layout is right, and the place is that of a row or the end
+unfoldable pub stands : List ℕ → ℕ → Bool
+stands z at = layoutRight first z && rowPlace z at
+
+-- the step at a place: 6, or done at the end, or the row and the place behind it
+unfoldable pub stepAt : List ℕ → ℕ → RowStep
+stepAt z at =
+    cond (stands z at)
+    (cond (eqb at (length z)) (ended done at) (record { row = givenAt z at; mark = given; at = at + rowSize }))
+    (ended wrongLayout at)
