@@ -1,11 +1,10 @@
 -- Amounts behind the C boundary. Definitions only.
 use mathlib.Core.Path.{_≡_}
-use mathlib.Core.Bool.{Bool, true, false, not, cond}
-use mathlib.Core.List.{List, [], _∷_}
+use mathlib.Core.Bool.{cond}
+use mathlib.Core.List.{List}
 use Prim.Native.Nat.{ℕ, _-_, _*_, _/_, _%_, _^_, min}
 use lib.Dec.{eqb}
 use lib.IntN.{ℤ, pos, _+ℤ_, _-ℤ_}
-use lib.ListN.{getD}
 use lib.Signed.{ltZ}
 use Rattle.amount.specs.declared.Amount.{Amount}
 use Rattle.amount_limbs.specs.Limbs.{saturatedUnsigned, ceilDiv}

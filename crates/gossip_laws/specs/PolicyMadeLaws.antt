@@ -10,7 +10,7 @@ use Rattle.lent_bytes.specs.LentBytes.{Bytes}
 use Rattle.refusal.specs.Refusal.{tooShort}
 use Rattle.table.specs.Memory.{Layout}
 use Rattle.table.specs.TableLaws.{both-parts}
-use Rattle.table.specs.Outcome.{same, become, Memory, Outcome, Meets}
+use Rattle.table.specs.Outcome.{same, become, Memory, Meets}
 use Rattle.table_laws.specs.Lent.{longEnough}
 use Rattle.table_laws.specs.KeptLaws.{length-laid-keyed}
 use Rattle.gossip_settings.specs.declared.ban.GossipBanConfig.{GossipBanConfig}

@@ -1,6 +1,6 @@
 -- A call on one half, told of the whole state; and making one, by the lengths of both tables. Assumes nothing.
 use mathlib.Core.Path.{_≡_, refl, ap, _∙_}
-use mathlib.Core.Bool.{Bool, false, _&&_}
+use mathlib.Core.Bool.{false}
 use mathlib.Core.List.{List, []}
 use Prim.Native.Nat.{ℕ, _≤_, _<_}
 use borrow.Author.Tests.{le-leb, lt-leb}

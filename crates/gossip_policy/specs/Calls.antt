@@ -1,14 +1,14 @@
 -- The public calls: what each contract says of a call's answer and of every lent byte, for all arguments. Definitions only.
 -- A call on bans is that of gossip_bans on the state's tracker, a call on outbound messages that of gossip_outbound on the outbound half;
 -- the other half comes back as it was.
-use mathlib.Core.Path.{_≡_}
 use mathlib.Core.Bool.{Bool, _&&_, cond}
-use mathlib.Core.List.{List, []}
+use mathlib.Core.List.{List, [], _∷_}
 use Prim.Native.Nat.{ℕ}
 use Rattle.pubkey.specs.declared.Pubkey.{Pubkey}
-use Rattle.refusal.specs.Refusal.{Said, gives, refused, tooShort}
+use Rattle.refusal.specs.Refusal.{Said, gives, tooShort}
 use Rattle.bucket_terms.specs.declared.answer.Told.{Told}
 use Rattle.bucket_terms.specs.declared.answer.Delay.{Delay}
+use Rattle.bucket_terms.specs.Answers.{toldSays, delaySays}
 use Rattle.table.specs.Outcome.{same, become, Outcome, Meets}
 use Rattle.table_laws.specs.Lent.{longEnough}
 use Rattle.gossip_settings.specs.declared.policy.GossipPolicyConfig.{GossipPolicyConfig}
@@ -29,7 +29,30 @@ use Rattle.gossip_policy.specs.declared.answer.GossipTold.{GossipTold}
 use Rattle.gossip_policy.specs.declared.answer.GossipPruned.{GossipPruned}
 use Rattle.gossip_policy.specs.declared.answer.GossipSettled.{GossipSettled}
 use Rattle.gossip_policy.specs.declared.answer.GossipReserved.{GossipReserved}
+use Rattle.gossip_policy.specs.declared.answer.DelayedByteCapacity.{DelayedByteCapacity}
+use Rattle.gossip_policy.specs.declared.answer.DelayedByteCapacity.the-variants.{Unlimited, Bytes}
 use Rattle.gossip_policy.specs.State.{fresh, outboundOf, withTracker, withOutbound}
+
+-- ════ What the answers say ════════════════════════════════════════════════════════════════════════
+
+-- 1 for yes, 0 for no
+abbrev pub gossipToldSays : GossipTold → Said
+gossipToldSays r = toldSays (r .answer)
+
+abbrev pub gossipPrunedSays : GossipPruned → Said
+gossipPrunedSays r = bans.prunedSays (r .answer)
+
+abbrev pub gossipSettledSays : GossipSettled → Said
+gossipSettledSays r = outbound.settledSays (r .answer)
+
+-- the milliseconds
+abbrev pub gossipReservedSays : GossipReserved → Said
+gossipReservedSays r = delaySays (r .answer)
+
+-- the bytes, or nothing where there is no limit
+abbrev pub capacitySays : DelayedByteCapacity → Said
+capacitySays Unlimited = gives []
+capacitySays (Bytes n) = gives (n ∷ [])
 
 -- ════ The answer of a half as an answer of the whole ══════════════════════════════════════════════
 

@@ -1,6 +1,5 @@
 -- GossipPolicyState of gossip_policy.rs: its two halves, and what its settings say by themselves. Definitions only.
 use mathlib.Core.Bool.{cond}
-use Prim.Native.Nat.{ℕ}
 use Rattle.bucket_terms.specs.declared.limit.ByteRateLimitConfig.{ByteRateLimitConfig}
 use Rattle.bucket_terms.specs.Limit.{byteDisabled}
 use Rattle.bucket_bytes.specs.ByteBucket.{byteNew}
