@@ -48,6 +48,6 @@ pub shielded : {c : PeerMessagePolicyConfig} {h : List Call} {s : State} → Con
     → (Shielded k run → Shield k run) × (Held k run → Shielded k run) × (Held k run → HeldShield k run)
 shielded fits k run = (FairRunLaws.shielded-both fits k run, HeldRunLaws.held-shields k run, HeldRunLaws.held-both k fits run)
 
--- Samples A to F, I and J of document 01 hold of the definitions (G and H come with gossip).
+-- Samples A to J of document 01 hold of the definitions.
 pub samples : Agree samplesRun
 samples = SamplesLaws.samples-agree

@@ -1,4 +1,4 @@
--- Samples A to F, I and J of document 01, run on the definitions: what the steps of each say, and what the document says that
+-- Samples A to J of document 01, run on the definitions: what the steps of each say, and what the document says that
 -- they say. Definitions only; that the two agree is `Promises.samples`.
 use mathlib.Core.Path.{_≡_}
 use mathlib.Core.List.{List, [], _∷_}
@@ -11,6 +11,7 @@ use Rattle.bucket_terms.specs.Answers.{consumedSays, delaySays, toldSays, told}
 use Rattle.bucket_terms.specs.Limit.{byteLimit}
 use Rattle.bucket_discrete.specs.DiscreteBucket.{discreteNew, discreteTryConsume}
 use Rattle.bucket_bytes.specs.ByteBucket.{byteNew, byteTryConsume, byteReserve, byteHasDebt}
+use Rattle.table.specs.Outcome as table
 use Rattle.peer_settings.specs.declared.config.PeerMessagePolicyConfig.{PeerMessagePolicyConfig}
 use Rattle.peer_state.specs.declared.entry.ViolationWindow.{ViolationWindow}
 use Rattle.peer_state.specs.declared.ingress.FiberIngressBudget.{FiberIngressBudget}
@@ -18,6 +19,14 @@ use Rattle.peer_state.specs.Entry.{window, windowRecord}
 use Rattle.peer_state.specs.Ingress.{inFlight}
 use Rattle.peer_rows.specs.Rows.{Peers}
 use Rattle.peer_message_policy.specs.Policy.{admit}
+use Rattle.gossip_settings.specs.declared.ban.GossipBanConfig.{GossipBanConfig}
+use Rattle.gossip_settings.specs.declared.channel_update.ChannelUpdateRateLimitConfig.{ChannelUpdateRateLimitConfig}
+use Rattle.gossip_settings.specs.declared.violation.GossipViolation.the-variants as GossipViolation
+use Rattle.gossip_settings.specs.Settings.{violationScore}
+use Rattle.gossip_ban_rows.specs.Rows.{Bans}
+use Rattle.gossip_bans.specs.Tracker as tracker
+use Rattle.gossip_limiter_rows.specs.Rows.{Limits}
+use Rattle.gossip_limiter.specs.Limiter.{tryAcquire}
 use Rattle.peer_message_policy.specs.Calls.{changedRows, admissionSays, admissionOf, fresh, allow, disconnect}
 
 -- a sample: what its steps say on the definitions, and what the document says
@@ -81,6 +90,30 @@ admitted c i rs (m ∷ ms) =
     (changedRows rs (admit c i rs (replicate 33 (m .peer)) (m .size) (m .now) .change))
     ms
 
+-- a peer of the ban tracker
+abbrev blamedPeer : List ℕ
+blamedPeer = replicate 33 2
+
+-- violations of 25 points by one peer at these times: whether each bans it; and then whether it is banned at those
+unfoldable pub blamed : GossipBanConfig → Bans → List ℕ → List ℕ → List Said
+blamed c rs [] [] = []
+blamed c rs [] (now ∷ asked) =
+    toldSays (told (tracker.isBanned c blamedPeer now rs .answer))
+    ∷ blamed c (table.changedRows rs (tracker.isBanned c blamedPeer now rs .change)) [] asked
+blamed c rs (now ∷ times) asked =
+    toldSays (told (tracker.recordViolation c 1024 blamedPeer (violationScore GossipViolation.PolicyRejectedMessage) now rs .answer))
+    ∷ blamed c
+    (table.changedRows rs (tracker.recordViolation c 1024 blamedPeer (violationScore GossipViolation.PolicyRejectedMessage) now rs .change))
+    times
+    asked
+
+-- channel updates under keys of 70 equal bytes, asked of a limiter with this limit (their sizes play no part)
+unfoldable pub acquired : ChannelUpdateRateLimitConfig → ℕ → Limits → List Message → List Said
+acquired c limit rs [] = []
+acquired c limit rs (m ∷ ms) =
+    toldSays (tryAcquire c limit (replicate 70 (m .peer)) (m .now) rs .answer)
+    ∷ acquired c limit (table.changedRows rs (tryAcquire c limit (replicate 70 (m .peer)) (m .now) rs .change)) ms
+
 -- ════ What the steps say ══════════════════════════════════════════════════════════════════════════
 
 abbrev yes : Said
@@ -132,6 +165,14 @@ samplesRun =
     ∷ record {
       says = promised (byteNew (byteLimit 3 10)) (at 0 11) (333 ∷ 334 ∷ []);
       document = gives (334 ∷ []) ∷ yes ∷ gives (0 ∷ []) ∷ [];
+    }
+    ∷ record {
+      says = blamed (record { «threshold» = 100; «duration_ms» = 50 }) [] (7 ∷ 7 ∷ 7 ∷ 7 ∷ []) (56 ∷ 57 ∷ []);
+      document = gives (0 ∷ []) ∷ gives (0 ∷ []) ∷ gives (0 ∷ []) ∷ yes ∷ yes ∷ gives (0 ∷ []) ∷ [];
+    }
+    ∷ record {
+      says = acquired (record { «interval_ms» = 10; «burst» = 1 }) 1 [] (of 0 0 100 ∷ of 1 0 109 ∷ of 1 0 110 ∷ []);
+      document = yes ∷ gives (0 ∷ []) ∷ yes ∷ [];
     }
     ∷ record {
       says = gives (violations (window 0 0) 100 (50 ∷ 149 ∷ []) ∷ violations (window 0 0) 100 (50 ∷ 150 ∷ []) ∷ []) ∷ [];
