@@ -1,6 +1,6 @@
 -- What the user was promised, stated of the calls themselves. A `Run` is a list of calls on lent memory, from a freshly made
 -- policy, each known by its contract alone; `logOf k run` is the list of Allows of peer k's present life. The definitions stand in
--- Runs, RunLives, Lives and Held, the proofs in the modules that are named here. `CoreLaws` states both bounds of lists of core calls, which
+-- Runs (of peer_runs), RunLives, Lives and Held, the proofs in the modules that are named here. `CoreLaws` states both bounds of lists of core calls, which
 -- `CoreRunLaws.runs-core` maps a run onto. That there is a run in which `least` gives an Allow after an Allow is `ExampleLaws.a-run-exists`.
 use mathlib.Core.Path.{_≡_}
 use mathlib.Core.Bool.{true}
@@ -12,12 +12,12 @@ use Rattle.peer_settings.specs.declared.config.PeerMessagePolicyConfig.{PeerMes
 use Rattle.peer_settings.specs.Fits.{ConfigFits}
 use Rattle.peer_state.specs.Ingress.{tryReserve}
 use Rattle.peer_message_policy.specs.Policy as Policy
-use Rattle.promises.specs.Runs.{Call, admit, State, Step, Run}
+use Rattle.peer_runs.specs.Runs.{Call, admit, State, Step, Run}
 use Rattle.promises.specs.Lives.{AtMost, ceilingSays}
 use Rattle.promises.specs.RunLives.{Ordered, logOf, Shielded, Entitled, Shield}
 use Rattle.promises.specs.Held.{Held, HeldShield}
 use Rattle.promises.specs.Samples.{Agree, samplesRun}
-use Rattle.promises.specs.SoundRunLaws as SoundRunLaws
+use Rattle.peer_runs.specs.SoundRunLaws as SoundRunLaws
 use Rattle.promises.specs.FairRunLaws as FairRunLaws
 use Rattle.promises.specs.HeldRunLaws as HeldRunLaws
 use Rattle.promises.specs.SamplesLaws as SamplesLaws

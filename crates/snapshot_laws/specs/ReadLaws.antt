@@ -85,6 +85,11 @@ module _ (z before : List ℕ) (q : PeerMessagePolicy) (after : List ℕ) where
           ∙ memory.length-laid peer-faithful before (limit (q .config)) (rowsOf q (drop (rowsPlace first) z)) rows-fit (r .long)
           (omega (arith, few, r .long, length-rows peerLayout (drop (rowsPlace first) z) (q .rows)))
 
+      -- the table holds bytes
+      pub restored-bytes : Bytes before → Bytes after
+      restored-bytes h =
+          rw (r .held .memory) (memory.Bytes-laid peer-faithful before (limit (q .config)) (rowsOf q (drop (rowsPlace first) z)) rows-fit h)
+
       -- policy and table are sound
       pub restored-sound : sound q after ≡ true
       restored-sound =

@@ -25,14 +25,8 @@ use Rattle.snapshot.specs.Snapshot.{snapshotBytes, snapshotLength, WriteOutcome
 use Rattle.snapshot.specs.JudgeLaws.{describes-policy, describes-length}
 use Rattle.snapshot.specs.WriteLaws.{write-done, write-one}
 use Rattle.snapshot_laws.specs.WrittenLaws.{written-length, written-tail, written-rows, written-describes}
-use Rattle.snapshot_laws.specs.ReadLaws.{Restored, read-restored, restored-rows, restored-sound, restored-front, bytes-again}
-
--- the same policy, with the same rows in both memories, and both sound
-pub record Same (p : PeerMessagePolicy) (s : List ℕ) (q : PeerMessagePolicy) (t : List ℕ) : Type 0 where
-  pub policy : q ≡ p
-  pub rows : rowsOf q t ≡ rowsOf p s
-  pub first-sound : sound p s ≡ true
-  pub second-sound : sound q t ≡ true
+use Rattle.snapshot_laws.specs.Alike.{Alike}
+use Rattle.snapshot_laws.specs.ReadLaws.{Restored, read-restored, restored-rows, restored-sound, restored-bytes, restored-front, bytes-again}
 
 -- an answer that goes by a test
 chosen : (p : PeerMessagePolicy) (b : Bool) (change : Change)
@@ -43,11 +37,11 @@ chosen p false change = refl
 -- ---- a write that was not refused
 
 -- it wrote the snapshot of a sound policy
-record Wrote (p : PeerMessagePolicy) (s out : List ℕ) (n : ℕ) (after : List ℕ) : Type 0 where
-  is-sound : sound p s ≡ true
-  long : snapshotLength p ≤ length out
-  size : n ≡ snapshotLength p
-  output : after ≡ put out 0 (snapshotBytes p s)
+pub record Wrote (p : PeerMessagePolicy) (s out : List ℕ) (n : ℕ) (after : List ℕ) : Type 0 where
+  pub is-sound : sound p s ≡ true
+  pub long : snapshotLength p ≤ length out
+  pub size : n ≡ snapshotLength p
+  pub output : after ≡ put out 0 (snapshotBytes p s)
 
 wrote-by : (p : PeerMessagePolicy) (s out : List ℕ) (n : ℕ) (after : List ℕ) (a b : Bool) → sound p s ≡ a → leb (snapshotLength p) (length out) ≡ b
     → (o : WriteOutcome)
@@ -74,12 +68,12 @@ wrote-by p s out n after false b h l o e f g =
     absurd (omega arith)
 
 module _ (p : PeerMessagePolicy) (s out : List ℕ) (n : ℕ) (out' : List ℕ) (m : WriteMeets p s out (Written.Length n) out') where
-  wrote : Wrote p s out n out'
+  pub wrote : Wrote p s out n out'
   unfolding writeOutcome
   wrote = wrote-by p s out n out' (sound p s) (leb (snapshotLength p) (length out)) refl refl (writeOutcome p s out) refl (m .answers) (m .leaves)
 
   -- the first n bytes of the output are the snapshot
-  front-is : take n out' ≡ snapshotBytes p s
+  pub front-is : take n out' ≡ snapshotBytes p s
   unfolding part
   front-is =
       ap (take n) (wrote .output)
@@ -95,13 +89,15 @@ module _ (p : PeerMessagePolicy) (s out : List ℕ) (n : ℕ) (out' : List ℕ) 
 
     module _ (before after : List ℕ) where
       -- what was written and is read is the same policy
-      pub written-reads : Bytes s → (q : PeerMessagePolicy) → ReadMeets first (take n out') before (Made.Policy q) after → Same p s q after
-      written-reads b q read =
+      pub written-reads : Bytes s → Bytes before → (q : PeerMessagePolicy) → ReadMeets first (take n out') before (Made.Policy q) after
+          → Alike (record { policy = p; memory = s }) (record { policy = q; memory = after })
+      written-reads b c q read =
           let z : List ℕ = take n out' in
           let r : Restored z before q after = read-restored z before q after read in
           let both : Made.Policy q ≡ Made.Policy p = sym (describes-policy z q (r .described)) ∙ written-policy in
           let is : q ≡ p = cc in
           let tail : drop (rowsPlace first) z ≡ take (rowSize * p .rows) s = ap (drop (rowsPlace first)) front-is ∙ written-tail p s (wrote .is-sound) in
+          let bytes : Bytes (drop (rowsPlace first) z) = subst Bytes (sym tail) (Bytes-take (rowSize * p .rows) s b) in
           record {
             policy = is;
             rows =
@@ -110,7 +106,9 @@ module _ (p : PeerMessagePolicy) (s out : List ℕ) (n : ℕ) (out' : List ℕ) 
                 ∙ ap (λ (w : List ℕ). rowsOf p (drop (rowsPlace first) w)) front-is
                 ∙ written-rows p s (wrote .is-sound);
             first-sound = wrote .is-sound;
-            second-sound = restored-sound z before q after r (subst Bytes (sym tail) (Bytes-take (rowSize * p .rows) s b));
+            second-sound = restored-sound z before q after r bytes;
+            first-bytes = b;
+            second-bytes = restored-bytes z before q after r bytes c;
           }
 
       -- reading it is refused with 1 alone, by a table that is too short
