@@ -24,7 +24,7 @@ use Rattle.snapshot_settings.specs.Settings.{settingsBytes}
 use Rattle.snapshot_settings.specs.Load.{loadBytes}
 use Rattle.snapshot_layout.specs.Layout.{snapshotOf}
 use Rattle.snapshot.specs.declared.answer.Written.the-variants as Written
-use Rattle.snapshot.specs.Form.{rowSize, first, parts}
+use Rattle.snapshot.specs.Form.{rowSize, Form, first, parts}
 use Rattle.snapshot.specs.Snapshot.{policyParts, snapshotBytes, snapshotLength, WriteOutcome, writeOutcome, WriteMeets, ReadMeets}
 use Rattle.snapshot.specs.WriteLaws.{sound-rows}
 use Rattle.snapshot_laws.specs.Alike.{Alike, Calls, done, next, WrittenAlike, SamePolicy}
@@ -71,11 +71,11 @@ module _ (s t : State) (a : Alike s t) where
       ∙ ap (tableBytes peerLayout) (a .rows)
       ∙ tableBytes-rows peer-faithful (s .memory) (s .policy .rows) (a .first-bytes) (inside s (a .first-sound))
 
-  -- so the snapshots are equal
-  snapshot-alike : snapshotBytes (t .policy) (t .memory) ≡ snapshotBytes (s .policy) (s .memory)
+  -- so the snapshots are equal, in any form
+  snapshot-alike : (f : Form) (behind : List (List ℕ)) → snapshotBytes f (t .policy) (t .memory) behind ≡ snapshotBytes f (s .policy) (s .memory) behind
   unfolding snapshotBytes policyParts
-  snapshot-alike =
-      (λ d. snapshotOf (parts (first .kinds) (settingsBytes (a .policy d .config) ∷ loadBytes (a .policy d .ingress) ∷ front-alike d ∷ [])))
+  snapshot-alike f behind =
+      (λ d. snapshotOf (parts (f .kinds) (settingsBytes (a .policy d .config) ∷ loadBytes (a .policy d .ingress) ∷ front-alike d ∷ behind)))
 
   -- and so is what becomes of an output
   write-alike : (out : List ℕ) → writeOutcome (t .policy) (t .memory) out ≡ writeOutcome (s .policy) (s .memory) out
@@ -84,8 +84,8 @@ module _ (s t : State) (a : Alike s t) where
       let both-sound : sound (t .policy) (t .memory) ≡ sound (s .policy) (s .memory) = a .second-sound ∙ sym (a .first-sound) in
       (λ d.
       cond (both-sound d)
-      (cond (leb (snapshotLength (a .policy d)) (length out))
-      (record { answer = Written.Length (snapshotLength (a .policy d)); output = put out 0 (snapshot-alike d) })
+      (cond (leb (snapshotLength first (a .policy d)) (length out))
+      (record { answer = Written.Length (snapshotLength first (a .policy d)); output = put out 0 (snapshot-alike first [] d) })
       (record { answer = Written.Refused tooShort; output = out }))
       (record { answer = Written.Refused unsound; output = out }))
 
@@ -100,8 +100,8 @@ module _ (s t : State) (a : Alike s t) where
             );
         any-outputs =
             λ out other n m x y one two. (
-              wrote (s .policy) (s .memory) out n x one .size ∙ sym (ap snapshotLength (a .policy)) ∙ sym (wrote (t .policy) (t .memory) other m y two .size),
-              front-is (s .policy) (s .memory) out n x one ∙ sym snapshot-alike ∙ sym (front-is (t .policy) (t .memory) other m y two),
+              wrote (s .policy) (s .memory) out n x one .size ∙ sym (ap (snapshotLength first) (a .policy)) ∙ sym (wrote (t .policy) (t .memory) other m y two .size),
+              front-is (s .policy) (s .memory) out n x one ∙ sym (snapshot-alike first []) ∙ sym (front-is (t .policy) (t .memory) other m y two),
             );
       }
 
