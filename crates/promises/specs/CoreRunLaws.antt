@@ -31,12 +31,12 @@ use Rattle.promises.specs.Core as Core
 use Rattle.promises.specs.Core.{idle, messageTurn, invalidTurn, after}
 use Rattle.promises.specs.Trails.{rowsAt, callsOf, trailOf}
 use Rattle.promises.specs.Lives.{logIn}
-use Rattle.promises.specs.Runs.{Call, admit, recordInvalid, isBanned, onDisconnected, releaseIngress, inFlight, heldTime, State, rowsIn, Step, KeyFits, Fits, Run, made, then}
+use Rattle.peer_runs.specs.Runs.{Call, admit, recordInvalid, isBanned, onDisconnected, releaseIngress, inFlight, heldTime, State, rowsIn, Step, KeyFits, Fits, Run, made, then}
 use Rattle.promises.specs.RunLives.{coreOf, trail, coreCalls, logOf}
 use Rattle.promises.specs.DecisionLaws.{Alike, judged-alike}
 use Rattle.promises.specs.CoreRowLaws.{trail-rows}
 use Rattle.promises.specs.MirrorLaws.{Mirrors, MirrorsIf, mirrored-rows, mirrored-trail}
-use Rattle.promises.specs.SoundRunLaws.{StateHolds, admit-left, record-invalid-left, is-banned-left, on-disconnected-left, release-ingress-left, run-holds}
+use Rattle.peer_runs.specs.SoundRunLaws.{StateHolds, admit-left, record-invalid-left, is-banned-left, on-disconnected-left, release-ingress-left, run-holds}
 
 -- ════ What an answer says ═════════════════════════════════════════════════════════════════════════
 

@@ -36,7 +36,7 @@ use Rattle.peer_message_policy.specs.Policy.{sound, become, Turn, carriedOut, e
 use Rattle.peer_message_policy.specs.Calls.{Memory, policyAfter, fresh, newOutcome, NewMeets, admissionOf, admissionSays, AdmitMeets, allow}
 use Rattle.peer_laws.specs.CallLaws.{admit-outcome}
 use Rattle.promises.specs.Lives.{Allow, keptLog, logFor, logIn, FromEvery, Near, Within}
-use Rattle.promises.specs.Runs.{admit, State, rowsIn, afterAdmit, Step, KeyFits, Fits, Run, made, then}
+use Rattle.peer_runs.specs.Runs.{admit, State, rowsIn, afterAdmit, Step, KeyFits, Fits, Run, made, then}
 use Rattle.promises.specs.RunLives.{latest, Ordered, entryIn, trail, logOf, Entitled}
 use Rattle.promises.specs.Example.{oneASecond, peer, lent, first, second, Example}
 use Rattle.promises.specs.Promises as Promises

@@ -19,9 +19,9 @@ use Rattle.promises.specs.Core as Core
 use Rattle.promises.specs.Core.{CoreCall, after, Timely, Sized}
 use Rattle.promises.specs.Trails.{Event, seenIf, callsOf}
 use Rattle.promises.specs.Lives.{lastUsed, AtMost, ceilingSays}
-use Rattle.promises.specs.Runs.{Call, admit, recordInvalid, isBanned, onDisconnected, releaseIngress, inFlight, heldTime, State, rowsIn, Step, Fits, Run, made, then}
+use Rattle.peer_runs.specs.Runs.{Call, admit, recordInvalid, isBanned, onDisconnected, releaseIngress, inFlight, heldTime, State, rowsIn, Step, Fits, Run, made, then}
 use Rattle.promises.specs.RunLives.{entryIn, coreOf, trail, coreCalls, logOf, Shielded, timeOf, latestOf, latest, notBefore, Ordered, Entitled, Shield}
-use Rattle.promises.specs.SoundRunLaws.{run-holds}
+use Rattle.peer_runs.specs.SoundRunLaws.{run-holds}
 use Rattle.promises.specs.CoreRunLaws.{step-core, runs-core, run-rows}
 use Rattle.promises.specs.MirrorLaws.{SizeFitsIf, seen-sized, trail-most, trail-least, timely-trail, timely-last}
 

@@ -8,7 +8,7 @@ use Rattle.peer_message_policy.specs.declared.answer.HeldTime.the-variants as H
 use Rattle.peer_message_policy.specs.Calls.{HeldTimeMeets}
 use Rattle.promises.specs.Core.{CoreCall}
 use Rattle.promises.specs.Lives.{partOf, OwnTime}
-use Rattle.promises.specs.Runs.{Call, State, Run, made, then}
+use Rattle.peer_runs.specs.Runs.{Call, State, Run, made, then}
 use Rattle.promises.specs.RunLives.{coreOf, Bounds}
 
 -- held_time, asked for a peer in a state with some given time, answers this time

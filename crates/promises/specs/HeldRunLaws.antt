@@ -20,10 +20,10 @@ use Rattle.peer_laws.specs.CallLaws.{held-time-answer}
 use Rattle.promises.specs.Core.{CoreCall}
 use Rattle.promises.specs.Trails.{Event, seenIf, rowsAt}
 use Rattle.promises.specs.Lives.{Part, message, invalid, neither, partOf, OwnTime, lastUsed, ShieldedIn, ceilingSays}
-use Rattle.promises.specs.Runs.{Call, admit, State, rowsIn, Step, Run, made, then}
+use Rattle.peer_runs.specs.Runs.{Call, admit, State, rowsIn, Step, Run, made, then}
 use Rattle.promises.specs.RunLives.{entryIn, coreOf, trail, Shielded, Entitled}
 use Rattle.promises.specs.Held.{Answered, heldOwn, Held, HeldShield}
-use Rattle.promises.specs.SoundRunLaws.{run-sound}
+use Rattle.peer_runs.specs.SoundRunLaws.{run-sound}
 use Rattle.promises.specs.CoreRunLaws.{run-rows}
 use Rattle.promises.specs.FairRunLaws.{shielded-most, shielded-least}
 

@@ -1,7 +1,6 @@
 pub mod Core
 pub mod Trails
 pub mod Lives
-pub mod Runs
 pub mod RunLives
 pub mod Held
 pub mod Example
@@ -15,7 +14,6 @@ pub mod CoreStepLaws
 pub mod CoreRowLaws
 pub mod CoreLaws
 pub mod MirrorLaws
-pub mod SoundRunLaws
 pub mod CoreRunLaws
 pub mod FairRunLaws
 pub mod HeldRunLaws

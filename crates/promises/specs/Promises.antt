@@ -1,23 +1,36 @@
 -- What the user was promised, stated of the calls themselves. A `Run` is a list of calls on lent memory, from a freshly made
 -- policy, each known by its contract alone; `logOf k run` is the list of Allows of peer k's present life. The definitions stand in
--- Runs, RunLives, Lives and Held, the proofs in the modules that are named here. `CoreLaws` states both bounds of lists of core calls, which
--- `CoreRunLaws.runs-core` maps a run onto. That there is a run in which `least` gives an Allow after an Allow is `ExampleLaws.a-run-exists`.
+-- Runs (of peer_runs), RunLives, Lives and Held, those of snapshots in Alike (of snapshot_laws), the proofs in the modules that are named
+-- here. `CoreLaws` states both bounds of lists of core calls, which `CoreRunLaws.runs-core` maps a run onto. That there is a run in which
+-- `least` gives an Allow after an Allow is `ExampleLaws.a-run-exists`.
 use mathlib.Core.Path.{_≡_}
-use mathlib.Core.Bool.{true}
+use mathlib.Core.Bool.{true, cond}
 use mathlib.Core.List.{List, _∷_}
-use Prim.Native.Nat.{ℕ}
+use Prim.Native.Nat.{ℕ, _≤_}
+use lib.ListN.{length, take}
+use Rattle.lent_bytes.specs.LentBytes.{put, Bytes}
 use Rattle.pubkey.specs.declared.Pubkey.{Pubkey}
-use Rattle.refusal.specs.Refusal.{Said}
+use Rattle.refusal.specs.Refusal.{Said, tooShort}
 use Rattle.peer_settings.specs.declared.config.PeerMessagePolicyConfig.{PeerMessagePolicyConfig}
 use Rattle.peer_settings.specs.Fits.{ConfigFits}
 use Rattle.peer_state.specs.Ingress.{tryReserve}
+use Rattle.peer_message_policy.specs.declared.answer.Made.{Made}
+use Rattle.peer_message_policy.specs.declared.answer.Made.the-variants as Made
 use Rattle.peer_message_policy.specs.Policy as Policy
-use Rattle.promises.specs.Runs.{Call, admit, State, Step, Run}
+use Rattle.peer_laws.specs.Fits.{PolicyFits}
+use Rattle.snapshot.specs.declared.answer.Written.{Written}
+use Rattle.snapshot.specs.declared.answer.Written.the-variants as Written
+use Rattle.snapshot.specs.Form.{first}
+use Rattle.snapshot.specs.Snapshot.{WriteMeets, ReadMeets}
+use Rattle.snapshot_laws.specs.Alike.{Alike, SamePolicy}
+use Rattle.snapshot_laws.specs.RoundTripLaws as RoundTripLaws
+use Rattle.snapshot_laws.specs.SamePolicyLaws as SamePolicyLaws
+use Rattle.peer_runs.specs.Runs.{Call, admit, State, Step, Run}
 use Rattle.promises.specs.Lives.{AtMost, ceilingSays}
 use Rattle.promises.specs.RunLives.{Ordered, logOf, Shielded, Entitled, Shield}
 use Rattle.promises.specs.Held.{Held, HeldShield}
 use Rattle.promises.specs.Samples.{Agree, samplesRun}
-use Rattle.promises.specs.SoundRunLaws as SoundRunLaws
+use Rattle.peer_runs.specs.SoundRunLaws as SoundRunLaws
 use Rattle.promises.specs.FairRunLaws as FairRunLaws
 use Rattle.promises.specs.HeldRunLaws as HeldRunLaws
 use Rattle.promises.specs.SamplesLaws as SamplesLaws
@@ -51,3 +64,29 @@ shielded fits k run = (FairRunLaws.shielded-both fits k run, HeldRunLaws.held-sh
 -- Samples A to J of document 01 hold of the definitions.
 pub samples : Agree samplesRun
 samples = SamplesLaws.samples-agree
+
+-- Snapshots. The state s is written into an output, and the n bytes that are the snapshot are read into a table; the numbers are within
+-- their fields and the memory holds bytes, as the machine has it.
+module _ (s : State) (out : List ℕ) (n : ℕ) (written : List ℕ) (write : WriteMeets (s .policy) (s .memory) out (Written.Length n) written)
+    (fits : PolicyFits (s .policy)) (before : List ℕ) where
+  -- A snapshot that was written is never refused by a table that is long enough for the limit, and by a shorter one with 1 alone.
+  pub written-answers : (r : Made) (after : List ℕ) → ReadMeets first (take n written) before r after
+      → r ≡ cond (Policy.longEnough (s .policy .config) before) (Made.Policy (s .policy)) (Made.Refused tooShort)
+  written-answers r after read = RoundTripLaws.written-answers (s .policy) (s .memory) out n written write fits before after r read
+
+  module _ (bytes : Bytes (s .memory)) (free : Bytes before) (t : State) (read : ReadMeets first (take n written) before (Made.Policy (t .policy)) (t .memory)) where
+    -- What is read is the policy that was written, with the same rows, and sound.
+    pub written-reads : Alike s t
+    written-reads = RoundTripLaws.written-reads (s .policy) (s .memory) out n written write fits before (t .memory) bytes free (t .policy) read
+
+    -- And it is the same policy in every use that can be made of it: any later calls, with any times, say the same on both and leave the same
+    -- rows, and whatever is written later is answered the same and is the same bytes.
+    pub same-policy : SamePolicy s t
+    same-policy = SamePolicyLaws.same-policy (s .policy) (s .memory) out n written write fits before (t .memory) bytes free (t .policy) read
+
+-- Bytes that were read as a policy, then written into any output that is long enough, are the same bytes, and every further byte of the
+-- output stays.
+pub read-writes : (z before : List ℕ) (s : State) → Bytes z → ReadMeets first z before (Made.Policy (s .policy)) (s .memory)
+    → (out : List ℕ) → length z ≤ length out → (r : Written) (written : List ℕ) → WriteMeets (s .policy) (s .memory) out r written
+    → (r ≡ Written.Length (length z)) × (written ≡ put out 0 z)
+read-writes z before s bytes read = RoundTripLaws.read-writes z before (s .memory) (s .policy) bytes read

@@ -16,7 +16,7 @@ use Rattle.promises.specs.Core as Core
 use Rattle.promises.specs.Core.{CoreCall}
 use Rattle.promises.specs.Trails.{Event, seenIf, callsOf}
 use Rattle.promises.specs.Lives.{Allow, logIn, logFor, lastUsed, ShieldedIn, AtMost, Within, ceilingSays}
-use Rattle.promises.specs.Runs.{Call, admit, recordInvalid, isBanned, onDisconnected, releaseIngress, inFlight, heldTime, State, rowsIn, Step, Fits, Run, made, then}
+use Rattle.peer_runs.specs.Runs.{Call, admit, recordInvalid, isBanned, onDisconnected, releaseIngress, inFlight, heldTime, State, rowsIn, Step, Fits, Run, made, then}
 
 -- ════ The trail of a run ══════════════════════════════════════════════════════════════════════════
 

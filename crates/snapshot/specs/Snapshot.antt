@@ -44,30 +44,31 @@ placeSays (PartPlace.Refused n) = refused n
 
 -- ════ Written ═════════════════════════════════════════════════════════════════════════════════════
 
--- a policy and its rows as parts: the settings, the load in flight, and the rows' bytes as they stand in the table
-unfoldable pub policyParts : PeerMessagePolicy → List ℕ → List Part
-policyParts p s =
-    parts (first .kinds) (settingsBytes (p .config) ∷ loadBytes (p .ingress) ∷ take (rowSize * p .rows) s ∷ [])
+-- a policy and its rows as parts: the settings, the load in flight, the rows' bytes as they stand in the table, and the bodies that the
+-- form has behind them
+unfoldable pub policyParts : Form → PeerMessagePolicy → List ℕ → List (List ℕ) → List Part
+policyParts f p s behind =
+    parts (f .kinds) (settingsBytes (p .config) ∷ loadBytes (p .ingress) ∷ take (rowSize * p .rows) s ∷ behind)
 
--- the snapshot of a policy and the memory lent to it
-unfoldable pub snapshotBytes : PeerMessagePolicy → List ℕ → List ℕ
-snapshotBytes p s = snapshotOf (policyParts p s)
+-- the snapshot of a policy and the memory lent to it, with these bodies behind the rows
+unfoldable pub snapshotBytes : Form → PeerMessagePolicy → List ℕ → List (List ℕ) → List ℕ
+snapshotBytes f p s behind = snapshotOf (policyParts f p s behind)
 
 -- how many bytes it takes
-abbrev pub snapshotLength : PeerMessagePolicy → ℕ
-snapshotLength p = snapshotSize (formSlots first (p .rows))
+abbrev pub snapshotLength : Form → PeerMessagePolicy → ℕ
+snapshotLength f p = snapshotSize (formSlots f (p .rows))
 
 -- an answer, and what the output holds after it
 pub record WriteOutcome : Type 0 where
   pub answer : Written
   pub output : List ℕ
 
--- write: 3 for an unsound policy or table, then 1 for an output that is too short
+-- write, in the first form: 3 for an unsound policy or table, then 1 for an output that is too short
 unfoldable pub writeOutcome : PeerMessagePolicy → List ℕ → List ℕ → WriteOutcome
 writeOutcome p s out =
     cond (sound p s)
-    (cond (leb (snapshotLength p) (length out))
-    (record { answer = Written.Length (snapshotLength p); output = put out 0 (snapshotBytes p s) })
+    (cond (leb (snapshotLength first p) (length out))
+    (record { answer = Written.Length (snapshotLength first p); output = put out 0 (snapshotBytes first p s []) })
     (record { answer = Written.Refused tooShort; output = out }))
     (record { answer = Written.Refused unsound; output = out })
 

@@ -1,5 +1,6 @@
 // A snapshot's bytes, written part by part.
 ghost use mathlib.Core.Path.{_≡_};
+ghost use mathlib.Core.List.{[]};
 ghost use Prim.Native.Nat.{_*_, _≤_};
 ghost use lib.ListN.{length};
 ghost use Rattle.lent_bytes.specs.LentBytes.{put};
@@ -11,9 +12,9 @@ use peer_message_policy::policy::PeerMessagePolicy;
 
 // Writes settings, load and rows, one behind the other.
 fn put_bodies(output: &mut [u8], policy: PeerMessagePolicy, table: &[u8])
-    requires { ⌜ snapshotLength policy ≤ length (now output) ⌝ }
+    requires { ⌜ snapshotLength first policy ≤ length (now output) ⌝ }
     requires { ⌜ rowSize * policy .rows ≤ length (now table) ⌝ }
-    ensures { λ _. ⌜ now (output .exit) ≡ put (now (output .entry)) (settingsPlace first) (bodies (policyParts policy (now (table .entry)))) ⌝ }
+    ensures { λ _. ⌜ now (output .exit) ≡ put (now (output .entry)) (settingsPlace first) (bodies (policyParts first policy (now (table .entry)) [])) ⌝ }
 {
     let config = policy.config;
     let ingress = policy.ingress;
@@ -26,9 +27,9 @@ fn put_bodies(output: &mut [u8], policy: PeerMessagePolicy, table: &[u8])
 // Writes the contents and what they tell of.
 pub(crate) fn put_snapshot(output: &mut [u8], policy: PeerMessagePolicy, table: &[u8])
     requires { ⌜ policy .rows ≤ 1024 ⌝ }
-    requires { ⌜ snapshotLength policy ≤ length (now output) ⌝ }
+    requires { ⌜ snapshotLength first policy ≤ length (now output) ⌝ }
     requires { ⌜ rowSize * policy .rows ≤ length (now table) ⌝ }
-    ensures { λ _. ⌜ now (output .exit) ≡ put (now (output .entry)) 0 (snapshotBytes policy (now (table .entry))) ⌝ }
+    ensures { λ _. ⌜ now (output .exit) ≡ put (now (output .entry)) 0 (snapshotBytes first policy (now (table .entry)) []) ⌝ }
 {
     let kinds = form::kinds();
     let lengths = form::lengths(policy.rows as usize);

@@ -1,106 +1,136 @@
--- What stands in a snapshot that was written: the layout is right, and settings, load and rows are those of the policy. Assumes nothing.
-use Prim.{tt}
-use mathlib.Core.Path.{_≡_, refl, sym, ap, _∙_, subst}
+-- What stands in a snapshot that was written, in any form that fits: the layout is right, and settings, load, rows and what stands behind
+-- them are those that were written. Assumes nothing.
+use mathlib.Core.Path.{_≡_, sym, ap, _∙_, subst}
 use mathlib.Core.Bool.{Bool, true, _&&_, cond}
-use mathlib.Core.List.{List}
-use Prim.Native.Nat.{ℕ, _+_, _-_, _*_, _≤_}
+use mathlib.Core.List.{List, _++_}
+use Prim.Native.Nat.{ℕ, _+_, _*_}
 use native.Mathlib.Omega.{arith}
-use lib.Seq.{take-all}
-use lib.ListN.{length, take, drop, length-drop}
+use lib.Seq.{take-at, drop-at, drop-drop}
+use lib.ListN.{length, take, drop}
 use Rattle.lent_bytes.specs.LentBytes.{part}
 use Rattle.table.specs.Table.{every, ascending}
 use Rattle.table.specs.TableLaws.{both}
 use Rattle.table.specs.MemoryLaws.{rows-front}
 use Rattle.peer_rows.specs.Rows.{Peers, peerLayout, peerSound}
 use Rattle.peer_message_policy.specs.declared.policy.PeerMessagePolicy.{PeerMessagePolicy}
+use Rattle.peer_message_policy.specs.declared.answer.Made.the-variants as Made
 use Rattle.peer_message_policy.specs.Policy.{rowsOf, sound}
 use Rattle.peer_laws.specs.SoundLaws.{policy-holds, holds-record}
 use Rattle.peer_laws.specs.Fits.{PolicyFits}
-use Rattle.snapshot_layout.specs.declared.place.Place.{Place}
-use Rattle.snapshot_layout.specs.declared.place.Place.the-variants as Place
-use Rattle.snapshot_layout.specs.Layout.{slotsOf, snapshotSize, laidOut, bodyOf, placeFrom, placeOf, SlotsFit}
+use Rattle.snapshot_layout.specs.Layout.{contentsSize, slotsOf, snapshotSize, contents, bodies, snapshotOf, laidOut, SlotsFit}
+use Rattle.snapshot_layout.specs.SlotLaws.{length-contents}
 use Rattle.snapshot_layout.specs.LayoutLaws.{length-snapshot, laid-out}
-use Rattle.snapshot_layout.specs.PlaceLaws.{place-snapshot}
-use Rattle.snapshot_settings.specs.declared.settings.ReadSettings.{ReadSettings}
 use Rattle.snapshot_settings.specs.declared.settings.ReadSettings.the-variants as ReadSettings
 use Rattle.snapshot_settings.specs.Settings.{settingsSize, settingsBytes, settingsOf}
-use Rattle.snapshot_settings.specs.SettingsLaws.{settings-read-back}
+use Rattle.snapshot_settings.specs.SettingsLaws.{length-settingsBytes, settings-read-back}
 use Rattle.snapshot_settings.specs.Load.{loadSize, loadBytes, loadOf}
-use Rattle.snapshot_settings.specs.LoadLaws.{load-read-back}
-use Rattle.snapshot.specs.Form.{rowSize, first, formSlots, settingsPlace, loadPlace, rowsPlace, rowsIn}
-use Rattle.snapshot.specs.Snapshot.{policyParts, snapshotBytes, snapshotLength, settingsIn}
-use Rattle.snapshot.specs.WriteLaws.{sound-rows, slots-parts}
-use Rattle.snapshot.specs.JudgeLaws.{Describes}
+use Rattle.snapshot_settings.specs.LoadLaws.{length-loadBytes, load-read-back}
+use Rattle.snapshot.specs.Form.{rowSize, Form, sizes, joined, pieces, formSlots, settingsPlace, loadPlace, rowsPlace, rowsIn, FormFits}
+use Rattle.snapshot.specs.FormLaws.{form-count, form-size, form-slots-fit, form-bodies, pieces-joined}
+use Rattle.snapshot.specs.Snapshot.{policyParts, snapshotBytes, snapshotLength, settingsIn, policyIn}
+use Rattle.snapshot.specs.WriteLaws.{sound-rows, rows-length, slots-parts}
+use Rattle.snapshot.specs.JudgeLaws.{Describes, describes-policy}
 
-module _ (p : PeerMessagePolicy) (s : List ℕ) (h : sound p s ≡ true) where
-  slots-here : slotsOf (policyParts p s) ≡ formSlots first (p .rows)
-  slots-here = slots-parts p s (sound-rows p s h .1)
+module _ (f : Form) (fits : FormFits f) (p : PeerMessagePolicy) (s : List ℕ) (h : sound p s ≡ true) (behind : List (List ℕ)) (e : sizes behind ≡ f .behind) where
+  -- the snapshot
+  abbrev z : List ℕ
+  z = snapshotBytes f p s behind
+
+  slots-here : slotsOf (policyParts f p s behind) ≡ formSlots f (p .rows)
+  slots-here = slots-parts p s (sound-rows p s h .1) f behind e
 
   -- it takes what its rows say
-  pub written-length : length (snapshotBytes p s) ≡ snapshotLength p
+  pub written-length : length (snapshotBytes f p s behind) ≡ snapshotLength f p
   unfolding snapshotBytes
-  written-length = length-snapshot (policyParts p s) ∙ ap snapshotSize slots-here
+  written-length = length-snapshot (policyParts f p s behind) ∙ ap snapshotSize slots-here
 
   -- its rows are counted by its length
-  pub written-count : rowsIn first (snapshotBytes p s) ≡ p .rows
-  written-count = omega (arith, written-length)
+  pub written-count : rowsIn f (snapshotBytes f p s behind) ≡ p .rows
+  written-count = omega (arith, written-length, form-size f fits 0, form-size f fits (p .rows))
 
-  slots-fit : SlotsFit (formSlots first (p .rows))
-  slots-fit = record { count = omega arith; kinds = (omega arith, (omega arith, (omega arith, tt))); size = omega (arith, sound-rows p s h .0) }
-
-  -- it is laid out in the first form
-  pub written-laid : laidOut (snapshotBytes p s) (formSlots first (rowsIn first (snapshotBytes p s))) ≡ true
+  -- it is laid out in its form
+  pub written-laid : laidOut (snapshotBytes f p s behind) (formSlots f (rowsIn f (snapshotBytes f p s behind))) ≡ true
   unfolding snapshotBytes
   written-laid =
-      ap (λ (n : ℕ). laidOut (snapshotBytes p s) (formSlots first n)) written-count
-      ∙ ap (laidOut (snapshotBytes p s)) (sym slots-here)
-      ∙ laid-out (policyParts p s) (subst SlotsFit (sym slots-here) slots-fit)
+      ap (λ (n : ℕ). laidOut z (formSlots f n)) written-count
+      ∙ ap (laidOut z) (sym slots-here)
+      ∙ laid-out (policyParts f p s behind) (subst SlotsFit (sym slots-here) (form-slots-fit f fits (p .rows) (sound-rows p s h .0)))
 
-  -- the part of a kind
-  part-here : (kind a e : ℕ) → placeOf kind (formSlots first (p .rows)) ≡ Place.At a e → part (snapshotBytes p s) a (e - a) ≡ bodyOf kind (policyParts p s)
-  unfolding snapshotBytes
-  part-here kind a e f = place-snapshot kind (policyParts p s) a e (ap (placeOf kind) slots-here ∙ f)
+  -- ---- the bodies
+
+  -- all of them stand behind the contents
+  written-bodies : drop (settingsPlace f) z ≡ settingsBytes (p .config) ++ (loadBytes (p .ingress) ++ (take (rowSize * p .rows) s ++ joined behind))
+  unfolding snapshotBytes snapshotOf policyParts
+  written-bodies =
+      let size : length (contents (slotsOf (policyParts f p s behind))) ≡ settingsPlace f =
+      length-contents (slotsOf (policyParts f p s behind)) ∙ ap contentsSize (ap length slots-here ∙ form-count f fits (p .rows)) in
+      drop-at (contents (slotsOf (policyParts f p s behind))) (bodies (policyParts f p s behind)) (settingsPlace f) size
+      ∙ form-bodies f fits (settingsBytes (p .config)) (loadBytes (p .ingress)) (take (rowSize * p .rows) s) behind e
 
   -- the settings stand in their place
-  pub written-settings : part (snapshotBytes p s) (settingsPlace first) settingsSize ≡ settingsBytes (p .config)
-  unfolding placeOf placeFrom bodyOf policyParts
-  written-settings = part-here 1 32 104 refl
+  pub written-settings : part (snapshotBytes f p s behind) (settingsPlace f) settingsSize ≡ settingsBytes (p .config)
+  unfolding part
+  written-settings = ap (take settingsSize) written-bodies ∙ take-at (settingsBytes (p .config)) _ settingsSize (length-settingsBytes (p .config))
+
+  behind-settings : drop (loadPlace f) z ≡ loadBytes (p .ingress) ++ (take (rowSize * p .rows) s ++ joined behind)
+  behind-settings =
+      sym (drop-drop settingsSize (settingsPlace f) z)
+      ∙ ap (drop settingsSize) written-bodies
+      ∙ drop-at (settingsBytes (p .config)) _ settingsSize (length-settingsBytes (p .config))
 
   -- so does the load
-  pub written-load : part (snapshotBytes p s) (loadPlace first) loadSize ≡ loadBytes (p .ingress)
-  unfolding placeOf placeFrom bodyOf policyParts
-  written-load = part-here 2 104 120 refl
-
-  rows-part : part (snapshotBytes p s) 120 ((120 + rowSize * p .rows) - 120) ≡ take (rowSize * p .rows) s
-  unfolding placeOf placeFrom bodyOf policyParts
-  rows-part = part-here 3 120 (120 + rowSize * p .rows) refl
-
-  -- the rows' bytes stand at the end
-  pub written-tail : drop (rowsPlace first) (snapshotBytes p s) ≡ take (rowSize * p .rows) s
+  pub written-load : part (snapshotBytes f p s behind) (loadPlace f) loadSize ≡ loadBytes (p .ingress)
   unfolding part
+  written-load = ap (take loadSize) behind-settings ∙ take-at (loadBytes (p .ingress)) _ loadSize (length-loadBytes (p .ingress))
+
+  -- the rows' bytes stand in front of what stands behind them
+  pub written-tail : drop (rowsPlace f) (snapshotBytes f p s behind) ≡ take (rowSize * p .rows) s ++ joined behind
   written-tail =
-      let size : length (drop 120 (snapshotBytes p s)) ≤ (120 + rowSize * p .rows) - 120 = simp length-drop (omega (arith, written-length)) in
-      sym (take-all ((120 + rowSize * p .rows) - 120) (drop 120 (snapshotBytes p s)) size) ∙ rows-part
+      sym (drop-drop loadSize (loadPlace f) z)
+      ∙ ap (drop loadSize) behind-settings
+      ∙ drop-at (loadBytes (p .ingress)) _ loadSize (length-loadBytes (p .ingress))
+
+  rows-here : length (take (rowSize * p .rows) s) ≡ rowSize * p .rows
+  rows-here = rows-length p s (sound-rows p s h .1)
 
   -- so the rows are the policy's
-  pub written-rows : rowsOf p (drop (rowsPlace first) (snapshotBytes p s)) ≡ rowsOf p s
+  pub written-rows : rowsOf p (drop (rowsPlace f) (snapshotBytes f p s behind)) ≡ rowsOf p s
   written-rows =
-      ap (rowsOf p) written-tail ∙ rows-front peerLayout s (p .rows)
+      ap (rowsOf p) written-tail
+      ∙ sym (rows-front peerLayout (take (rowSize * p .rows) s ++ joined behind) (p .rows))
+      ∙ ap (rowsOf p) (take-at (take (rowSize * p .rows) s) (joined behind) (rowSize * p .rows) rows-here)
+      ∙ rows-front peerLayout s (p .rows)
 
-  -- the snapshot describes the policy
-  pub written-describes : PolicyFits p → Describes (snapshotBytes p s) p
-  unfolding settingsIn
-  written-describes f =
-      let holds = policy-holds p s h in
-      record {
-        settings =
-            ap (λ (b : Bool). cond b (settingsOf (part (snapshotBytes p s) (settingsPlace first) settingsSize)) ReadSettings.OutOfRange) written-laid
-            ∙ ap settingsOf written-settings
-            ∙ settings-read-back (p .config) (f .config);
-        tracked = holds .own .tracked;
-        load = ap loadOf written-load ∙ load-read-back (p .ingress) (f .load .messages) (f .load .bytes);
-        count = sym written-count;
-        own = holds-record p (holds .own);
-        sound-rows =
-            ap (λ (rs : Peers). every (peerSound (p .config)) rs && ascending rs) written-rows ∙ both (holds .rules) (holds .order);
-      }
+  -- and the bodies behind them are those that were written
+  pub written-behind : pieces (snapshotBytes f p s behind) (rowsPlace f + rowSize * p .rows) (f .behind) ≡ behind
+  written-behind =
+      ap (pieces z (rowsPlace f + rowSize * p .rows)) (sym e)
+      ∙ pieces-joined z (rowsPlace f + rowSize * p .rows) behind
+      (sym (drop-drop (rowSize * p .rows) (rowsPlace f) z)
+      ∙ ap (drop (rowSize * p .rows)) written-tail
+      ∙ drop-at (take (rowSize * p .rows) s) (joined behind) (rowSize * p .rows) rows-here)
+
+  -- ---- the policy
+
+  module _ (numbers : PolicyFits p) where
+    -- the snapshot describes the policy
+    pub written-describes : Describes f (snapshotBytes f p s behind) p
+    unfolding settingsIn
+    written-describes =
+        let holds = policy-holds p s h in
+        record {
+          settings =
+              ap (λ (b : Bool). cond b (settingsOf (part z (settingsPlace f) settingsSize)) ReadSettings.OutOfRange) written-laid
+              ∙ ap settingsOf written-settings
+              ∙ settings-read-back (p .config) (numbers .config);
+          tracked = holds .own .tracked;
+          load = ap loadOf written-load ∙ load-read-back (p .ingress) (numbers .load .messages) (numbers .load .bytes);
+          count = sym written-count;
+          own = holds-record p (holds .own);
+          sound-rows =
+              ap (λ (rs : Peers). every (peerSound (p .config)) rs && ascending rs) written-rows ∙ both (holds .rules) (holds .order);
+        }
+
+    -- so it is judged to hold it
+    pub written-policy : policyIn f (snapshotBytes f p s behind) ≡ Made.Policy p
+    written-policy = describes-policy f z p written-describes

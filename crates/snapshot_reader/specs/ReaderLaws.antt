@@ -25,6 +25,7 @@ use Rattle.snapshot.specs.declared.answer.PartPlace.{PartPlace}
 use Rattle.snapshot.specs.declared.answer.PartPlace.the-variants as PartPlace
 use Rattle.snapshot.specs.Form.{rowSize, first, rowsPlace, rowsIn}
 use Rattle.snapshot.specs.Snapshot.{wasRead, settingsIn, layoutRight, kindPlace, partPlace}
+use Rattle.snapshot.specs.FormLaws.{first-fits}
 use Rattle.snapshot.specs.JudgeLaws.{read-length}
 use Rattle.snapshot_reader.specs.Reader.{given, done, givenAt, ended, rowPlace, stands, stepAt}
 
@@ -57,7 +58,7 @@ opens-wrong z n h = place-unread z (settingsIn first z) n h
 
 right-length : (z : List ℕ) (x : ReadSettings) → settingsIn first z ≡ x → wasRead x ≡ true → length z ≡ rowsPlace first + rowSize * rowsIn first z
 right-length z ReadSettings.OutOfRange s h = let no : _≡_ {A = ℕ} 0 1 = cc in absurd (omega arith)
-right-length z (ReadSettings.Read c) s h = read-length z c s
+right-length z (ReadSettings.Read c) s h = omega (arith, read-length first z c s first-fits)
 
 -- ---- the place
 

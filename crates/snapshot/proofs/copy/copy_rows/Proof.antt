@@ -5,6 +5,7 @@ use Prim.Native.Nat.{ℕ, _+_, _-_, _*_}
 use native.Mathlib.Omega.{arith}
 use lib.ListN.{take, drop}
 use Rattle.lent_bytes.specs.LentBytes.{put, zeros}
+use Rattle.snapshot.specs.Form.{first}
 use Rattle.snapshot.specs.ReadLaws.{copied-rows}
 use borrow.Author.Needs.{needs}
 use Rattle.snapshot.proofs.copy.copy_rows.Statement.{statement}
@@ -40,7 +41,7 @@ same-length c = search needs
 returns : tie.Need-returns
 returns c = let a = c .before .before .before .before .before .before .before .before .before .before .before .args in
     let size : (120 + 121 * a .count) - 120 ≡ 121 * a .count = omega arith in
-    copied-rows (a .snapshot .now) (a .table .now) _ (a .count) (a .limit) (λ i. c .before .before .before .before .before .before .before .before .before .before .shared-slice-known .given i .fits) (omega arith) (omega arith)
+    copied-rows first (a .snapshot .now) (a .table .now) _ (a .count) (a .limit) (λ i. c .before .before .before .before .before .before .before .before .before .before .shared-slice-known .given i .fits) (omega arith) (omega arith)
     (c .before .before .zero-rows .ensures
     ∙ ap (λ (l : List ℕ). put l (121 * a .count) (zeros (121 * (a .limit - a .count))))
     (c .before .before .before .before .before .before .put-slice .ensures ∙ ap (λ (n : ℕ). put (a .table .now) 0 (take n (drop 120 (a .snapshot .now)))) size))

@@ -5,6 +5,8 @@ use native.Mathlib.Omega.{arith}
 use lib.ListN.{length}
 use Rattle.peer_settings.specs.Config.{limit}
 use Rattle.peer_laws.specs.SoundLaws.{record-holds}
+use Rattle.snapshot.specs.Form.{first}
+use Rattle.snapshot.specs.FormLaws.{first-fits}
 use Rattle.snapshot.specs.JudgeLaws.{policy-describes, describes-length}
 use Rattle.snapshot.specs.ReadLaws.{read-short, read-done}
 use borrow.Author.Needs.{needs}
@@ -16,12 +18,12 @@ limit-requires c κs = search needs
 
 returns : tie.Need-returns
 returns c = let a = c .before .before .before .before .before .args in
-    read-short (a .snapshot .now) (a .table .now) (a .policy) (c .before .before .before .before .before .pre) (omega (arith, c .if1 .taken, c .before .limit .ensures))
+    read-short first (a .snapshot .now) (a .table .now) (a .policy) (c .before .before .before .before .before .pre) (omega (arith, c .if1 .taken, c .before .limit .ensures))
 
 copy-rows-requires : tie.Need-copy-rows-requires
 copy-rows-requires c κs = let a = c .before .before .before .before .before .before .args in
-    let d = policy-describes (a .snapshot .now) (a .policy) (c .before .before .before .before .before .before .pre) in
-    let whole : length (a .snapshot .now) ≡ 120 + 121 * a .policy .rows = describes-length (a .snapshot .now) (a .policy) d in
+    let d = policy-describes first (a .snapshot .now) (a .policy) (c .before .before .before .before .before .before .pre) in
+    let whole : length (a .snapshot .now) ≡ 120 + 121 * a .policy .rows = omega (arith, describes-length first first-fits (a .snapshot .now) (a .policy) d) in
     let few : a .policy .rows ≤ limit (a .policy .config) = record-holds (a .policy) (d .own) .few in
     search needs
 
@@ -30,7 +32,7 @@ same-length c = search needs
 
 returns-2 : tie.Need-returns-2
 returns-2 c = let a = c .before .before .before .before .before .before .before .before .before .args in
-    read-done (a .snapshot .now) (a .table .now) (a .policy) (c .before .before .before .before .before .before .before .before .before .pre)
+    read-done first (a .snapshot .now) (a .table .now) (a .policy) (c .before .before .before .before .before .before .before .before .before .pre)
     (omega (arith, c .before .before .before .before .if1 .left, c .before .before .before .before .before .limit .ensures)) _
     (c .before .before .before .before .before .limit .ensures) _ (c .before .before .copy-rows .ensures)
 

@@ -3,6 +3,7 @@ use mathlib.Core.Path.{sym, ap, _∙_}
 use native.Mathlib.Omega.{arith}
 use Rattle.snapshot.specs.Form.{first}
 use Rattle.snapshot.specs.Snapshot.{configIn, policyIn}
+use Rattle.snapshot.specs.FormLaws.{first-fits}
 use Rattle.snapshot.specs.JudgeLaws.{read-length}
 use borrow.Author.Needs.{needs}
 use Rattle.snapshot.proofs.judge.policy_in.Statement.{statement}
@@ -18,7 +19,7 @@ enum-known-settings : tie.Need-enum-known-settings
 enum-known-settings c = search needs
 
 policy-with-requires : tie.Need-policy-with-requires
-policy-with-requires c κs = omega (arith, read-length (c .before .before .before .before .before .args .snapshot .now) (c .before .settings .given .0 .0) (sym (c .before .before .before .settings-in .ensures) ∙ c .before .settings .given .1))
+policy-with-requires c κs = omega (arith, read-length first (c .before .before .before .before .before .args .snapshot .now) (c .before .settings .given .0 .0) (sym (c .before .before .before .settings-in .ensures) ∙ c .before .settings .given .1) first-fits)
 
 returns : tie.Need-returns
 unfolding policyIn

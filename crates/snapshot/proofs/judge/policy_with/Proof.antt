@@ -11,7 +11,7 @@ use Rattle.snapshot.proofs.judge.policy_with.Tie as tie
 
 returns : tie.Need-returns
 returns c = let a = c .before .before .before .args in
-    sym (limit-refused (a .snapshot .now) (a .config) (omega arith))
+    sym (limit-refused first (a .snapshot .now) (a .config) (omega arith))
 
 rows-in-requires : tie.Need-rows-in-requires
 rows-in-requires c κs = search needs
@@ -30,14 +30,14 @@ record-in-requires c κs = search needs
 
 returns-2 : tie.Need-returns-2
 returns-2 c = let a = c .before .before .before .before .before .before .before .args in
-    sym (load-refused (a .snapshot .now) (a .config) (omega arith) (sym (c .before .before .read-load .ensures) ∙ c .enum-told .given .1))
+    sym (load-refused first (a .snapshot .now) (a .config) (omega arith) (sym (c .before .before .read-load .ensures) ∙ c .enum-told .given .1))
 
 returns-3 : tie.Need-returns-3
 returns-3 c = let a = c .before .before .before .before .before .before .before .before .before .args in
     let i = c .before .before .load .given .0 .0 in
     c .record-in .ensures
     ∙ ap (λ (n : ℕ). recordIn first (a .snapshot .now) (record { config = a .config; ingress = i; rows = n })) (c .before .before .before .before .before .rows-in .ensures)
-    ∙ sym (load-told (a .snapshot .now) (a .config) (omega arith) i (sym (c .before .before .before .before .read-load .ensures) ∙ c .before .before .load .given .1))
+    ∙ sym (load-told first (a .snapshot .now) (a .config) (omega arith) i (sym (c .before .before .before .before .read-load .ensures) ∙ c .before .before .load .given .1))
 
 pub policy-with-spec : {M : Type 1} → statement M
 policy-with-spec =

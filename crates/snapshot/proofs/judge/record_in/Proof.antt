@@ -4,6 +4,7 @@ use mathlib.Core.List.{List}
 use Prim.Native.Nat.{ℕ}
 use borrow.Author.Tests.{not-true, not-false}
 use Rattle.peer_message_policy.specs.Policy.{rowsSound}
+use Rattle.snapshot.specs.Form.{first}
 use Rattle.snapshot.specs.JudgeLaws.{whole-tail, record-refused, rows-refused, record-taken}
 use borrow.Author.Needs.{needs}
 use Rattle.snapshot.proofs.judge.record_in.Statement.{statement}
@@ -14,7 +15,7 @@ is-sound-requires c κs = search needs
 
 returns : tie.Need-returns
 returns c = let a = c .before .before .before .args in
-    sym (record-refused (a .snapshot .now) (a .policy) (sym (c .before .is-sound .ensures) ∙ not-true (c .before .is-sound .result) (c .if1 .taken)))
+    sym (record-refused first (a .snapshot .now) (a .policy) (sym (c .before .is-sound .ensures) ∙ not-true (c .before .is-sound .result) (c .if1 .taken)))
 
 sub-rows-sound : tie.Need-sub-rows-sound
 sub-rows-sound c = search needs
@@ -30,12 +31,12 @@ rows-sound-requires c κs = search needs
 
 returns-2 : tie.Need-returns-2
 returns-2 c = let a = c .before .before .before .before .before .before .before .args in
-    sym (rows-refused (a .snapshot .now) (a .policy) (sym (c .before .before .before .before .before .is-sound .ensures) ∙ not-false (c .before .before .before .before .before .is-sound .result) (c .before .before .before .before .if1 .left))
+    sym (rows-refused first (a .snapshot .now) (a .policy) (sym (c .before .before .before .before .before .is-sound .ensures) ∙ not-false (c .before .before .before .before .before .is-sound .result) (c .before .before .before .before .if1 .left))
     (ap (λ (w : List ℕ). rowsSound (a .policy) w) (sym (whole-tail 120 (a .snapshot .now))) ∙ sym (c .before .rows-sound .ensures) ∙ not-true (c .before .rows-sound .result) (c .if2 .taken)))
 
 returns-3 : tie.Need-returns-3
 returns-3 c = let a = c .before .before .before .before .before .before .before .args in
-    sym (record-taken (a .snapshot .now) (a .policy) (sym (c .before .before .before .before .before .is-sound .ensures) ∙ not-false (c .before .before .before .before .before .is-sound .result) (c .before .before .before .before .if1 .left))
+    sym (record-taken first (a .snapshot .now) (a .policy) (sym (c .before .before .before .before .before .is-sound .ensures) ∙ not-false (c .before .before .before .before .before .is-sound .result) (c .before .before .before .before .if1 .left))
     (ap (λ (w : List ℕ). rowsSound (a .policy) w) (sym (whole-tail 120 (a .snapshot .now))) ∙ sym (c .before .rows-sound .ensures) ∙ not-false (c .before .rows-sound .result) (c .if2 .left)))
 
 pub record-in-spec : {M : Type 1} → statement M

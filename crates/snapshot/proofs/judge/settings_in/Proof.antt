@@ -4,6 +4,7 @@ use native.Mathlib.Omega.{arith}
 use borrow.Author.Tests.{not-true, not-false}
 use Rattle.snapshot_layout.specs.Layout.{laidOut}
 use Rattle.snapshot.specs.Form.{first, rowsIn}
+use Rattle.snapshot.specs.FormLaws.{first-fits}
 use Rattle.snapshot.specs.JudgeLaws.{slots-are, laid-length, settings-refused, settings-told}
 use borrow.Author.Needs.{needs}
 use Rattle.snapshot.proofs.judge.settings_in.Statement.{statement}
@@ -29,18 +30,18 @@ laid-out-requires c κs = search needs
 
 returns : tie.Need-returns
 returns c = let z = c .before .before .before .before .before .before .before .before .args .snapshot .now in
-    let told = slots-are (c .before .before .before .before .before .before .kinds .result) (c .before .before .before .before .lengths .result) (c .before .before .before .before .before .rows-in .result) (rowsIn first z) (c .before .before .before .before .before .before .kinds .ensures) (c .before .before .before .before .lengths .ensures) (c .before .before .before .before .before .rows-in .ensures) in
-    sym (settings-refused z (ap (laidOut z) (sym told) ∙ sym (c .before .laid-out .ensures) ∙ not-true (c .before .laid-out .result) (c .if1 .taken)))
+    let told = slots-are first (c .before .before .before .before .before .before .kinds .result) (c .before .before .before .before .lengths .result) (c .before .before .before .before .before .rows-in .result) (rowsIn first z) (c .before .before .before .before .before .before .kinds .ensures) (c .before .before .before .before .lengths .ensures) (c .before .before .before .before .before .rows-in .ensures) in
+    sym (settings-refused first z (ap (laidOut z) (sym told) ∙ sym (c .before .laid-out .ensures) ∙ not-true (c .before .laid-out .result) (c .if1 .taken)))
 
 read-settings-requires : tie.Need-read-settings-requires
 read-settings-requires c κs = let z = c .before .before .before .before .before .before .before .before .args .snapshot .now in
-    let told = slots-are (c .before .before .before .before .before .before .kinds .result) (c .before .before .before .before .lengths .result) (c .before .before .before .before .before .rows-in .result) (rowsIn first z) (c .before .before .before .before .before .before .kinds .ensures) (c .before .before .before .before .lengths .ensures) (c .before .before .before .before .before .rows-in .ensures) in
-    omega (arith, laid-length z (ap (laidOut z) (sym told) ∙ sym (c .before .laid-out .ensures) ∙ not-false (c .before .laid-out .result) (c .if1 .left)))
+    let told = slots-are first (c .before .before .before .before .before .before .kinds .result) (c .before .before .before .before .lengths .result) (c .before .before .before .before .before .rows-in .result) (rowsIn first z) (c .before .before .before .before .before .before .kinds .ensures) (c .before .before .before .before .lengths .ensures) (c .before .before .before .before .before .rows-in .ensures) in
+    omega (arith, laid-length first first-fits z (ap (laidOut z) (sym told) ∙ sym (c .before .laid-out .ensures) ∙ not-false (c .before .laid-out .result) (c .if1 .left)))
 
 returns-2 : tie.Need-returns-2
 returns-2 c = let z = c .before .before .before .before .before .before .before .before .before .args .snapshot .now in
-    let told = slots-are (c .before .before .before .before .before .before .before .kinds .result) (c .before .before .before .before .before .lengths .result) (c .before .before .before .before .before .before .rows-in .result) (rowsIn first z) (c .before .before .before .before .before .before .before .kinds .ensures) (c .before .before .before .before .before .lengths .ensures) (c .before .before .before .before .before .before .rows-in .ensures) in
-    c .read-settings .ensures ∙ sym (settings-told z (ap (laidOut z) (sym told) ∙ sym (c .before .before .laid-out .ensures) ∙ not-false (c .before .before .laid-out .result) (c .before .if1 .left)))
+    let told = slots-are first (c .before .before .before .before .before .before .before .kinds .result) (c .before .before .before .before .before .lengths .result) (c .before .before .before .before .before .before .rows-in .result) (rowsIn first z) (c .before .before .before .before .before .before .before .kinds .ensures) (c .before .before .before .before .before .lengths .ensures) (c .before .before .before .before .before .before .rows-in .ensures) in
+    c .read-settings .ensures ∙ sym (settings-told first z (ap (laidOut z) (sym told) ∙ sym (c .before .before .laid-out .ensures) ∙ not-false (c .before .before .laid-out .result) (c .before .if1 .left)))
 
 pub settings-in-spec : {M : Type 1} → statement M
 settings-in-spec =

@@ -1,6 +1,5 @@
 -- `part::kind_place` meets its contract. Assumes nothing.
 use mathlib.Core.Path.{sym, ap, _∙_}
-use native.Mathlib.Omega.{arith}
 use Rattle.snapshot_layout.specs.Layout.{placeOf}
 use Rattle.snapshot.specs.Form.{first, rowsIn}
 use Rattle.snapshot.specs.Snapshot.{placed}
@@ -35,12 +34,12 @@ enum-told c = search needs
 
 returns : tie.Need-returns
 returns c = let a = c .before .before .before .before .before .before .before .before .before .before .args in
-    let told = slots-are (c .before .before .before .before .before .before .before .before .kinds .result) (c .before .before .before .before .before .before .lengths .result) (c .before .before .before .before .before .before .before .rows-in .result) (rowsIn first (a .snapshot .now)) (c .before .before .before .before .before .before .before .before .kinds .ensures) (c .before .before .before .before .before .before .lengths .ensures) (c .before .before .before .before .before .before .before .rows-in .ensures) in
+    let told = slots-are first (c .before .before .before .before .before .before .before .before .kinds .result) (c .before .before .before .before .before .before .lengths .result) (c .before .before .before .before .before .before .before .rows-in .result) (rowsIn first (a .snapshot .now)) (c .before .before .before .before .before .before .before .before .kinds .ensures) (c .before .before .before .before .before .before .lengths .ensures) (c .before .before .before .before .before .before .before .rows-in .ensures) in
     sym (ap placed (ap (placeOf (a .kind)) (sym told) ∙ sym (c .before .before .before .place-of .ensures) ∙ c .before .found .given .1))
 
 returns-2 : tie.Need-returns-2
 returns-2 c = let a = c .before .before .before .before .before .before .before .before .before .args in
-    let told = slots-are (c .before .before .before .before .before .before .before .kinds .result) (c .before .before .before .before .before .lengths .result) (c .before .before .before .before .before .before .rows-in .result) (rowsIn first (a .snapshot .now)) (c .before .before .before .before .before .before .before .kinds .ensures) (c .before .before .before .before .before .lengths .ensures) (c .before .before .before .before .before .before .rows-in .ensures) in
+    let told = slots-are first (c .before .before .before .before .before .before .before .kinds .result) (c .before .before .before .before .before .lengths .result) (c .before .before .before .before .before .before .rows-in .result) (rowsIn first (a .snapshot .now)) (c .before .before .before .before .before .before .before .kinds .ensures) (c .before .before .before .before .before .lengths .ensures) (c .before .before .before .before .before .before .rows-in .ensures) in
     sym (ap placed (ap (placeOf (a .kind)) (sym told) ∙ sym (c .before .before .place-of .ensures) ∙ c .enum-told .given .1))
 
 pub kind-place-spec : {M : Type 1} → statement M

@@ -2,6 +2,7 @@
 use mathlib.Core.Path.{sym, ap, _∙_}
 use native.Mathlib.Omega.{arith}
 use Rattle.lent_bytes.specs.LentBytes as lent
+use Rattle.snapshot.specs.Form.{first}
 use Rattle.snapshot.specs.Snapshot.{partOf}
 use Rattle.snapshot.specs.PartLaws.{part-within}
 use borrow.Author.Needs.{needs}
@@ -16,17 +17,17 @@ enum-known-place c = search needs
 
 sub-result : tie.Need-sub-result
 sub-result c = let a = c .before .before .before .before .before .args in
-    let w = part-within (a .snapshot .now) (a .kind) (c .before .place .given .0 .0) (c .before .place .given .0 .1 .0) (sym (c .before .before .before .place-of-kind .ensures) ∙ c .before .place .given .1) in
+    let w = part-within first (a .snapshot .now) (a .kind) (c .before .place .given .0 .0) (c .before .place .given .0 .1 .0) (sym (c .before .before .before .place-of-kind .ensures) ∙ c .before .place .given .1) in
     omega (arith, w .0, w .1)
 
 part-result-start : tie.Need-part-result-start
 part-result-start c = let a = c .before .before .before .before .before .args in
-    let w = part-within (a .snapshot .now) (a .kind) (c .before .place .given .0 .0) (c .before .place .given .0 .1 .0) (sym (c .before .before .before .place-of-kind .ensures) ∙ c .before .place .given .1) in
+    let w = part-within first (a .snapshot .now) (a .kind) (c .before .place .given .0 .0) (c .before .place .given .0 .1 .0) (sym (c .before .before .before .place-of-kind .ensures) ∙ c .before .place .given .1) in
     omega (arith, w .0, w .1)
 
 part-result-end : tie.Need-part-result-end
 part-result-end c = let a = c .before .before .before .before .before .args in
-    let w = part-within (a .snapshot .now) (a .kind) (c .before .place .given .0 .0) (c .before .place .given .0 .1 .0) (sym (c .before .before .before .place-of-kind .ensures) ∙ c .before .place .given .1) in
+    let w = part-within first (a .snapshot .now) (a .kind) (c .before .place .given .0 .0) (c .before .place .given .0 .1 .0) (sym (c .before .before .before .place-of-kind .ensures) ∙ c .before .place .given .1) in
     omega (arith, w .0, w .1)
 
 enum-told : tie.Need-enum-told

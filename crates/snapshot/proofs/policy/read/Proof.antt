@@ -1,5 +1,6 @@
 -- `policy::read` meets its contract. Assumes nothing.
 use mathlib.Core.Path.{sym, _∙_}
+use Rattle.snapshot.specs.Form.{first}
 use Rattle.snapshot.specs.ReadLaws.{read-refused}
 use borrow.Author.Needs.{needs}
 use Rattle.snapshot.proofs.policy.read.Statement.{statement}
@@ -25,7 +26,7 @@ returns c = search needs
 
 returns-2 : tie.Need-returns-2
 returns-2 c = let a = c .before .before .before .before .before .before .args in
-    read-refused (a .snapshot .now) (a .table .now) (c .before .found2 .given .0 .0) (sym (c .before .before .before .policy-in .ensures) ∙ c .before .found2 .given .1)
+    read-refused first (a .snapshot .now) (a .table .now) (c .before .found2 .given .0 .0) (sym (c .before .before .before .policy-in .ensures) ∙ c .before .found2 .given .1)
 
 pub read-spec : {M : Type 1} → statement M
 read-spec =

@@ -1,9 +1,7 @@
 -- `policy::write` meets its contract: soundness, the length, then the bytes. Assumes nothing.
-use mathlib.Core.Path.{_≡_, sym, _∙_}
-use mathlib.Core.Bool.{true}
+use mathlib.Core.Path.{sym, _∙_}
 use native.Mathlib.Omega.{arith}
 use borrow.Author.Tests.{not-true, not-false}
-use Rattle.peer_message_policy.specs.Policy.{sound}
 use Rattle.snapshot.specs.WriteLaws.{sound-rows, write-unsound, write-short, write-done}
 use borrow.Author.Needs.{needs}
 use Rattle.snapshot.proofs.policy.write.Statement.{statement}

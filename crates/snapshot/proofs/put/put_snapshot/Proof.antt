@@ -1,11 +1,13 @@
 -- `put::put_snapshot` meets its contract. Assumes nothing.
 use mathlib.Core.Path.{refl, ap, _∙_}
-use mathlib.Core.List.{List}
+use mathlib.Core.List.{List, []}
 use Prim.Native.Nat.{ℕ}
 use native.Mathlib.Omega.{arith}
 use Rattle.lent_bytes.specs.LentBytes.{put}
 use Rattle.snapshot_layout.specs.Layout.{Slot, contents, bodies}
+use Rattle.snapshot.specs.Form.{first}
 use Rattle.snapshot.specs.Snapshot.{policyParts}
+use Rattle.snapshot.specs.FormLaws.{first-fits}
 use Rattle.snapshot.specs.JudgeLaws.{slots-are}
 use Rattle.snapshot.specs.WriteLaws.{put-whole}
 use borrow.Author.Needs.{needs}
@@ -36,10 +38,10 @@ same-length c = search needs
 returns : tie.Need-returns
 returns c = let a = c .before .before .before .before .before .before .before .before .before .before .before .before .before .before .args in
     c .before .before .put-bodies .ensures
-    ∙ ap (λ (l : List ℕ). put l 32 (bodies (policyParts (a .policy) (a .table .now))))
+    ∙ ap (λ (l : List ℕ). put l 32 (bodies (policyParts first (a .policy) (a .table .now) [])))
     (c .before .before .before .before .before .before .put-contents .ensures
-    ∙ ap (λ (q : List Slot). put (a .output .now) 0 (contents q)) (slots-are (c .before .before .before .before .before .before .before .before .before .before .before .kinds .result) (c .before .before .before .before .before .before .before .before .before .before .lengths .result) (a .policy .rows) (a .policy .rows) (c .before .before .before .before .before .before .before .before .before .before .before .kinds .ensures) (c .before .before .before .before .before .before .before .before .before .before .lengths .ensures) refl))
-    ∙ put-whole (a .policy) (a .table .now) (omega arith) (a .output .now)
+    ∙ ap (λ (q : List Slot). put (a .output .now) 0 (contents q)) (slots-are first (c .before .before .before .before .before .before .before .before .before .before .before .kinds .result) (c .before .before .before .before .before .before .before .before .before .before .lengths .result) (a .policy .rows) (a .policy .rows) (c .before .before .before .before .before .before .before .before .before .before .before .kinds .ensures) (c .before .before .before .before .before .before .before .before .before .before .lengths .ensures) refl))
+    ∙ put-whole (a .policy) (a .table .now) (omega arith) first first-fits [] refl (a .output .now)
 
 pub put-snapshot-spec : {M : Type 1} → statement M
 put-snapshot-spec =

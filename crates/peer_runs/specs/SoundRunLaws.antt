@@ -32,7 +32,7 @@ use Rattle.peer_laws.specs.CallLaws.{
   release-ingress-leaves,
   new-fresh,
 }
-use Rattle.promises.specs.Runs.{
+use Rattle.peer_runs.specs.Runs.{
   Call,
   admit,
   recordInvalid,

@@ -1,0 +1,4 @@
+pub mod Runs
+pub mod SoundRunLaws
+pub mod Effects
+pub mod EffectLaws
