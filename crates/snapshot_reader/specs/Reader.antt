@@ -1,19 +1,23 @@
--- The rows of a snapshot, walked: the step at a place. Definitions only; their laws are in `ReaderLaws`.
+-- The rows of a snapshot, walked: the step at a place, and a reader that is advanced from step to step. Definitions only; their laws are
+-- in `ReaderLaws` and `WalkLaws`.
+use mathlib.Core.Path.{_≡_}
 use mathlib.Core.Bool.{Bool, _&&_, cond}
-use mathlib.Core.List.{List}
-use Prim.Native.Nat.{ℕ, _+_, _-_, _%_}
+use mathlib.Core.List.{List, [], _++_}
+use Prim.Native.Nat.{ℕ, suc, _+_, _-_, _%_}
 use lib.Dec.{leb, eqb}
 use lib.ListN.{length}
+use denote.Ref.{now}
 use Rattle.lent_bytes.specs.LentBytes.{part, zeros}
-use Rattle.refusal.specs.Refusal.{wrongLayout}
+use Rattle.refusal.specs.Refusal.{Said, gives, refused, wrongLayout}
 use Rattle.table.specs.Memory.{rowOf}
 use Rattle.peer_state.specs.Entry.{level, window}
-use Rattle.peer_rows.specs.Rows.{peerLayout}
+use Rattle.peer_rows.specs.Rows.{entryWords, peerLayout}
 use Rattle.peer_rows.specs.Peer.{ban}
 use Rattle.snapshot.specs.Form.{rowSize, first, rowsPlace}
 use Rattle.snapshot.specs.Snapshot.{layoutRight}
 use Rattle.snapshot_reader.specs.declared.row.SnapshotRow.{SnapshotRow}
 use Rattle.snapshot_reader.specs.declared.row.RowStep.{RowStep}
+use Rattle.snapshot_reader.specs.declared.reader.SnapshotReader.{SnapshotReader}
 
 -- the mark of a step that gives a row
 abbrev pub given : ℕ
@@ -61,3 +65,21 @@ stepAt z at =
     cond (stands z at)
     (cond (eqb at (length z)) (ended done at) (record { row = givenAt z at; mark = given; at = at + rowSize }))
     (ended wrongLayout at)
+
+-- a reader that was advanced: the step at its place is handed out, and over the same bytes it is at the step's place
+pub record Advanced (before : SnapshotReader) (step : RowStep) (after : SnapshotReader) : Type 0 where
+  pub hands : step ≡ stepAt (now (before .snapshot)) (before .at)
+  pub keeps : after .snapshot ≡ before .snapshot
+  pub moves : after .at ≡ step .at
+
+-- the reader after so many calls of `advance`, each on what the call before left
+pub data Walked (start : SnapshotReader) : ℕ → SnapshotReader → Type 0 where
+  begun : Walked start 0 start
+  onward : {k : ℕ} {before after : SnapshotReader} {step : RowStep} → Walked start k before → Advanced before step after
+      → Walked start (suc k) after
+
+-- a step says the row, its key and then its eleven numbers; nothing where all rows were given; or 6
+abbrev pub stepSays : RowStep → Said
+stepSays s =
+    cond (eqb (s .mark) given) (gives (s .row .key .bytes ++ entryWords (s .row .entry)))
+    (cond (eqb (s .mark) done) (gives []) (refused (s .mark)))

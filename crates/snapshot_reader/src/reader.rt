@@ -1,7 +1,7 @@
 // A reader that carries the lent snapshot and its place. Its fields are public, so each step judges layout and place anew: a reader that a
 // caller made up is answered 6. Thin over `row_at`, which does the work.
 ghost use mathlib.Core.Path.{_≡_};
-ghost use Rattle.snapshot_reader.specs.Reader.{stepAt};
+ghost use Rattle.snapshot_reader.specs.Reader.{stepAt, Advanced};
 use super::row::FIRST_ROW;
 use super::row::RowStep;
 use super::row::row_at;
@@ -36,4 +36,14 @@ pub fn moved<'a>(reader: SnapshotReader<'a>, at: usize) -> SnapshotReader<'a>
         snapshot: reader.snapshot,
         at,
     }
+}
+
+// Hands out the step at the reader's place, and moves the reader to the step's place: called again and again on what `opened` made, it
+// gives each row once, in their order, and then says for ever that all were given.
+pub fn advance<'s, 'a>(reader: &'s mut SnapshotReader<'a>) -> RowStep
+    ensures { λ s. ⌜ Advanced (now (reader .entry)) s (now (reader .exit)) ⌝ }
+{
+    let step = row_at(reader.snapshot, reader.at);
+    reader.at = step.at;
+    step
 }
