@@ -34,6 +34,8 @@ macro_rules! suite {
                 state: GossipPolicyState,
             }
 
+            // what is asked of one side is there on both
+            #[allow(dead_code)]
             impl Side {
                 pub fn new(s: &Settings) -> Self {
                     let made = $made;
