@@ -39,7 +39,7 @@ const EVENTS: [(Event, &str); 10] = [
     (Event::Admit(FLOODER, NOW - 5), ""),
     (
         Event::Admit(FLOODER, NOW - 5),
-        "the extra burst has filled the ceiling of six",
+        "where it was let in, the extra burst has filled the ceiling of six",
     ),
     (Event::Admit(QUIET, NOW - 4), "a quiet neighbour's first message"),
     (Event::Release, "one message is done with"),

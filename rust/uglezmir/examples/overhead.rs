@@ -2,7 +2,7 @@
 //!
 //!     cargo run --offline --release --example overhead      (in rust/)
 //!
-//! Default settings but for an unlimited ceiling; three admits a millisecond, spread over the peers, all of them Allows. Median of 15 runs, in turns.
+//! Default settings but for an unlimited ceiling; an admit of each peer every 6 ms, all of them Allows. Median of 15 runs of 100,000, in turns.
 
 use std::hint::black_box;
 use std::time::Instant;
@@ -28,7 +28,7 @@ fn events(peers: usize) -> Vec<Event> {
         Event {
             key: std::array::from_fn(|at| (peer >> (8 * (at % 2))) as u8),
             bytes: 100 + number as u64 % 400,
-            now: FIRST_TIME + number as u64 / 3,
+            now: FIRST_TIME + (6 * number / peers) as u64,
         }
     };
     (0..EVENTS).map(event).collect()
