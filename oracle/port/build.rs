@@ -1,9 +1,9 @@
-//! Finds the archives of the proved library, which `oracle/archive` writes.
+//! Finds the archives of the proved library, which `scripts/archive` writes.
 
 use std::path::PathBuf;
 use std::{env, process};
 
-/// The crates whose C functions are linked; `oracle/archive` names them too.
+/// The crates whose C functions are linked; `scripts/archive` names them too.
 const EXPORTING: [&str; 4] = ["c_peers", "c_buckets", "c_trace", "c_gossip"];
 
 fn main() {
@@ -15,7 +15,7 @@ fn main() {
         println!("cargo:rerun-if-changed={}", archive.display());
         if !archive.exists() {
             eprintln!(
-                "A part of the proved library is missing: {}. oracle/archive writes it.",
+                "A part of the proved library is missing: {}. scripts/archive writes it.",
                 archive.display()
             );
             process::exit(1);
