@@ -1,0 +1,36 @@
+-- `text_pieces::piece::put_number` meets its contract. A blank, and the digits behind it. Assumes nothing.
+use mathlib.Core.List.{[], _∷_}
+use Prim.Native.Nat.{_+_}
+use native.Mathlib.Omega.{arith}
+use lib.ListN.{length, set, length-set}
+use Rattle.text_pieces.specs.Text.{numberText, Wrote}
+use Rattle.text_pieces.specs.TextLaws.{wrote-length, wrote-more, wrote-byte}
+use borrow.Author.Needs.{needs}
+use Rattle.text_pieces.proofs.piece.put_number.Statement.{statement}
+use Rattle.text_pieces.proofs.piece.put_number.Tie as tie
+
+-- the blank, and the digits behind it
+number-written : (c : tie.After-slice-known2)
+    → Wrote (c .before .before .before .before .before .args .out .now) (c .before .before .before .before .before .args .at) (numberText (c .before .before .before .before .before .args .n)) (c .before .before .put-decimal .result) (c .before .before .put-decimal .last .0)
+number-written c = let a = c .before .before .before .before .before .args in
+    wrote-more (wrote-byte (a .out .now) (a .at) 32 (omega arith)) (omega arith)
+    (record { behind = c .before .before .put-decimal .ensures .0; leaves = c .before .before .put-decimal .ensures .1 })
+
+slice-write-out : tie.Need-slice-write-out
+slice-write-out c = search needs
+
+add-put-decimal : tie.Need-add-put-decimal
+add-put-decimal c = search needs
+
+put-decimal-requires : tie.Need-put-decimal-requires
+put-decimal-requires c κs = let a = c .before .before .args in let h = length-set (a .out .now) (a .at) 32 in omega arith
+
+same-length : tie.Need-same-length
+same-length c = wrote-length (number-written c) (omega arith)
+
+returns : tie.Need-returns
+returns c = number-written c
+
+pub put-number-spec : {M : Type 1} → statement M
+put-number-spec =
+    tie.close (tie.spec slice-write-out add-put-decimal put-decimal-requires same-length returns)

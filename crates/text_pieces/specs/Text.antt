@@ -1,0 +1,48 @@
+-- Pieces of text, and what it is to write one. Definitions only; their laws are in `TextLaws`.
+use mathlib.Core.Path.{_≡_}
+use mathlib.Core.Bool.{cond}
+use mathlib.Core.List.{List, [], _∷_, _++_}
+use Prim.Native.Nat.{ℕ, _+_, _-_, _/_, _%_}
+use lib.Dec.{ltb}
+use lib.ListN.{length, replicate}
+use Rattle.lent_bytes.specs.LentBytes.{put}
+use Rattle.decimal.specs.Decimal.{digitsOf}
+
+-- n blanks
+abbrev pub blanks : ℕ → List ℕ
+blanks n = replicate n 32
+
+-- a blank and a number
+abbrev pub numberText : ℕ → List ℕ
+numberText n = 32 ∷ digitsOf n
+
+-- a blank and a number that is right-aligned in so many places; a longer one takes its length
+unfoldable pub columnText : ℕ → ℕ → List ℕ
+columnText width n = blanks (width - length (digitsOf n)) ++ numberText n
+
+-- numbers in columns of one width
+unfoldable pub columnsText : ℕ → List ℕ → List ℕ
+columnsText width [] = []
+columnsText width (n ∷ more) = columnText width n ++ columnsText width more
+
+-- the hex digit of a number below 16
+abbrev pub hexChar : ℕ → ℕ
+hexChar h = cond (ltb h 10) (48 + h) (87 + h)
+
+-- the hex digits of bytes, two for each
+abbrev pub hexText : List ℕ → List ℕ
+hexText [] = []
+hexText (b ∷ more) = hexChar (b / 16) ∷ hexChar (b % 16) ∷ hexText more
+
+-- `refusal`
+abbrev pub refusalWord : List ℕ
+refusalWord = 114 ∷ 101 ∷ 102 ∷ 117 ∷ 115 ∷ 97 ∷ 108 ∷ []
+
+-- the line `refusal N`
+unfoldable pub refusalText : ℕ → List ℕ
+refusalText n = refusalWord ++ (numberText n ++ (10 ∷ []))
+
+-- a text was written at a place: what stands there now, and the place behind it
+pub record Wrote (before : List ℕ) (at : ℕ) (text : List ℕ) (place : ℕ) (after : List ℕ) : Type 0 where
+  pub behind : place ≡ at + length text
+  pub leaves : after ≡ put before at text
