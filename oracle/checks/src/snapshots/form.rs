@@ -110,7 +110,7 @@ fn bodies(bytes: &[u8]) -> Option<[&[u8]; PARTS]> {
         rest = &rest[body.len()..];
     }
     let [settings, load, rows] = bodies;
-    let sizes_are_right = settings.len() == 8 * 9 && load.len() == 8 * 2 && rows.len() % ROW == 0;
+    let sizes_are_right = settings.len() == 8 * 9 && load.len() == 8 * 2 && rows.len().is_multiple_of(ROW);
     (rest.is_empty() && sizes_are_right).then_some(bodies)
 }
 
@@ -163,7 +163,7 @@ pub fn place_of(bytes: &[u8], kind: u32) -> Result<[u64; 2], u32> {
 /// What a step at the place must give: a row and the next one's place, or nothing at the end.
 pub fn row_at(bytes: &[u8], at: u64) -> Result<Option<(Row, u64)>, u32> {
     let [from, end] = place_of(bytes, 3)?;
-    if !(from..=end).contains(&at) || (at - from) % ROW as u64 != 0 {
+    if !(from..=end).contains(&at) || !(at - from).is_multiple_of(ROW as u64) {
         return Err(LAYOUT);
     }
     if at == end {
