@@ -1,11 +1,12 @@
--- What the contracts of `replay` say of a record: the words that its bytes spell, and the amount that three words spell.
+-- What the contracts of `replay` say of a record: the words that its bytes spell, and the key and the amount that words spell.
+-- Definitions only.
 use mathlib.Core.Bool.{Bool, not}
-use mathlib.Core.List.{List}
+use mathlib.Core.List.{List, _++_}
 use Prim.Native.Nat.{ℕ, _+_, _*_}
 use lib.Dec.{eqb}
 use lib.IntN.{ℤ}
 use Rattle.amount.specs.Amount.{signed}
-use Rattle.lent_bytes.specs.LentBytes.{part, le}
+use Rattle.lent_bytes.specs.LentBytes.{part, le, bytes}
 use Rattle.replay.specs.declared.record.Record.{Record}
 
 -- the word at a place: 8 bytes, the least first
@@ -25,6 +26,11 @@ recordOf s =
       sixth = wordAt s 48;
       seventh = wordAt s 56;
     }
+
+-- the first 33 bytes of five words
+unfoldable pub keyOf : ℕ → ℕ → ℕ → ℕ → ℕ → List ℕ
+keyOf first second third fourth fifth =
+    bytes 8 first ++ (bytes 8 second ++ (bytes 8 third ++ (bytes 8 fourth ++ bytes 1 fifth)))
 
 -- whether a sign's word says minus
 abbrev pub minus : ℕ → Bool

@@ -1,10 +1,12 @@
 // A record of eight words, and what its words spell.
 ghost use mathlib.Core.Path.{_≡_};
+ghost use Prim.Native.Nat.{_/_, _%_};
 ghost use lib.ListN.{length};
 ghost use Rattle.amount.specs.Amount.{value};
-ghost use Rattle.replay.specs.Record.{recordOf, minus, spelled};
+ghost use Rattle.replay.specs.Record.{recordOf, keyOf, minus, spelled};
 use amount::Amount;
 use lent_bytes::number::get_u64;
+use lent_bytes::number::put_u64;
 
 pub struct Record {
     pub operation: u64,
@@ -15,13 +17,6 @@ pub struct Record {
     pub fifth: u64,
     pub sixth: u64,
     pub seventh: u64,
-}
-
-// What standard input holds next. `Cut` is an end within a record.
-pub enum Input {
-    Whole(Record),
-    Cut,
-    End,
 }
 
 pub fn decoded(bytes: &[u8; 64]) -> Record
@@ -39,15 +34,42 @@ pub fn decoded(bytes: &[u8; 64]) -> Record
     }
 }
 
+// A word's low half.
+pub fn low_half(n: u64) -> u32
+    ensures { λ r. ⌜ r ≡ n % 4294967296 ⌝ }
+{
+    (n % 0x1_0000_0000) as u32
+}
+
+// A word's high half.
+pub fn high_half(n: u64) -> u32
+    ensures { λ r. ⌜ r ≡ n / 4294967296 ⌝ }
+{
+    (n / 0x1_0000_0000) as u32
+}
+
+// The key that five words spell: their first 33 bytes.
+pub fn key_of(first: u64, second: u64, third: u64, fourth: u64, fifth: u64) -> [u8; 33]
+    ensures { λ r. ⌜ r ≡ keyOf first second third fourth fifth ⌝ }
+{
+    let mut bytes = [0u8; 33];
+    put_u64(&mut bytes, 0, first);
+    put_u64(&mut bytes, 8, second);
+    put_u64(&mut bytes, 16, third);
+    put_u64(&mut bytes, 24, fourth);
+    bytes[32] = (fifth % 256) as u8;
+    bytes
+}
+
 // The amount that three words spell: a sign, 0 for plus, and the low and the high half of the magnitude.
 pub fn amount_of(sign: u64, low: u64, high: u64) -> Amount
     ensures { λ r. ⌜ (r .negative ≡ minus sign) × (value r ≡ spelled sign low high) ⌝ }
 {
     let limbs = [
-        (low % 0x1_0000_0000) as u32,
-        (low / 0x1_0000_0000) as u32,
-        (high % 0x1_0000_0000) as u32,
-        (high / 0x1_0000_0000) as u32,
+        low_half(low),
+        high_half(low),
+        low_half(high),
+        high_half(high),
     ];
     Amount {
         negative: sign != 0,

@@ -1,12 +1,11 @@
 // Answers the recorded calls on amounts: a record of standard input names an operation and its operands, a line of standard
 // output gives what crate `amount` answers. `oracle/record` wrote both files, from Rust's own i128 and u128; `oracle/README.md`
 // lists the operations.
-mod standard;
-
 use amount::Amount;
 use replay::line::Line;
+use replay::program;
+use replay::program::Next;
 use replay::record;
-use replay::record::Input;
 use replay::record::Record;
 
 // What the recorded products are over, and times.
@@ -22,13 +21,13 @@ fn main() {
 
 // Answers one record, and says whether to go on.
 fn answer_next() -> bool {
-    match standard::next() {
-        Input::Whole(r) => standard::print(answer(r)),
-        Input::Cut => {
-            standard::print(Line::empty().text(b"cut record"));
+    match program::next_record() {
+        Next::Whole(r) => program::print(answer(r)),
+        Next::Cut => {
+            program::print_cut();
             false
         }
-        Input::End => false,
+        Next::End => false,
     }
 }
 

@@ -7,11 +7,10 @@ mod byte_steps;
 mod compared;
 mod discrete_steps;
 mod lending;
-mod standard;
 
 use replay::line::Line;
-use replay::record;
-use replay::record::Input;
+use replay::program;
+use replay::program::Next;
 use replay::record::Record;
 use token_bucket::bytes::ByteRateLimitConfig;
 use token_bucket::bytes::ByteTokenBucket;
@@ -47,16 +46,16 @@ fn main() {
 }
 
 fn answer_next(buckets: Buckets) -> Turn {
-    match standard::next() {
-        Input::Whole(r) => answer(buckets, r),
-        Input::Cut => {
-            standard::print(Line::empty().text(b"cut record"));
+    match program::next_record() {
+        Next::Whole(r) => answer(buckets, r),
+        Next::Cut => {
+            program::print_cut();
             Turn {
                 buckets,
                 more: false,
             }
         }
-        Input::End => Turn {
+        Next::End => Turn {
             buckets,
             more: false,
         },
@@ -77,7 +76,7 @@ fn answer(buckets: Buckets, r: Record) -> Turn {
                     discrete: after,
                     bytes,
                 },
-                more: standard::print(discrete_steps::with_bucket(line, after)),
+                more: program::print(discrete_steps::with_bucket(line, after)),
             }
         }
         4..=12 | 14 => {
@@ -89,12 +88,12 @@ fn answer(buckets: Buckets, r: Record) -> Turn {
                     discrete,
                     bytes: after,
                 },
-                more: standard::print(byte_steps::with_bucket(line, after)),
+                more: program::print(byte_steps::with_bucket(line, after)),
             }
         }
         _ => Turn {
             buckets,
-            more: standard::print(Line::empty().text(b"unknown operation").then(operation)),
+            more: program::print(Line::empty().text(b"unknown operation").then(operation)),
         },
     }
 }

@@ -2,7 +2,6 @@
 // (bytes), 7 in_flight, 8 held_time.
 use crate::held::Held;
 use crate::held::Step;
-use lent_bytes::number::put_u64;
 use peer_message_policy::answer::Changed;
 use peer_message_policy::answer::HeldTime;
 use peer_message_policy::answer::InFlight;
@@ -12,10 +11,13 @@ use peer_message_policy::answer::Standing;
 use pubkey::Pubkey;
 use replay::line::Line;
 use replay::record::Record;
+use replay::record::key_of;
 
 pub(crate) fn answered(held: Held, table: &mut [u8], r: Record) -> Step {
     let operation = r.operation;
-    let key = key_of(r);
+    let key = Pubkey {
+        bytes: key_of(r.third, r.fourth, r.fifth, r.sixth, r.seventh),
+    };
     match operation {
         2 => admit(held, table, key, r.first, r.second),
         3 => record_invalid(held, table, key, r.second),
@@ -26,17 +28,6 @@ pub(crate) fn answered(held: Held, table: &mut [u8], r: Record) -> Step {
         8 => held_time(held, table, key, r.second),
         _ => held.says(b"unknown operation"),
     }
-}
-
-// A key is the last 40 bytes of a record, but for seven.
-fn key_of(r: Record) -> Pubkey {
-    let mut bytes = [0u8; 33];
-    put_u64(&mut bytes, 0, r.third);
-    put_u64(&mut bytes, 8, r.fourth);
-    put_u64(&mut bytes, 16, r.fifth);
-    put_u64(&mut bytes, 24, r.sixth);
-    bytes[32] = (r.seventh % 256) as u8;
-    Pubkey { bytes }
 }
 
 fn admit(held: Held, table: &mut [u8], key: Pubkey, bytes: u64, now_ms: u64) -> Step {

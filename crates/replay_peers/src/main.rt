@@ -5,13 +5,12 @@ mod calls;
 mod checksum;
 mod held;
 mod memory;
-mod standard;
 
 use held::Held;
 use held::Step;
 use replay::line::Line;
-use replay::record;
-use replay::record::Input;
+use replay::program;
+use replay::program::Next;
 use replay::record::Record;
 
 // What is held after a record, and whether to go on.
@@ -40,13 +39,13 @@ fn run(table: &mut [u8]) {
 }
 
 fn answer_next(held: Held, table: &mut [u8]) -> Turn {
-    match standard::next() {
-        Input::Whole(r) => finished(stepped(held, table, r), table),
-        Input::Cut => {
-            standard::print(Line::empty().text(b"cut record"));
+    match program::next_record() {
+        Next::Whole(r) => finished(stepped(held, table, r), table),
+        Next::Cut => {
+            program::print_cut();
             Turn { held, more: false }
         }
-        Input::End => Turn { held, more: false },
+        Next::End => Turn { held, more: false },
     }
 }
 
@@ -81,6 +80,6 @@ fn finished(step: Step, table: &[u8]) -> Turn {
         .then(checksum::of(policy, &table[..lent]));
     Turn {
         held,
-        more: standard::print(whole),
+        more: program::print(whole),
     }
 }

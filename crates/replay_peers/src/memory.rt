@@ -1,13 +1,13 @@
 // The recorded steps that set the memory up: 0 the settings of the next policy, 1 makes it, 9 writes a word of the table, 10 sets the
 // numbers of the policy and how much is lent to it. They leave any memory, unsound memory too.
-use crate::checksum;
 use crate::held::Held;
 use crate::held::Step;
-use lent_bytes::number::put_u64;
 use peer_message_policy::answer::Made;
 use peer_message_policy::policy::PeerMessagePolicy;
 use peer_settings::config::PeerMessagePolicyConfig;
 use peer_state::ingress::FiberIngressBudget;
+use replay::checksum::fill;
+use replay::memory::put_word;
 use replay::record::Record;
 
 const MOST_SHORT: u64 = 0xffff_ffff;
@@ -73,7 +73,7 @@ pub(crate) fn make(held: Held, table: &mut [u8], r: Record) -> Step {
     if lent > table.len() {
         return beyond(held);
     }
-    checksum::fill(table, r.fourth);
+    fill(table, r.fourth);
     let next = held.next;
     let before = held.policy;
     let config = with_ceiling(next, messages as u32, r.second);
@@ -96,15 +96,10 @@ fn made(held: Held, answer: Made) -> Step {
 }
 
 pub(crate) fn write(held: Held, table: &mut [u8], r: Record) -> Step {
-    let at = r.first as usize;
-    if table.len() < 8 {
-        return beyond(held);
+    if put_word(table, r.first as usize, r.second) {
+        return held.says(b"-");
     }
-    if at > table.len() - 8 {
-        return beyond(held);
-    }
-    put_u64(table, at, r.second);
-    held.says(b"-")
+    beyond(held)
 }
 
 // Messages and bytes in flight, rows, tracked peers, bytes lent.

@@ -1,5 +1,6 @@
 // The steps of the bucket that counts bytes: each writes its line.
 use replay::line::Line;
+use replay::program;
 use token_bucket::answer::Delay;
 use token_bucket::answer::Told;
 use token_bucket::bytes::ByteTokenBucket;
@@ -10,7 +11,7 @@ pub(crate) fn take(letter: u8, b: ByteTokenBucket, bytes: u64, now_ms: u64) -> B
     let bucket = done.bucket;
     let answer = done.answer;
     let line = begun(letter, bucket).text(b"take").then(bytes);
-    crate::standard::print(crate::consumed(line.text(b" at").then(now_ms).byte(b' '), answer));
+    program::print(crate::consumed(line.text(b" at").then(now_ms).byte(b' '), answer));
     bucket
 }
 
@@ -20,14 +21,14 @@ pub(crate) fn reserve(letter: u8, b: ByteTokenBucket, bytes: u64, now_ms: u64) -
     let bucket = done.bucket;
     let answer = done.answer;
     let line = begun(letter, bucket).text(b"reserve").then(bytes);
-    crate::standard::print(delay(line.text(b" at").then(now_ms).byte(b' '), answer));
+    program::print(delay(line.text(b" at").then(now_ms).byte(b' '), answer));
     bucket
 }
 
 // Asks for debt, which changes nothing.
 pub(crate) fn ask_debt(letter: u8, b: ByteTokenBucket, now_ms: u64) {
     let line = begun(letter, b).text(b"debt at").then(now_ms).byte(b' ');
-    crate::standard::print(told(line, b.has_debt(now_ms)));
+    program::print(told(line, b.has_debt(now_ms)));
 }
 
 fn delay(line: Line, answer: Delay) -> Line {

@@ -1,5 +1,6 @@
 // A step of the bucket that counts messages: it writes its line.
 use replay::line::Line;
+use replay::program;
 use token_bucket::discrete::DiscreteTokenBucket;
 
 // Asks for one token, and answers the bucket after it.
@@ -8,7 +9,7 @@ pub(crate) fn take(letter: u8, b: DiscreteTokenBucket, now_ms: u64) -> DiscreteT
     let bucket = done.bucket;
     let answer = done.answer;
     let line = begun(letter, bucket).text(b"at").then(now_ms).byte(b' ');
-    crate::standard::print(crate::consumed(line, answer));
+    program::print(crate::consumed(line, answer));
     bucket
 }
 

@@ -4,11 +4,10 @@
 // A record of standard input is a sample: its letter, then its numbers in the order in which the steps below read them.
 mod byte_steps;
 mod discrete_steps;
-mod standard;
 
 use replay::line::Line;
-use replay::record;
-use replay::record::Input;
+use replay::program;
+use replay::program::Next;
 use replay::record::Record;
 use token_bucket::answer::Consumed;
 use token_bucket::bytes::ByteRateLimitConfig;
@@ -25,16 +24,16 @@ fn main() {
 
 // Runs one sample, and says whether to go on.
 fn run_next() -> bool {
-    match standard::next() {
-        Input::Whole(r) => {
+    match program::next_record() {
+        Next::Whole(r) => {
             run(r);
             true
         }
-        Input::Cut => {
-            standard::print(Line::empty().text(b"cut record"));
+        Next::Cut => {
+            program::print_cut();
             false
         }
-        Input::End => false,
+        Next::End => false,
     }
 }
 
@@ -48,7 +47,7 @@ fn run(r: Record) {
         }
         b'F' => debt_after_reserve(letter, r),
         _ => {
-            standard::print(Line::empty().text(b"unknown sample").then(r.operation));
+            program::print(Line::empty().text(b"unknown sample").then(r.operation));
         }
     }
 }
@@ -61,7 +60,7 @@ fn byte_bucket(r: Record) -> ByteTokenBucket {
 fn one_token_each_time(letter: u8, r: Record) {
     let burst = r.second;
     if burst > 0xffff_ffff {
-        standard::print(Line::empty().byte(letter).text(b" more than 32 bits"));
+        program::print(Line::empty().byte(letter).text(b" more than 32 bits"));
         return;
     }
     let mut bucket = DiscreteTokenBucket::new(r.first, burst as u32);

@@ -28,10 +28,6 @@ fn the_recorded_lists_are_what_the_rust_answers() {
     for (folder, record) in LISTS {
         let list = record(&mut UnchangedRust::default());
         let folder = Path::new(env!("CARGO_MANIFEST_DIR")).join("../..").join(folder);
-        if !folder.exists() {
-            // Its program isn't there yet.
-            continue;
-        }
         let input = std::fs::read(folder.join("stdin")).unwrap();
         let output = std::fs::read_to_string(folder.join("stdout")).unwrap();
         assert!(input == list.input && output == list.output, "run oracle/record");

@@ -1,11 +1,11 @@
--- `print` is safe: what it lends to `write_all` is within the line. Assumes nothing.
+-- `program::print` is safe: what it lends to `write` is within the line. Assumes nothing.
 use mathlib.Core.Path.{_≡_, sym}
 use native.Mathlib.Omega.{arith}
 use lib.ListN.{length}
 use lib.Seq.{length-take-le}
 use borrow.Author.Needs.{needs}
-use Rattle.replay_peers.proofs.standard.print.Statement.{statement}
-use Rattle.replay_peers.proofs.standard.print.Tie as tie
+use Rattle.replay.proofs.program.print.Statement.{statement}
+use Rattle.replay.proofs.program.print.Tie as tie
 
 byte-requires : tie.Need-byte-requires
 byte-requires c κs = search needs
@@ -16,11 +16,11 @@ returns c = search needs
 array-share-prefix-bytes : tie.Need-array-share-prefix-bytes
 array-share-prefix-bytes c = let h : length (c .before .before .byte .result .bytes) ≡ 160 = search needs in omega arith
 
-slice-aggregate-write-all : tie.Need-slice-aggregate-write-all
-slice-aggregate-write-all c = let h : length (c .before .before .before .byte .result .bytes) ≡ 160 = search needs in sym (length-take-le (c .before .before .before .byte .result .used) (c .before .before .before .byte .result .bytes) (omega arith))
+slice-aggregate-write : tie.Need-slice-aggregate-write
+slice-aggregate-write c = let h : length (c .before .before .before .byte .result .bytes) ≡ 160 = search needs in sym (length-take-le (c .before .before .before .byte .result .used) (c .before .before .before .byte .result .bytes) (omega arith))
 
-write-all-requires : tie.Need-write-all-requires
-write-all-requires c κs = search needs
+write-requires : tie.Need-write-requires
+write-requires c κs = search needs
 
 returns-2 : tie.Need-returns-2
 returns-2 c = search needs
@@ -32,6 +32,6 @@ print-spec =
     byte-requires
     returns
     array-share-prefix-bytes
-    slice-aggregate-write-all
-    write-all-requires
+    slice-aggregate-write
+    write-requires
     returns-2)

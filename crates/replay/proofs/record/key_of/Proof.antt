@@ -1,0 +1,57 @@
+-- `key_of` gives the first 33 bytes of five words: four words written one after the other, and one byte of the fifth. Assumes nothing.
+use mathlib.Core.Path.{refl}
+use Rattle.lent_bytes.specs.LentBytes.{put}
+use Rattle.replay.specs.Record.{keyOf}
+use borrow.Author.Needs.{needs}
+use Rattle.replay.proofs.record.key_of.Statement.{statement}
+use Rattle.replay.proofs.record.key_of.Tie as tie
+
+slice-aggregate-put-u64 : tie.Need-slice-aggregate-put-u64
+slice-aggregate-put-u64 c = search needs
+
+put-u64-requires : tie.Need-put-u64-requires
+put-u64-requires c κs = search needs
+
+slice-aggregate-put-u64-2 : tie.Need-slice-aggregate-put-u64-2
+slice-aggregate-put-u64-2 c = search needs
+
+put-u64-requires-2 : tie.Need-put-u64-requires-2
+put-u64-requires-2 c κs = search needs
+
+slice-aggregate-put-u64-3 : tie.Need-slice-aggregate-put-u64-3
+slice-aggregate-put-u64-3 c = search needs
+
+put-u64-requires-3 : tie.Need-put-u64-requires-3
+put-u64-requires-3 c κs = search needs
+
+slice-aggregate-put-u64-4 : tie.Need-slice-aggregate-put-u64-4
+slice-aggregate-put-u64-4 c = search needs
+
+put-u64-requires-4 : tie.Need-put-u64-requires-4
+put-u64-requires-4 c κs = search needs
+
+cast-bytes : tie.Need-cast-bytes
+cast-bytes c = search needs
+
+array-write-bytes : tie.Need-array-write-bytes
+array-write-bytes c = search needs
+
+returns : tie.Need-returns
+unfolding keyOf put
+returns c = rw (c .before .put-u644 .ensures, c .before .before .before .before .put-u643 .ensures, c .before .before .before .before .before .before .before .put-u642 .ensures, c .before .before .before .before .before .before .before .before .before .before .put-u64 .ensures)
+
+pub key-of-spec : {M : Type 1} → statement M
+key-of-spec =
+    tie.close
+    (tie.spec
+    slice-aggregate-put-u64
+    put-u64-requires
+    slice-aggregate-put-u64-2
+    put-u64-requires-2
+    slice-aggregate-put-u64-3
+    put-u64-requires-3
+    slice-aggregate-put-u64-4
+    put-u64-requires-4
+    cast-bytes
+    array-write-bytes
+    returns)

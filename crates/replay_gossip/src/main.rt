@@ -1,0 +1,77 @@
+// Replays recorded calls of the gossip policy: a record of standard input sets something up or names a call and its operands, a line of
+// standard output gives what the C functions of crate `c_gossip` answer: the answer, its value, the rows of both tables, and a checksum of
+// the words and of every lent byte after the call. `oracle/record` wrote both files, from the unchanged Rust; what each record does stands
+// at the top of `oracle/checks/src/lists/gossip.rs`.
+mod calls;
+mod checksum;
+mod held;
+mod memory;
+mod rows;
+
+use held::Held;
+use held::Step;
+use replay::program;
+use replay::program::Next;
+use replay::record::Record;
+
+// What is held after a record, and whether to go on.
+struct Turn {
+    held: Held,
+    more: bool,
+}
+
+fn main() {
+    let mut first = [0u8; 96560];
+    let mut second = [0u8; 96560];
+    run(&mut first, &mut second);
+}
+
+// A proved loop has to end, and nothing says that the input does: so turns are counted down from a number that no run uses up.
+fn run(first: &mut [u8], second: &mut [u8]) {
+    let mut held = Held::lending(0, 0);
+    let mut turns = u64::MAX;
+    while turns > 0 {
+        let turn = answer_next(held, first, second);
+        if !turn.more {
+            return;
+        }
+        held = turn.held;
+        turns -= 1;
+    }
+}
+
+fn answer_next(held: Held, first: &mut [u8], second: &mut [u8]) -> Turn {
+    match program::next_record() {
+        Next::Whole(r) => printed(stepped(held, first, second, r)),
+        Next::Cut => {
+            program::print_cut();
+            Turn { held, more: false }
+        }
+        Next::End => Turn { held, more: false },
+    }
+}
+
+fn printed(step: Step) -> Turn {
+    let held = step.held;
+    let line = step.line;
+    Turn {
+        held,
+        more: program::print(line),
+    }
+}
+
+fn stepped(held: Held, first: &mut [u8], second: &mut [u8], r: Record) -> Step {
+    let operation = r.operation;
+    match operation {
+        0 => memory::lend(first, second, r),
+        1 => held.with_longs(r).says(b"-"),
+        2 => held.with_more(r).says(b"-"),
+        3 => held.with_peer(r).says(b"-"),
+        4 => held.with_outpoint(r).says(b"-"),
+        5 => memory::call(held, first, second, r),
+        6 => memory::write(held, first, second, r),
+        7 => memory::fill_rows(held, first, second, r),
+        8 => held.with_lengths(r).says(b"-"),
+        _ => held.says(b"unknown record"),
+    }
+}
