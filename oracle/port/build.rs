@@ -4,7 +4,7 @@ use std::path::PathBuf;
 use std::{env, process};
 
 /// The crates whose C functions are linked; `scripts/archive` names them too.
-const EXPORTING: [&str; 4] = ["c_peers", "c_buckets", "c_trace", "c_gossip"];
+const EXPORTING: [&str; 5] = ["c_peers", "c_buckets", "c_trace", "c_gossip", "c_snapshot"];
 
 fn main() {
     let here = PathBuf::from(env::var("CARGO_MANIFEST_DIR").unwrap());
