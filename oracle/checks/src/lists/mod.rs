@@ -7,6 +7,7 @@ pub mod buckets;
 mod checksum;
 pub mod gossip;
 pub mod peers;
+pub mod snapshots;
 pub mod traces;
 
 use vocabulary::{Original, Words};
@@ -45,10 +46,11 @@ impl Default for List {
 pub type Recorder = fn(&mut dyn Original) -> List;
 
 /// Each list and the crate whose files stdin and stdout it becomes.
-pub const LISTS: [(&str, Recorder); 5] = [
+pub const LISTS: [(&str, Recorder); 6] = [
     ("crates/replay_amounts", amounts::record),
     ("crates/replay_buckets", buckets::record),
     ("crates/replay_peers", peers::record),
     ("crates/replay_traces", traces::record),
     ("crates/replay_gossip", gossip::record),
+    ("crates/replay_snapshots", snapshots::record),
 ];
