@@ -35,8 +35,8 @@ module _ (longs shorts : List ℕ) {r q : ℕ} where
   pub read-one : (snapshot before : List ℕ) {longs' longs'' shorts' shorts'' first second : List ℕ}
       → ReadExported longs shorts snapshot before r longs' shorts' first → ReadExported longs shorts snapshot before q longs'' shorts'' second
       → Alike r q longs' longs'' shorts' shorts'' × (first ≡ second)
-  read-one snapshot before {first = first} {second = second} =
-      some-one (λ a b. Read.read-one snapshot before {r = a} {q = b} {x = first} {y = second}) (λ a. leaves-one (madeTold a) longs shorts)
+  read-one snapshot before {first = one} {second = other} =
+      some-one (λ a b. Read.read-one first snapshot before {r = a} {q = b} {x = one} {y = other}) (λ a. leaves-one (madeTold a) longs shorts)
 
 -- ════ A snapshot asked for its parts ══════════════════════════════════════════════════════════════
 

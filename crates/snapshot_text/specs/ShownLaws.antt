@@ -143,7 +143,7 @@ module _ (z : List ℕ) where
       table-shown (suc m) e count =
           hands-next (rw (ne-eqb (p .rows) 0 (λ (none : p .rows ≡ 0). omega arith))) (rows-shown (suc m) 0 (omega arith))
 
-    policy-shown : Describes z p → HandsOut z (begun (Made.Policy p)) (policyShown p (rowsOf p (drop (rowsPlace first) z)))
+    policy-shown : Describes first z p → HandsOut z (begun (Made.Policy p)) (policyShown p (rowsOf p (drop (rowsPlace first) z)))
     policy-shown d = numbers-shown (table-shown (ap wasRead (d .settings)) (p .rows) refl (d .count))
 
   -- ---- an input
@@ -155,7 +155,7 @@ module _ (z : List ℕ) where
   made-shown : (m : Made) → madeOf z ≡ m → HandsOut z (begun m) (madeShown z m)
   unfolding madeOf
   made-shown (Made.Policy p) e =
-      policy-shown p (policy-describes z p (judged (ltb longestSnapshot (length z)) wrongLayout (policyIn first z) e))
+      policy-shown p (policy-describes first z p (judged (ltb longestSnapshot (length z)) wrongLayout (policyIn first z) e))
   made-shown (Made.Refused n) e = refused-shown n
 
   input-shown : HandsOut z (begun (madeOf z)) (shownLines z)
@@ -168,7 +168,7 @@ module _ (z before : List ℕ) (long : 123904 ≤ length before) where
   -- in a table with room for every limit, reading answers what the snapshot was judged to be
   read-judged : (m : Made) → policyIn first z ≡ m → restored first z before m .answer ≡ m
   read-judged (Made.Policy p) e =
-      let d : Describes z p = policy-describes z p e in
+      let d : Describes first z p = policy-describes first z p e in
       let room : 121 * limit (p .config) ≤ length before = omega (arith, d .tracked) in
       rw (le-leb (121 * limit (p .config)) (length before) room)
   read-judged (Made.Refused n) e = refl
