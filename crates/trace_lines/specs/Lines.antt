@@ -6,9 +6,11 @@ use Prim.Native.Nat.{ℕ, zero, suc, _+_, _-_, _*_}
 use lib.Dec.{leb, ltb, eqb}
 use lib.ListN.{length, getD, replicate}
 use Rattle.refusal.specs.Refusal.{Said, gives}
-use Rattle.decimal.specs.Decimal.{digitsOf, scanOf}
+use Rattle.decimal.specs.Decimal.{scanOf}
 use Rattle.decimal.specs.declared.Scanned.{Scanned}
 use Rattle.decimal.specs.declared.Scanned.the-variants.{Number, Bad}
+pub use Rattle.text_pieces.specs.Text.{numberText}
+unfoldable pub use Rattle.text_pieces.specs.Text.{refusalText}
 use Rattle.peer_settings.specs.declared.config.PeerMessagePolicyConfig.{PeerMessagePolicyConfig}
 use Rattle.pubkey.specs.declared.Pubkey.{Pubkey}
 use Rattle.trace_lines.specs.declared.event.Event.{Event}
@@ -206,10 +208,6 @@ wordText Free = 70 ∷ 114 ∷ 101 ∷ 101 ∷ []
 wordText Closed = 67 ∷ 108 ∷ 111 ∷ 115 ∷ 101 ∷ 100 ∷ []
 wordText Released = 82 ∷ 101 ∷ 108 ∷ 101 ∷ 97 ∷ 115 ∷ 101 ∷ 100 ∷ []
 
--- a blank and a number
-abbrev pub numberText : ℕ → List ℕ
-numberText n = 32 ∷ digitsOf n
-
 -- an answer, the messages and bytes in flight, the rows held
 unfoldable pub answerText : Word → ℕ → ℕ → ℕ → List ℕ
 answerText word messages bytes rows =
@@ -218,10 +216,6 @@ answerText word messages bytes rows =
 -- `bad line K`
 unfoldable pub badLineText : ℕ → List ℕ
 badLineText k = (98 ∷ 97 ∷ 100 ∷ 32 ∷ 108 ∷ 105 ∷ 110 ∷ 101 ∷ []) ++ (numberText k ++ (10 ∷ []))
-
--- `refusal N`
-unfoldable pub refusalText : ℕ → List ℕ
-refusalText n = (114 ∷ 101 ∷ 102 ∷ 117 ∷ 115 ∷ 97 ∷ 108 ∷ []) ++ (numberText n ++ (10 ∷ []))
 
 -- ---- what the answers say
 

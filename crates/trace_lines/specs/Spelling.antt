@@ -1,14 +1,13 @@
 -- The text that a good line has, given what it says. Definitions only; that there is no other is proved in `SpellingLaws`.
-use mathlib.Core.Bool.{cond}
 use mathlib.Core.Logic.{_⊎_}
 use mathlib.Core.Path.{_≡_}
 use mathlib.Core.List.{List, [], _∷_, _++_}
-use Prim.Native.Nat.{ℕ, _+_, _/_, _%_}
-use lib.Dec.{ltb}
+use Prim.Native.Nat.{ℕ}
 use lib.ListN.{getD, replicate}
 use Rattle.decimal.specs.Decimal.{digitsOf}
 use Rattle.peer_settings.specs.declared.config.PeerMessagePolicyConfig.{PeerMessagePolicyConfig}
 use Rattle.pubkey.specs.declared.Pubkey.{Pubkey}
+pub use Rattle.text_pieces.specs.Text.{hexChar, hexText}
 use Rattle.trace_lines.specs.Lines.{numberText}
 use Rattle.trace_lines.specs.declared.event.Event.{Event}
 use Rattle.trace_lines.specs.declared.event.EventKind.{EventKind}
@@ -31,15 +30,6 @@ settingsText c =
 -- the line `r BYTES`
 abbrev pub releaseText : ℕ → List ℕ
 releaseText bytes = 114 ∷ numberText bytes
-
--- the hex digit of a number below 16
-abbrev pub hexChar : ℕ → ℕ
-hexChar h = cond (ltb h 10) (48 + h) (87 + h)
-
--- the hex digits of bytes, two for each
-abbrev pub hexText : List ℕ → List ℕ
-hexText [] = []
-hexText (b ∷ more) = hexChar (b / 16) ∷ hexChar (b % 16) ∷ hexText more
 
 -- a text spells a key: all its bytes, or its first one where all are equal to that
 abbrev pub SpellsKey : List ℕ → Pubkey → Type 0

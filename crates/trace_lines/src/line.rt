@@ -1,11 +1,12 @@
 // The lines that the trace program writes, each by value.
 ghost use mathlib.Core.Path.{_≡_};
-ghost use Prim.Native.Nat.{_+_, _≤_};
+ghost use Prim.Native.Nat.{_≤_};
 ghost use lib.ListN.{length};
-ghost use Rattle.decimal.specs.Decimal.{digitsOf};
-ghost use Rattle.lent_bytes.specs.LentBytes.{put};
-ghost use Rattle.trace_lines.specs.Lines.{lineOf, wordText, numberText, answerText, badLineText, refusalText};
-use lent_bytes::run::put_slice;
+ghost use Rattle.text_pieces.specs.Text.{Wrote};
+ghost use Rattle.trace_lines.specs.Lines.{lineOf, wordText, answerText, badLineText, refusalText};
+use text_pieces::piece::put_number;
+use text_pieces::piece::put_refusal;
+use text_pieces::piece::put_text;
 
 // A line with its newline; the bytes behind its length are zero.
 pub struct Line {
@@ -28,36 +29,18 @@ pub enum Word {
 // Writes the word at the front, and answers the place behind it.
 fn put_word(out: &mut [u8], word: Word) -> usize
     requires { ⌜ 10 ≤ length (now out) ⌝ }
-    ensures { λ r. ⌜ (r ≡ length (wordText word)) × (now (out .exit) ≡ put (now (out .entry)) 0 (wordText word)) ⌝ }
+    ensures { λ r. ⌜ Wrote (now (out .entry)) 0 (wordText word) r (now (out .exit)) ⌝ }
 {
     match word {
-        Word::Allow => put_text(out, b"Allow"),
-        Word::Disconnect => put_text(out, b"Disconnect"),
-        Word::Ban => put_text(out, b"Ban"),
-        Word::Banned => put_text(out, b"Banned"),
-        Word::Noted => put_text(out, b"Noted"),
-        Word::Free => put_text(out, b"Free"),
-        Word::Closed => put_text(out, b"Closed"),
-        Word::Released => put_text(out, b"Released"),
+        Word::Allow => put_text(out, 0, b"Allow"),
+        Word::Disconnect => put_text(out, 0, b"Disconnect"),
+        Word::Ban => put_text(out, 0, b"Ban"),
+        Word::Banned => put_text(out, 0, b"Banned"),
+        Word::Noted => put_text(out, 0, b"Noted"),
+        Word::Free => put_text(out, 0, b"Free"),
+        Word::Closed => put_text(out, 0, b"Closed"),
+        Word::Released => put_text(out, 0, b"Released"),
     }
-}
-
-// Writes a text at the front, and answers the place behind it.
-fn put_text(out: &mut [u8], text: &[u8]) -> usize
-    requires { ⌜ length (now text) ≤ length (now out) ⌝ }
-    ensures { λ r. ⌜ (r ≡ length (now (text .entry))) × (now (out .exit) ≡ put (now (out .entry)) 0 (now (text .entry))) ⌝ }
-{
-    put_slice(out, 0, text);
-    text.len()
-}
-
-// Writes a blank and the number, and answers the place behind them.
-fn put_number(out: &mut [u8], at: usize, n: u64) -> usize
-    requires { ⌜ at + 1 + length (digitsOf n) ≤ length (now out) ⌝ }
-    ensures { λ r. ⌜ (r ≡ at + length (numberText n)) × (now (out .exit) ≡ put (now (out .entry)) at (numberText n)) ⌝ }
-{
-    out[at] = b' ';
-    decimal::put_decimal(out, at + 1, n)
 }
 
 // An answer, the messages and bytes in flight, the rows held: at most 64 bytes.
@@ -81,7 +64,7 @@ pub fn bad_line(number: u64) -> Line
     ensures { λ r. ⌜ r ≡ lineOf (badLineText number) ⌝ }
 {
     let mut out = [0u8; 64];
-    let after_words = put_text(&mut out, b"bad line");
+    let after_words = put_text(&mut out, 0, b"bad line");
     let after_number = put_number(&mut out, after_words, number);
     out[after_number] = b'\n';
     Line {
@@ -95,11 +78,9 @@ pub fn refusal_line(number: u32) -> Line
     ensures { λ r. ⌜ r ≡ lineOf (refusalText number) ⌝ }
 {
     let mut out = [0u8; 64];
-    let after_word = put_text(&mut out, b"refusal");
-    let after_number = put_number(&mut out, after_word, number as u64);
-    out[after_number] = b'\n';
+    let end = put_refusal(&mut out, number as u64);
     Line {
         bytes: out,
-        length: after_number + 1,
+        length: end,
     }
 }

@@ -2,8 +2,12 @@
 use mathlib.Core.Path.{sym, ap, _∙_}
 use native.Mathlib.Omega.{arith}
 use Rattle.decimal.specs.DecimalLaws.{length-digits}
-use Rattle.trace_lines.specs.Lines.{wordText, lineOf}
-use Rattle.trace_lines.proofs.Written.{Filled, number-room, numbered, finished, one, two, three, word-length, length-one, length-two, length-three, answer-whole}
+use lib.ListN.{length}
+use Rattle.lent_bytes.specs.LentBytes.{zeros}
+use Rattle.text_pieces.specs.Text.{Wrote}
+use Rattle.text_pieces.specs.TextLaws.{room-over, more-over}
+use Rattle.trace_lines.specs.Lines.{numberText, lineOf}
+use Rattle.trace_lines.proofs.Written.{line-ends, three, word-length, length-one, length-two, length-three, answer-whole}
 use borrow.Author.Needs.{needs}
 use Rattle.trace_lines.proofs.line.answer_line.Statement.{statement}
 use Rattle.trace_lines.proofs.line.answer_line.Tie as tie
@@ -19,50 +23,41 @@ slice-aggregate-put-number c = search needs
 
 put-number-requires : tie.Need-put-number-requires
 put-number-requires c κs = let a = c .before .before .before .before .args in
-    number-room (c .before .before .put-word .last .0) (wordText (a .word)) (c .before .before .put-word .result) (a .messages) (c .before .before .put-word .ensures)
-    (omega (arith, word-length (a .word), length-digits 9 (a .messages) (omega arith)))
+    room-over 64 (c .before .before .put-word .ensures) (length (numberText (a .messages))) (omega (arith, word-length (a .word), length-digits 9 (a .messages) (omega arith)))
 
 slice-aggregate-put-number-2 : tie.Need-slice-aggregate-put-number-2
 slice-aggregate-put-number-2 c = search needs
 
 put-number-requires-2 : tie.Need-put-number-requires-2
 put-number-requires-2 c κs = let a = c .before .before .before .before .before .before .before .args in
-    let f = numbered (c .before .before .before .before .before .put-word .last .0) (wordText (a .word)) (c .before .before .before .before .before .put-word .result) (a .messages) (c .before .before .before .before .before .put-word .ensures) (c .before .before .put-number .ensures) in
-    number-room (c .before .before .put-number .last .0) (one (a .word) (a .messages)) (c .before .before .put-number .result) (a .bytes) f
-    (omega (arith, length-one (a .word) (a .messages) (omega arith), length-digits 19 (a .bytes) (omega arith)))
+    let one-written = more-over 64 (c .before .before .before .before .before .put-word .ensures) (c .before .before .put-number .ensures) in
+    room-over 64 one-written (length (numberText (a .bytes))) (omega (arith, length-one (a .word) (a .messages) (omega arith), length-digits 19 (a .bytes) (omega arith)))
 
 slice-aggregate-put-number-3 : tie.Need-slice-aggregate-put-number-3
 slice-aggregate-put-number-3 c = search needs
 
 put-number-requires-3 : tie.Need-put-number-requires-3
 put-number-requires-3 c κs = let a = c .before .before .before .before .before .before .before .before .before .before .args in
-    let f = numbered (c .before .before .before .before .before .before .before .before .put-word .last .0) (wordText (a .word)) (c .before .before .before .before .before .before .before .before .put-word .result) (a .messages) (c .before .before .before .before .before .before .before .before .put-word .ensures) (c .before .before .before .before .before .put-number .ensures) in
-    let g = numbered (c .before .before .before .before .before .put-number .last .0) (one (a .word) (a .messages)) (c .before .before .before .before .before .put-number .result) (a .bytes) f (c .before .before .put-number2 .ensures) in
-    number-room (c .before .before .put-number2 .last .0) (two (a .word) (a .messages) (a .bytes)) (c .before .before .put-number2 .result) (a .rows) g
-    (omega (arith, length-two (a .word) (a .messages) (a .bytes) (omega arith) (omega arith), length-digits 19 (a .rows) (omega arith)))
+    let two-written = more-over 64 (more-over 64 (c .before .before .before .before .before .before .before .before .put-word .ensures) (c .before .before .before .before .before .put-number .ensures)) (c .before .before .put-number2 .ensures) in
+    room-over 64 two-written (length (numberText (a .rows))) (omega (arith, length-two (a .word) (a .messages) (a .bytes) (omega arith) (omega arith), length-digits 19 (a .rows) (omega arith)))
 
 -- the word and the three numbers stand at the front
 text-written : (c : tie.After-out8)
-    → Filled (c .before .put-number3 .last .0) (c .before .put-number3 .result)
-    (three (c .before .before .before .before .before .before .before .before .before .before .before .before .args .word) (c .before .before .before .before .before .before .before .before .before .before .before .before .args .messages) (c .before .before .before .before .before .before .before .before .before .before .before .before .args .bytes) (c .before .before .before .before .before .before .before .before .before .before .before .before .args .rows))
+    → Wrote (zeros 64) 0 (three (c .before .before .before .before .before .before .before .before .before .before .before .before .args .word) (c .before .before .before .before .before .before .before .before .before .before .before .before .args .messages) (c .before .before .before .before .before .before .before .before .before .before .before .before .args .bytes) (c .before .before .before .before .before .before .before .before .before .before .before .before .args .rows)) (c .before .put-number3 .result) (c .before .put-number3 .last .0)
 text-written c =
-    let a = c .before .before .before .before .before .before .before .before .before .before .before .before .args in
-    let f = numbered (c .before .before .before .before .before .before .before .before .before .before .put-word .last .0) (wordText (a .word)) (c .before .before .before .before .before .before .before .before .before .before .put-word .result) (a .messages) (c .before .before .before .before .before .before .before .before .before .before .put-word .ensures) (c .before .before .before .before .before .before .before .put-number .ensures) in
-    let g = numbered (c .before .before .before .before .before .before .before .put-number .last .0) (one (a .word) (a .messages)) (c .before .before .before .before .before .before .before .put-number .result) (a .bytes) f (c .before .before .before .before .put-number2 .ensures) in
-    numbered (c .before .before .before .before .put-number2 .last .0) (two (a .word) (a .messages) (a .bytes)) (c .before .before .before .before .put-number2 .result) (a .rows) g (c .before .put-number3 .ensures)
+    more-over 64 (more-over 64 (more-over 64 (c .before .before .before .before .before .before .before .before .before .before .put-word .ensures) (c .before .before .before .before .before .before .before .put-number .ensures)) (c .before .before .before .before .put-number2 .ensures)) (c .before .put-number3 .ensures)
 
 array-write-out : tie.Need-array-write-out
 array-write-out c = let a = c .before .before .before .before .before .before .before .before .before .before .before .before .args in
-    omega (arith, text-written c .0, length-three (a .word) (a .messages) (a .bytes) (a .rows) (omega arith) (omega arith) (omega arith))
+    omega (arith, text-written c .behind, length-three (a .word) (a .messages) (a .bytes) (a .rows) (omega arith) (omega arith) (omega arith))
 
 add-t22 : tie.Need-add-t22
 add-t22 c = let a = c .before .before .before .before .before .before .before .before .before .before .before .before .args in
-    omega (arith, text-written c .0, length-three (a .word) (a .messages) (a .bytes) (a .rows) (omega arith) (omega arith) (omega arith))
+    omega (arith, text-written c .behind, length-three (a .word) (a .messages) (a .bytes) (a .rows) (omega arith) (omega arith) (omega arith))
 
 returns : tie.Need-returns
 returns c = let a = c .before .before .before .before .before .before .before .before .before .before .before .before .args in
-    finished (c .before .put-number3 .last .0) (three (a .word) (a .messages) (a .bytes) (a .rows)) (c .before .put-number3 .result) (text-written c)
-    (omega (arith, length-three (a .word) (a .messages) (a .bytes) (a .rows) (omega arith) (omega arith) (omega arith)))
+    line-ends (text-written c) (omega (arith, length-three (a .word) (a .messages) (a .bytes) (a .rows) (omega arith) (omega arith) (omega arith)))
     ∙ ap lineOf (sym (answer-whole (a .word) (a .messages) (a .bytes) (a .rows)))
 
 pub answer-line-spec : {M : Type 1} → statement M

@@ -1,10 +1,14 @@
 -- `trace_lines::line::bad_line` meets its contract: words, a number and a newline, each behind what stands there. Assumes nothing.
-use mathlib.Core.List.{List, [], _∷_, _++_}
-use Prim.Native.Nat.{ℕ}
+use mathlib.Core.Path.{ap, _∙_}
+use mathlib.Core.List.{List, [], _∷_, _++_, append-assoc}
+use Prim.Native.Nat.{ℕ, _≤_}
 use native.Mathlib.Omega.{arith}
-use Rattle.decimal.specs.DecimalLaws.{length-digits}
-use Rattle.trace_lines.specs.Lines.{numberText, badLineText}
-use Rattle.trace_lines.proofs.Written.{Filled, number-room, numbered, status, status-room}
+use lib.ListN.{length, length-append}
+use Rattle.lent_bytes.specs.LentBytes.{zeros}
+use Rattle.text_pieces.specs.Text.{Wrote}
+use Rattle.text_pieces.specs.TextLaws.{few-digits, room-over, more-over}
+use Rattle.trace_lines.specs.Lines.{numberText, badLineText, lineOf}
+use Rattle.trace_lines.proofs.Written.{line-ends}
 use borrow.Author.Needs.{needs}
 use Rattle.trace_lines.proofs.line.bad_line.Statement.{statement}
 use Rattle.trace_lines.proofs.line.bad_line.Tie as tie
@@ -13,10 +17,12 @@ abbrev words : List ℕ
 words = 98 ∷ 97 ∷ 100 ∷ 32 ∷ 108 ∷ 105 ∷ 110 ∷ 101 ∷ []
 
 -- the words and the number stand at the front
-text-written : (c : tie.After-out4)
-    → Filled (c .before .put-number .last .0) (c .before .put-number .result) (words ++ numberText (c .before .before .before .before .before .before .before .args .number))
-text-written c =
-    numbered (c .before .before .before .before .put-text .last .0) words (c .before .before .before .before .put-text .result) (c .before .before .before .before .before .before .before .args .number) (c .before .before .before .before .put-text .ensures) (c .before .put-number .ensures)
+text-written : (c : tie.After-out4) → Wrote (zeros 64) 0 (words ++ numberText (c .before .before .before .before .before .before .before .args .number)) (c .before .put-number .result) (c .before .put-number .last .0)
+text-written c = more-over 64 (c .before .before .before .before .put-text .ensures) (c .before .put-number .ensures)
+
+-- and leave room for a newline
+text-fits : (n : ℕ) → length (words ++ numberText n) ≤ 29
+text-fits n = omega (arith, length-append words (numberText n), few-digits n)
 
 slice-aggregate-put-text : tie.Need-slice-aggregate-put-text
 slice-aggregate-put-text c = search needs
@@ -31,18 +37,19 @@ slice-aggregate-put-number : tie.Need-slice-aggregate-put-number
 slice-aggregate-put-number c = search needs
 
 put-number-requires : tie.Need-put-number-requires
-put-number-requires c κs = let a = c .before .before .before .before .before .args in
-    number-room (c .before .before .put-text .last .0) words (c .before .before .put-text .result) (a .number) (c .before .before .put-text .ensures) (omega (arith, length-digits 19 (a .number) (omega arith)))
+put-number-requires c κs = let n = c .before .before .before .before .before .args .number in
+    room-over 64 (c .before .before .put-text .ensures) (length (numberText n)) (omega (arith, few-digits n))
 
 array-write-out : tie.Need-array-write-out
-array-write-out c = status-room words (c .before .put-number .last .0) (c .before .put-number .result) (c .before .before .before .before .before .before .before .args .number) (text-written c) (omega arith) (omega arith)
+array-write-out c = omega (arith, text-written c .behind, text-fits (c .before .before .before .before .before .before .before .args .number))
 
 add-t15 : tie.Need-add-t15
-add-t15 c = omega (arith, status-room words (c .before .put-number .last .0) (c .before .put-number .result) (c .before .before .before .before .before .before .before .args .number) (text-written c) (omega arith) (omega arith))
+add-t15 c = omega (arith, text-written c .behind, text-fits (c .before .before .before .before .before .before .before .args .number))
 
 returns : tie.Need-returns
 unfolding badLineText
-returns c = status words (c .before .put-number .last .0) (c .before .put-number .result) (c .before .before .before .before .before .before .before .args .number) (text-written c) (omega arith) (omega arith)
+returns c = let n = c .before .before .before .before .before .before .before .args .number in
+    line-ends (text-written c) (omega (arith, text-fits n)) ∙ ap lineOf (append-assoc words (numberText n) (10 ∷ []))
 
 pub bad-line-spec : {M : Type 1} → statement M
 bad-line-spec =
