@@ -1,8 +1,8 @@
 -- `checksum::add_bytes` adds every byte. The invariant: the first `i` are added. The measure is what is left. Assumes nothing.
 use mathlib.Core.Path.{_≡_, refl, _∙_, ap}
-use Prim.Native.Nat.{ℕ, _-_, _≤_}
+use Prim.Native.Nat.{_-_, _≤_}
 use native.Mathlib.Omega.{arith}
-use lib.ListN.{length, take, getD}
+use lib.ListN.{length, take}
 use lib.Seq.{take-all}
 use Rattle.replay.specs.Checksum.{added, allAdded}
 use Rattle.replay.specs.ChecksumLaws.{added-next}

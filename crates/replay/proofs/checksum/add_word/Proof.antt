@@ -1,6 +1,5 @@
 -- `checksum::add_word` adds both halves. Assumes nothing.
-use mathlib.Core.Path.{refl}
-use Rattle.replay.specs.Checksum.{added, wordAdded}
+use Rattle.replay.specs.Checksum.{wordAdded}
 use borrow.Author.Needs.{needs}
 use Rattle.replay.proofs.checksum.add_word.Statement.{statement}
 use Rattle.replay.proofs.checksum.add_word.Tie as tie

@@ -1,5 +1,4 @@
 -- `key_of` gives the first 33 bytes of five words: four words written one after the other, and one byte of the fifth. Assumes nothing.
-use mathlib.Core.Path.{refl}
 use Rattle.lent_bytes.specs.LentBytes.{put}
 use Rattle.replay.specs.Record.{keyOf}
 use borrow.Author.Needs.{needs}
