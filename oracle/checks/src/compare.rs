@@ -10,9 +10,9 @@ use crate::trace::{Kind, Trace, MAKING};
 use std::time::{Duration, Instant};
 use vocabulary::{Answer, Original, Port, Words};
 
-/// Of a thousand calls, so many are of each kind (more of the others where the port has no gossip or no snapshots); a kind of no table is quick, an input is as much work as its events.
+/// Of 1,150 calls, so many are of each kind (more of the others where the port has no gossip or no snapshots); a kind of no table is quick, an input is as much work as its events.
 const SHARES: [(Kind, u64); 15] = [
-    (Kind::Peers, 350),
+    (Kind::Peers, 450),
     (Kind::Buckets, 130),
     (Kind::Amounts, 80),
     (Kind::Settings, 5),
@@ -25,8 +25,8 @@ const SHARES: [(Kind, u64); 15] = [
     (Kind::BanRefusals, 5),
     (Kind::LimiterRefusals, 5),
     (Kind::GossipRefusals, 10),
-    (Kind::Snapshots, 60),
-    (Kind::SnapshotRefusals, 40),
+    (Kind::Snapshots, 80),
+    (Kind::SnapshotRefusals, 70),
 ];
 
 /// So many mismatches are made small, and shown unless they come out the same; all are counted.
@@ -57,10 +57,10 @@ pub fn run(original: &mut dyn Original, port: &dyn Port, options: &Options) -> O
     run_kinds(original, port, options, &|_| true)
 }
 
-/// The kinds about the gossip policy alone, or all others.
+/// The kinds about the gossip policy alone, or all others but the snapshots, which no edit of the Rust touches.
 pub fn run_part(part: Part, original: &mut dyn Original, port: &dyn Port, options: &Options) -> Outcome {
     run_kinds(original, port, options, &|kind| {
-        kind.gossip_subject().is_some() == (part == Part::Gossip)
+        kind.gossip_subject().is_some() == (part == Part::Gossip) && !kind.is_of_snapshots()
     })
 }
 

@@ -41,7 +41,7 @@ const fn judged(name: &'static str, harm: fn(&mut Harmed, u64) -> Option<()>) ->
     Sort { name, demand, harm }
 }
 
-const SORTS: [Sort; 39] = [
+const SORTS: [Sort; 40] = [
     read("as it was written", |_, _| Some(())),
     read("no rows", no_rows),
     read("limit 0", limit_0),
@@ -67,7 +67,8 @@ const SORTS: [Sort; 39] = [
     refused(LAYOUT, "a u32 setting above its range", setting_above_range),
     refused(LIMIT_LARGE, "limit above 1,024", limit_above),
     refused(UNSOUND, "messages in flight above u32", messages_above_range),
-    refused(UNSOUND, "more rows than the limit", rows_above_limit),
+    refused(UNSOUND, "a limit below the rows", limit_below_rows),
+    refused(UNSOUND, "a row above the limit", row_above_limit),
     refused(UNSOUND, "two keys equal", |h, n| unsound(h, n, 0)),
     refused(UNSOUND, "keys descend", |h, n| unsound(h, n, 1)),
     refused(UNSOUND, "message tokens above the burst", |h, n| unsound(h, n, 5)),
@@ -337,10 +338,10 @@ fn bytes_told_as_rows(harmed: &mut Harmed, chosen: u64) -> Option<()> {
 }
 
 fn row_cut_short(harmed: &mut Harmed, chosen: u64) -> Option<()> {
+    harmed.state.rows.last()?;
     let fewer = 1 + chosen as usize % ROW;
-    let left = (harmed.snapshot.len() - fewer).max(ROWS_AT);
-    harmed.snapshot.truncate(left);
-    (!harmed.state.rows.is_empty()).then_some(())
+    harmed.snapshot.truncate(harmed.snapshot.len() - fewer);
+    Some(())
 }
 
 fn row_cut_short_told(harmed: &mut Harmed, chosen: u64) -> Option<()> {
@@ -383,10 +384,21 @@ fn messages_above_range(harmed: &mut Harmed, chosen: u64) -> Option<()> {
     Some(())
 }
 
-fn rows_above_limit(harmed: &mut Harmed, chosen: u64) -> Option<()> {
+fn limit_below_rows(harmed: &mut Harmed, chosen: u64) -> Option<()> {
     let rows = harmed.state.rows.len() as u64;
     let limit = 1 + chosen.checked_rem(rows.checked_sub(1)?)?;
     harmed.put_setting(MAX_TRACKED, limit);
+    Some(())
+}
+
+/// Where there are as many rows as the limit, one more behind them.
+fn row_above_limit(harmed: &mut Harmed, _: u64) -> Option<()> {
+    let mut state = harmed.state.clone();
+    let key = [0xff; 33];
+    let is_full = state.rows.len() as u64 == state.settings.row_limit();
+    let last = state.rows.last().filter(|row| is_full && row.key < key)?;
+    state.rows.push(Row { key, ..*last });
+    harmed.snapshot = form::written(&state);
     Some(())
 }
 
