@@ -111,7 +111,7 @@ fn row_at(snapshot: &[u8], at: u64, seed: u64) -> Row {
 fn add_policy(policy: Policy, table: &[u8], written: Written, output: &[u8]) -> u64 {
     let longs = policy.longs;
     let shorts = policy.shorts;
-    let words = add_shorts(add_words(0, &longs), &shorts);
+    let words = add_shorts(add_words(0, &longs), shorts);
     add_bytes(add_word(add_bytes(words, table), written.length), output)
 }
 

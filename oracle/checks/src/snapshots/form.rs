@@ -172,3 +172,37 @@ pub fn row_at(bytes: &[u8], at: u64) -> Result<Option<(Row, u64)>, u32> {
     let row = layout::get_row(&bytes[at as usize..]);
     Ok(Some((row, at + ROW as u64)))
 }
+
+#[cfg(test)]
+mod tests {
+    use super::*;
+
+    /// Numbers 1 to 22 in their order: nine settings, the load, one row.
+    #[test]
+    fn a_state_by_hand() {
+        let state = PeerState {
+            settings: Settings::from_words(&[1, 2, 3, 4, 5, 6, 7, 8, 9]).unwrap(),
+            in_flight_messages: 10,
+            in_flight_bytes: 11,
+            rows: vec![Row {
+                key: [0xee; 33],
+                numbers: std::array::from_fn(|at| at as u64 + 12),
+            }],
+        };
+        let contents = [
+            [3, 0].as_slice(),
+            &[1, 0, 32, 0, 0, 0, 72, 0, 0, 0],
+            &[2, 0, 104, 0, 0, 0, 16, 0, 0, 0],
+            &[3, 0, 120, 0, 0, 0, 121, 0, 0, 0],
+        ];
+        let number = |n: u8| [n, 0, 0, 0, 0, 0, 0, 0];
+        let mut expected = contents.concat();
+        expected.extend((1..=11).flat_map(number));
+        expected.extend([0xee; 33]);
+        expected.extend((12..=22).flat_map(number));
+        assert_eq!(written(&state), expected);
+        assert_eq!(place_of(&expected, 3), Ok([120, 241]));
+        assert_eq!(row_at(&expected, 120), Ok(Some((state.rows[0], 241))));
+        assert_eq!(row_at(&expected, 241), Ok(None));
+    }
+}
