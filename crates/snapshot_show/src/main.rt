@@ -4,6 +4,7 @@ ghost use mathlib.Core.Path.{_≡_};
 ghost use Prim.Native.Nat.{_<_};
 ghost use lib.ListN.{length};
 ghost use Rattle.snapshot_text.specs.Shown.{longestSnapshot};
+use snapshot_text::line::LINE_SIZE;
 use snapshot_text::line::Line;
 use snapshot_text::scan::next;
 use snapshot_text::scan::open;
@@ -56,7 +57,7 @@ fn write_lines(input: &[u8], table: &mut [u8]) -> bool {
 fn write_line(line: Line) -> bool {
     let bytes = line.bytes;
     let length = line.length;
-    if length > 300 {
+    if length > LINE_SIZE {
         return standard::write(&bytes);
     }
     standard::write(&bytes[..length])

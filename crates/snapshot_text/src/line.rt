@@ -13,7 +13,7 @@ use text_pieces::piece::put_refusal;
 use text_pieces::piece::put_text;
 
 // The longest line: 66 digits of a key, eleven numbers of up to 20 digits behind a blank each, and a newline are 298.
-const LINE_SIZE: usize = 300;
+pub const LINE_SIZE: usize = 300;
 
 // A line with its newline; the bytes behind its length are zero.
 pub struct Line {

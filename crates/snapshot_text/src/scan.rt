@@ -2,6 +2,7 @@
 ghost use mathlib.Core.Path.{_≡_};
 ghost use Prim.Native.Nat.{_≤_};
 ghost use Rattle.snapshot_text.specs.Scan.{begun, following, rowHanded, ended, refusedNext, policyNext, nextOf, OpenMeets};
+use super::line::LINE_SIZE;
 use super::line::Line;
 use super::line::head_line;
 use super::line::number_line;
@@ -79,7 +80,7 @@ fn ended(scan: Scan) -> Handed
     Handed {
         done: true,
         line: Line {
-            bytes: [0u8; 300],
+            bytes: [0u8; LINE_SIZE],
             length: 0,
         },
         scan,
