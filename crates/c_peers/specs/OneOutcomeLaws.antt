@@ -9,9 +9,10 @@ use Rattle.peer_message_policy.specs.declared.answer.InFlight.the-variants as I
 use Rattle.peer_message_policy.specs.declared.answer.HeldTime.{HeldTime}
 use Rattle.peer_message_policy.specs.declared.answer.HeldTime.the-variants as HeldTime
 use Rattle.peer_laws.specs.OneOutcome as Calls
+use Rattle.c_terms.specs.SomeLaws.{some-one, some-alone}
 use Rattle.c_words.specs.Words.{configOf, policyOf}
 use Rattle.c_words.specs.Answers.{madeTold, admissionTold, invalidTold, standingTold, changedTold}
-use Rattle.c_words.specs.LeavesLaws.{some-one, Alike, leaves-one}
+use Rattle.c_words.specs.LeavesLaws.{Alike, leaves-one}
 use Rattle.c_peers.specs.Exported.{
   keyOf,
   NewExported,
@@ -61,9 +62,8 @@ module _ (longs shorts : List ℕ) {r q : ℕ} {longs' longs'' shorts' shorts'' 
 
   pub release-ingress-one : (size : ℕ) → ReleaseIngressExported longs shorts size r longs' shorts'
       → ReleaseIngressExported longs shorts size q longs'' shorts'' → Alike r q longs' longs'' shorts' shorts''
-  release-ingress-one size h k =
-      some-one (λ a b m n. (Calls.release-ingress-one (policyOf longs shorts) size {r = a} {q = b} m n, tt {0}))
-      (λ a. leaves-one (changedTold a) longs shorts) h k .0
+  release-ingress-one size =
+      some-alone (λ a b. Calls.release-ingress-one (policyOf longs shorts) size {r = a} {q = b}) (λ a. leaves-one (changedTold a) longs shorts)
 
 -- ════ The calls that only read the words ══════════════════════════════════════════════════════════
 
@@ -80,10 +80,9 @@ time-left (HeldTime.Refused n) held h k = (one-outcome (h .0) (k .0), one-outcom
 module _ (longs shorts : List ℕ) {r q : ℕ} where
   pub in-flight-one : (numbers : List ℕ) {first second : List ℕ} → InFlightExported longs shorts numbers r first
       → InFlightExported longs shorts numbers q second → (r ≡ q) × (first ≡ second)
-  in-flight-one numbers h k =
-      some-one (λ a b m n. (Calls.in-flight-one (policyOf longs shorts) {r = a} {q = b} m n, tt {0})) (λ a. in-flight-left a numbers) h k .0
+  in-flight-one numbers = some-alone (λ a b. Calls.in-flight-one (policyOf longs shorts) {r = a} {q = b}) (λ a. in-flight-left a numbers)
 
   pub held-time-one : (table k : List ℕ) (given held : ℕ) {first second : ℕ} → HeldTimeExported longs shorts table k given held r first
       → HeldTimeExported longs shorts table k given held q second → (r ≡ q) × (first ≡ second)
-  held-time-one table k given held m n =
-      some-one (λ a b x y. (Calls.held-time-one (policyOf longs shorts) table (keyOf k) given {r = a} {q = b} x y, tt {0})) (λ a. time-left a held) m n .0
+  held-time-one table k given held =
+      some-alone (λ a b. Calls.held-time-one (policyOf longs shorts) table (keyOf k) given {r = a} {q = b}) (λ a. time-left a held)

@@ -4,7 +4,7 @@ use mathlib.Core.Path.{_≡_}
 use mathlib.Core.List.{List}
 use Prim.Native.Nat.{ℕ}
 use Rattle.refusal.specs.OneOutcome.{one-outcome}
-use Rattle.c_words.specs.LeavesLaws.{some-one}
+use Rattle.c_terms.specs.SomeLaws.{some-one}
 use Rattle.trace.specs.declared.scan.Scan.{Scan}
 use Rattle.trace.specs.declared.scan.Handed.{Handed}
 use Rattle.trace.specs.Scan.{openOf}

@@ -1,21 +1,12 @@
--- At most one outcome behind the C boundary: a call that has one answer, told in numbers and words, leaves one number and the same words.
--- Assumes nothing.
-use mathlib.Core.Path.{_≡_, subst}
+-- At most one outcome behind the C boundary: what is told leaves one number and the same words. That the exported function then has one
+-- outcome is `some-one` of crate `c_terms`. Assumes nothing.
+use mathlib.Core.Path.{_≡_}
 use mathlib.Core.List.{List}
 use Prim.Native.Nat.{ℕ}
 use Rattle.refusal.specs.OneOutcome.{one-outcome}
-use Rattle.refusal.specs.Some.{Some}
 use Rattle.c_words.specs.declared.answers.Told.{Told}
 use Rattle.c_words.specs.declared.answers.Told.the-variants.{Answered, Refused}
 use Rattle.c_words.specs.Words.{Leaves}
-
--- where the call has one answer, with what else it determines, and an answer leaves one thing, so does the exported function
-pub some-one : {A : Type 0} {meets left meets' left' : A → Type 0} {Else Left : Type 0}
-    → ((a b : A) → meets a → meets' b → (a ≡ b) × Else) → ((a : A) → left a → left' a → Left) → Some meets left → Some meets' left'
-    → Left × Else
-some-one {left = left} one leaves h k =
-    let same = one (h .answer) (k .answer) (h .met) (k .met) in
-    (leaves (k .answer) (subst left (same .0) (h .leaves)) (k .leaves), same .1)
 
 -- two numbers, and two policies in words, are the same
 pub record Alike (r r' : ℕ) (l l' s s' : List ℕ) : Type 0 where
