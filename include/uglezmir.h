@@ -29,6 +29,7 @@
 #define UGLEZMIR_GOSSIP_LONGS 10
 #define UGLEZMIR_GOSSIP_SHORTS 6
 #define UGLEZMIR_TRACE_PLACES 3
+#define UGLEZMIR_SNAPSHOT_ROW_NUMBERS 12
 
 /* How many bytes keys, rows and lines have, and how many rows a table has at most. A table has its limit's rows at least, and 0 counts as 1; the
  * gossip state's two tables have all 1,024. */
@@ -39,6 +40,7 @@
 #define UGLEZMIR_LIMITER_ROW 94
 #define UGLEZMIR_OUTBOUND_ROW 65
 #define UGLEZMIR_TRACE_LINE 64
+#define UGLEZMIR_SNAPSHOT_WITHOUT_ROWS 120
 #define UGLEZMIR_MOST_ROWS 1024
 
 /* Refusals: a number below FIRST_ANSWER. UNKNOWN: there is no such operation or violation, or a division by 0. TOO_SHORT: a table is shorter than
@@ -106,6 +108,23 @@
 #define UGLEZMIR_GOSSIP_LONG_QUEUE_CAPACITY 9
 #define UGLEZMIR_GOSSIP_SHORT_BAN_THRESHOLD 0
 #define UGLEZMIR_GOSSIP_SHORT_GLOBAL_AVAILABLE 1
+
+/* The parts of a snapshot, and the numbers of one of its rows; behind them stands where the next row begins. */
+#define UGLEZMIR_SNAPSHOT_KIND_SETTINGS 1
+#define UGLEZMIR_SNAPSHOT_KIND_LOAD 2
+#define UGLEZMIR_SNAPSHOT_KIND_ROWS 3
+#define UGLEZMIR_SNAPSHOT_ROW_MESSAGES_AVAILABLE 0
+#define UGLEZMIR_SNAPSHOT_ROW_MESSAGES_LAST_REFILL_MS 1
+#define UGLEZMIR_SNAPSHOT_ROW_BYTES_AVAILABLE 2
+#define UGLEZMIR_SNAPSHOT_ROW_BYTES_LAST_REFILL_MS 3
+#define UGLEZMIR_SNAPSHOT_ROW_VIOLATIONS 4
+#define UGLEZMIR_SNAPSHOT_ROW_VIOLATIONS_STARTED_AT_MS 5
+#define UGLEZMIR_SNAPSHOT_ROW_INVALID 6
+#define UGLEZMIR_SNAPSHOT_ROW_INVALID_STARTED_AT_MS 7
+#define UGLEZMIR_SNAPSHOT_ROW_BAN_MARK 8
+#define UGLEZMIR_SNAPSHOT_ROW_BANNED_UNTIL_MS 9
+#define UGLEZMIR_SNAPSHOT_ROW_LAST_USED_MS 10
+#define UGLEZMIR_SNAPSHOT_ROW_NEXT_PLACE 11
 
 /* Violations. */
 #define UGLEZMIR_VIOLATION_INVALID_SYNC_RESPONSE 0
@@ -256,6 +275,24 @@ uint32_t uglezmir_limiter(uint32_t operation, uint64_t longs[UGLEZMIR_LIMITER_LO
 uint32_t uglezmir_gossip(uint32_t operation, uint64_t longs[UGLEZMIR_GOSSIP_LONGS], uint32_t shorts[UGLEZMIR_GOSSIP_SHORTS],
     uint8_t *ban_table, size_t ban_table_length, uint8_t *outbound_table, size_t outbound_table_length,
     const uint8_t peer[UGLEZMIR_PEER_KEY], uint32_t violation, uint64_t bytes, uint64_t now_ms, uint64_t value[1]);
+
+/* ---- libc_snapshot.a: snapshots of a peer policy */
+
+/* Writes a policy, and leaves how many bytes of the output became the snapshot: SNAPSHOT_WITHOUT_ROWS, and PEER_ROW a row. DONE, or 3, 1. */
+uint32_t uglezmir_snapshot_write(const uint64_t longs[UGLEZMIR_POLICY_LONGS], const uint32_t shorts[UGLEZMIR_POLICY_SHORTS],
+    const uint8_t *table, size_t table_length, uint8_t *output, size_t output_length, uint64_t *length);
+
+/* Leaves the policy that the snapshot describes; what the words held before is not read. DONE, or 6, 2, 3, 1. */
+uint32_t uglezmir_snapshot_read(uint64_t longs[UGLEZMIR_POLICY_LONGS], uint32_t shorts[UGLEZMIR_POLICY_SHORTS], const uint8_t *snapshot,
+    size_t snapshot_length, uint8_t *table, size_t table_length);
+
+/* Leaves where the part of a kind begins and ends, SNAPSHOT_KIND_.. DONE, or 6. */
+uint32_t uglezmir_snapshot_place(const uint8_t *snapshot, size_t snapshot_length, uint32_t kind, uint64_t place[2]);
+
+/* Leaves the row at a place, SNAPSHOT_ROW_..; the first one's place is where the part of the rows begins. DONE, NO where all rows were given,
+ * or 6. */
+uint32_t uglezmir_snapshot_row(const uint8_t *snapshot, size_t snapshot_length, uint64_t at, uint8_t key[UGLEZMIR_PEER_KEY],
+    uint64_t numbers[UGLEZMIR_SNAPSHOT_ROW_NUMBERS]);
 
 /* ---- libc_trace.a: an input of the trace program, line by line */
 

@@ -3,6 +3,7 @@
 use crate::buckets::{Amount, ByteLongs, DiscreteLongs, DiscreteShorts, LimitWords, SettingsLongs, SettingsShorts};
 use crate::gossip::{BanLongs, BanShorts, GossipLongs, GossipShorts, LimiterLongs, LimiterShorts};
 use crate::peers::{PolicyLongs, PolicyShorts};
+use crate::snapshots::{PartPlace, RowNumbers};
 use crate::traces::{Line, Place};
 use crate::{OutPointKey, PeerKey};
 
@@ -125,6 +126,40 @@ extern "C" {
         bytes: u64,
         now_ms: u64,
         value: &mut [u64; 1],
+    ) -> u32;
+}
+
+// Crate c_snapshot.
+extern "C" {
+    pub fn uglezmir_snapshot_write(
+        longs: &PolicyLongs,
+        shorts: &PolicyShorts,
+        table: *const u8,
+        table_length: usize,
+        output: *mut u8,
+        output_length: usize,
+        length: &mut u64,
+    ) -> u32;
+    pub fn uglezmir_snapshot_read(
+        longs: &mut PolicyLongs,
+        shorts: &mut PolicyShorts,
+        snapshot: *const u8,
+        snapshot_length: usize,
+        table: *mut u8,
+        table_length: usize,
+    ) -> u32;
+    pub fn uglezmir_snapshot_place(
+        snapshot: *const u8,
+        snapshot_length: usize,
+        kind: u32,
+        place: &mut PartPlace,
+    ) -> u32;
+    pub fn uglezmir_snapshot_row(
+        snapshot: *const u8,
+        snapshot_length: usize,
+        at: u64,
+        key: &mut PeerKey,
+        numbers: &mut RowNumbers,
     ) -> u32;
 }
 

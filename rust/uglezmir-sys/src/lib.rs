@@ -14,6 +14,7 @@ pub mod ffi;
 pub mod gossip;
 pub mod numbers;
 pub mod peers;
+pub mod snapshots;
 pub mod traces;
 
 /// A peer's key.

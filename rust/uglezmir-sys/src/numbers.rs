@@ -17,6 +17,7 @@ pub const LIMITER_SHORTS: usize = 1;
 pub const GOSSIP_LONGS: usize = 10;
 pub const GOSSIP_SHORTS: usize = 6;
 pub const TRACE_PLACES: usize = 3;
+pub const SNAPSHOT_ROW_NUMBERS: usize = 12;
 
 // How many bytes keys, rows and lines have, and how many rows a table has at most.
 pub const PEER_KEY: usize = 33;
@@ -26,6 +27,7 @@ pub const BAN_ROW: usize = 65;
 pub const LIMITER_ROW: usize = 94;
 pub const OUTBOUND_ROW: usize = 65;
 pub const TRACE_LINE: usize = 64;
+pub const SNAPSHOT_WITHOUT_ROWS: usize = 120;
 pub const MOST_ROWS: usize = 1024;
 
 // Refusals: a number below FIRST_ANSWER. A refused call changes nothing.
@@ -90,6 +92,23 @@ pub const GOSSIP_LONG_OUTBOUND_ROWS: usize = 8;
 pub const GOSSIP_LONG_QUEUE_CAPACITY: usize = 9;
 pub const GOSSIP_SHORT_BAN_THRESHOLD: usize = 0;
 pub const GOSSIP_SHORT_GLOBAL_AVAILABLE: usize = 1;
+
+// The parts of a snapshot, and the numbers of one of its rows; behind them stands where the next row begins.
+pub const SNAPSHOT_KIND_SETTINGS: u32 = 1;
+pub const SNAPSHOT_KIND_LOAD: u32 = 2;
+pub const SNAPSHOT_KIND_ROWS: u32 = 3;
+pub const SNAPSHOT_ROW_MESSAGES_AVAILABLE: usize = 0;
+pub const SNAPSHOT_ROW_MESSAGES_LAST_REFILL_MS: usize = 1;
+pub const SNAPSHOT_ROW_BYTES_AVAILABLE: usize = 2;
+pub const SNAPSHOT_ROW_BYTES_LAST_REFILL_MS: usize = 3;
+pub const SNAPSHOT_ROW_VIOLATIONS: usize = 4;
+pub const SNAPSHOT_ROW_VIOLATIONS_STARTED_AT_MS: usize = 5;
+pub const SNAPSHOT_ROW_INVALID: usize = 6;
+pub const SNAPSHOT_ROW_INVALID_STARTED_AT_MS: usize = 7;
+pub const SNAPSHOT_ROW_BAN_MARK: usize = 8;
+pub const SNAPSHOT_ROW_BANNED_UNTIL_MS: usize = 9;
+pub const SNAPSHOT_ROW_LAST_USED_MS: usize = 10;
+pub const SNAPSHOT_ROW_NEXT_PLACE: usize = 11;
 
 // Violations.
 pub const VIOLATION_INVALID_SYNC_RESPONSE: u32 = 0;

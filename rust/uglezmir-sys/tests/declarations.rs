@@ -137,7 +137,7 @@ fn of_c(text: &str, numbers: &Numbers) -> Functions {
             let (type_of, named) = rest.split_once(' ').unwrap();
             match (type_of, named.strip_prefix('*'), named.split_once('[')) {
                 ("size_t", ..) => "length".to_string(),
-                (_, Some("value"), _) => format!("{access} 1 {}", item(type_of)),
+                (_, Some("value" | "length"), _) => format!("{access} 1 {}", item(type_of)),
                 (_, Some(_), _) => format!("{access} many {}", item(type_of)),
                 (_, _, Some((_, count))) => {
                     format!(

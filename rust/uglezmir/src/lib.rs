@@ -18,6 +18,8 @@
 //!   | [`refund_outbound_message`](gossip_policy::GossipPolicyState::refund_outbound_message) | likewise | nothing, and does nothing |
 //!
 //! - **Ties** in gossip eviction fall to the smallest key, where the Rust leaves them to its map's order.
+//! - **Snapshots**, which the Rust has not: [`to_bytes`](peer_message_policy::PeerMessagePolicy::to_bytes) and
+//!   [`from_bytes`](peer_message_policy::PeerMessagePolicy::from_bytes) of the peers' policies.
 //! - **No serde, no logging.** All settings have public fields; serde's `remote` derive serves them.
 //!
 //! Every policy owns its memory, sized by its limit when it is made; no call allocates. All types are `Send` and `Sync`. No call panics.

@@ -67,9 +67,8 @@ impl HeldPeerMessagePolicy {
 
     /// As [`PeerMessagePolicy::admit`], at the peer's held time.
     pub fn admit<Owner>(&mut self, peer: &impl Key<PEER_KEY, Owner>, bytes: u64, now_ms: u64) -> PeerMessageAdmission {
-        let peer = peer.key_bytes();
-        let held_ms = self.policy.held_time(&peer, now_ms);
-        self.policy.admit(&peer, bytes, held_ms)
+        self.try_admit(peer, bytes, now_ms)
+            .unwrap_or(PeerMessageAdmission::Disconnect)
     }
 
     /// As [`PeerMessagePolicy::try_admit`], at the peer's held time.
@@ -109,5 +108,16 @@ impl HeldPeerMessagePolicy {
     /// As [`PeerMessagePolicy::in_flight`].
     pub fn in_flight(&self) -> (u32, u64) {
         self.policy.in_flight()
+    }
+
+    /// As [`PeerMessagePolicy::to_bytes`]. The time at which each peer was last judged is part of it.
+    pub fn to_bytes(&self) -> Vec<u8> {
+        self.policy.to_bytes()
+    }
+
+    /// As [`PeerMessagePolicy::from_bytes`], of what either policy wrote. Nothing is proved of the share of a peer since before it was written.
+    pub fn from_bytes(snapshot: &[u8]) -> Result<Self, Refusal> {
+        let policy = PeerMessagePolicy::from_bytes(snapshot)?;
+        Ok(Self { policy })
     }
 }

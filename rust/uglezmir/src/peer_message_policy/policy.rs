@@ -1,11 +1,13 @@
 use super::PeerMessagePolicyConfig;
 use crate::answer::{done, told};
-use crate::{table, Key, Refusal, PEER_KEY};
+use crate::{table, Key, Refusal, MOST_ROWS, PEER_KEY};
 use std::fmt;
 use uglezmir_sys::numbers::{
-    ALLOW, BAN, DISCONNECT, PEER_ROW, POLICY_LONGS, POLICY_LONG_ROWS, POLICY_SHORTS, SETTINGS_LONGS, SETTINGS_SHORTS,
+    ALLOW, BAN, DISCONNECT, PEER_ROW, POLICY_LONGS, POLICY_LONG_MAX_TRACKED_PEERS, POLICY_LONG_ROWS, POLICY_SHORTS,
+    SETTINGS_LONGS, SETTINGS_SHORTS, SNAPSHOT_WITHOUT_ROWS,
 };
 use uglezmir_sys::peers::{self, PolicyLongs, PolicyShorts};
+use uglezmir_sys::snapshots;
 
 /// The verdict on a message.
 #[derive(Clone, Copy, Debug, PartialEq, Eq)]
@@ -143,6 +145,58 @@ impl PeerMessagePolicy {
         let mut numbers = [0; 2];
         peers::in_flight(&self.longs, &self.shorts, &mut numbers);
         (numbers[0] as u32, numbers[1])
+    }
+
+    /// The whole policy as bytes: settings, load in flight and every peer, 120 bytes and 121 for each that is tracked. The layout is the library's
+    /// own (document 01, "Snapshot"), the same on every machine.
+    ///
+    /// ```
+    /// use uglezmir::peer_message_policy::{PeerMessageAdmission::*, PeerMessagePolicy, PeerMessagePolicyConfig};
+    /// use uglezmir::Refusal;
+    ///
+    /// let config = PeerMessagePolicyConfig { peer_message_burst: 1, ..Default::default() };
+    /// let mut policy = PeerMessagePolicy::new(config)?;
+    /// assert_eq!(policy.admit(&[2u8; 33], 300, 50), Allow);
+    /// let bytes = policy.to_bytes();
+    /// assert_eq!(bytes.len(), 120 + 121);
+    ///
+    /// let mut again = PeerMessagePolicy::from_bytes(&bytes)?;
+    /// assert_eq!(again.in_flight(), (1, 300));
+    /// assert_eq!(again.admit(&[2u8; 33], 300, 50), Disconnect); // its bucket is as empty as it was
+    /// assert_eq!(PeerMessagePolicy::from_bytes(&bytes[1..]).unwrap_err(), Refusal::WrongLayout);
+    /// # Ok::<(), Refusal>(())
+    /// ```
+    pub fn to_bytes(&self) -> Vec<u8> {
+        let rows = self.longs[POLICY_LONG_ROWS] as usize;
+        let mut output = vec![0; SNAPSHOT_WITHOUT_ROWS + rows * PEER_ROW];
+        let mut length = 0;
+        // Never refused: a policy that was made is sound, and the output has just the length.
+        snapshots::write(&self.longs, &self.shorts, &self.table, &mut output, &mut length);
+        output.truncate(length as usize);
+        output
+    }
+
+    /// The policy that [`to_bytes`](Self::to_bytes) wrote: from then on it answers as the one that was written. It is proved that what is written is
+    /// read back, and that what is read would be written again, byte for byte.
+    ///
+    /// Refused with [`Refusal::WrongLayout`], [`Refusal::LimitTooLarge`] or [`Refusal::Unsound`], in this order, where the bytes are anything else.
+    /// Bytes that were made up with care can describe any sound state, say a peer with a full bucket: read back what you wrote.
+    pub fn from_bytes(snapshot: &[u8]) -> Result<Self, Refusal> {
+        let mut policy = Self {
+            longs: [0; POLICY_LONGS],
+            shorts: [0; POLICY_SHORTS],
+            table: table(MOST_ROWS, PEER_ROW),
+        };
+        done(snapshots::read(
+            &mut policy.longs,
+            &mut policy.shorts,
+            snapshot,
+            &mut policy.table,
+        ))?;
+        let limit = policy.longs[POLICY_LONG_MAX_TRACKED_PEERS] as usize;
+        let rows = &policy.table[..limit.clamp(1, MOST_ROWS) * PEER_ROW];
+        policy.table = rows.into();
+        Ok(policy)
     }
 
     /// The words of a policy to be made, and memory for its limit.
