@@ -1,46 +1,7 @@
-//! The functions of crate `c_buckets` behind safe ones: buckets, settings and amounts by themselves. The types here
-//! rule out what its callers answer for: null, and two lendings of the same memory.
+//! Buckets, settings and amounts by themselves (crate `c_buckets`).
 
+use uglezmir_sys::buckets::{self, Amount as AmountWords};
 use vocabulary::{Amount, Answer, ByteBucket, DiscreteBucket, Settings};
-
-/// An amount as it crosses: a sign and four limbs, the least first.
-type AmountWords = [u32; 5];
-
-mod c {
-    use super::AmountWords;
-
-    extern "C" {
-        pub fn uglezmir_discrete(
-            operation: u32,
-            longs: &mut [u64; 2],
-            shorts: &mut [u32; 2],
-            now_ms: u64,
-            value: &mut u64,
-        ) -> u32;
-        pub fn uglezmir_byte(
-            operation: u32,
-            longs: &mut [u64; 3],
-            available: &mut AmountWords,
-            bytes: u64,
-            now_ms: u64,
-            value: &mut u64,
-        ) -> u32;
-        pub fn uglezmir_amount(
-            operation: u32,
-            first: &AmountWords,
-            second: &AmountWords,
-            n: u64,
-            m: u64,
-            result: &mut AmountWords,
-            value: &mut u64,
-        ) -> u32;
-        pub fn uglezmir_settings(operation: u32, longs: &mut [u64; 6], shorts: &mut [u32; 3]) -> u32;
-        pub fn uglezmir_limit(operation: u32, words: &mut [u64; 2]) -> u32;
-    }
-}
-
-// SAFETY, of all: the functions take any values (none has a `requires`), the pointers are those of arrays that are
-// borrowed for the call, and no two of them overlap.
 
 fn answer(number: u32, value: u64) -> Answer {
     Answer {
@@ -53,7 +14,7 @@ pub fn discrete(operation: u32, bucket: &mut DiscreteBucket, now: u64) -> Answer
     let mut longs = [bucket.interval, bucket.last_refill];
     let mut shorts = [bucket.capacity, bucket.available];
     let mut value = 0;
-    let number = unsafe { c::uglezmir_discrete(operation, &mut longs, &mut shorts, now, &mut value) };
+    let number = buckets::discrete(operation, &mut longs, &mut shorts, now, &mut value);
     [bucket.interval, bucket.last_refill] = longs;
     [bucket.capacity, bucket.available] = shorts;
     answer(number, value)
@@ -63,7 +24,7 @@ pub fn byte(operation: u32, bucket: &mut ByteBucket, bytes: u64, now: u64) -> An
     let mut longs = [bucket.rate, bucket.burst, bucket.last_refill];
     let mut available = amount_words(&bucket.available);
     let mut value = 0;
-    let number = unsafe { c::uglezmir_byte(operation, &mut longs, &mut available, bytes, now, &mut value) };
+    let number = buckets::byte(operation, &mut longs, &mut available, bytes, now, &mut value);
     [bucket.rate, bucket.burst, bucket.last_refill] = longs;
     bucket.available = amount_of(&available);
     answer(number, value)
@@ -74,7 +35,7 @@ pub fn amount(operation: u32, first: &Amount, second: &Amount, n: u64, m: u64) -
     let (first, second) = (amount_words(first), amount_words(second));
     let mut result = [0; 5];
     let mut value = 0;
-    let number = unsafe { c::uglezmir_amount(operation, &first, &second, n, m, &mut result, &mut value) };
+    let number = buckets::amount(operation, &first, &second, n, m, &mut result, &mut value);
     (answer(number, value), amount_of(&result))
 }
 
@@ -89,7 +50,7 @@ pub fn settings(operation: u32, settings: &mut Settings) -> Answer {
         s.max_bytes,
     ];
     let mut shorts = [s.burst, s.threshold, s.max_messages];
-    let number = unsafe { c::uglezmir_settings(operation, &mut longs, &mut shorts) };
+    let number = buckets::settings(operation, &mut longs, &mut shorts);
     [
         s.interval,
         s.rate,
@@ -104,7 +65,7 @@ pub fn settings(operation: u32, settings: &mut Settings) -> Answer {
 
 /// On a rate and a burst.
 pub fn limit(operation: u32, limit: &mut [u64; 2]) -> Answer {
-    Answer::plain(unsafe { c::uglezmir_limit(operation, limit) })
+    Answer::plain(buckets::limit(operation, limit))
 }
 
 fn amount_words(amount: &Amount) -> AmountWords {
