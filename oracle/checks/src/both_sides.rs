@@ -1,4 +1,6 @@
-//! Runs one trace on both sides, call by call, and compares after every call.
+//! Runs one trace on both sides, call by call, and compares after every call. `snapshots` has the steps on snapshots.
+
+mod snapshots;
 
 use crate::damage::{damage_peers, damaged_buckets, Damage};
 use crate::gossip::sides::GossipSides;
@@ -46,7 +48,7 @@ impl<'a> BothSides<'a> {
     /// Sets both sides to where the trace begins; a trace that isn't valid has no beginning.
     pub fn begin(trace: &Trace, original: &'a mut dyn Original, port: &'a dyn Port) -> Result<Self, String> {
         let state = match trace.kind {
-            Kind::Peers | Kind::PeerRefusals => trace.peer_state().ok_or("not a sound start")?,
+            kind if kind.begins_with_peers() => trace.peer_state().ok_or("not a sound start")?,
             _ => PeerState::fresh(Settings::from_words(&[0; 9]).unwrap()),
         };
         original.set_peers(&state);
@@ -111,7 +113,7 @@ impl<'a> BothSides<'a> {
 
     /// A table with filler in every place that holds nothing. A fresh policy is made on it by the port itself.
     fn lend_table(&mut self, start: &PeerStart) -> Result<(), String> {
-        if !matches!(self.kind, Kind::Peers | Kind::PeerRefusals) {
+        if !self.kind.begins_with_peers() {
             return Ok(());
         }
         let limit = ROW * self.state.settings.row_limit() as usize;
@@ -147,6 +149,8 @@ impl<'a> BothSides<'a> {
             }
             Kind::Settings => self.step_settings(call, tally),
             Kind::Inputs => self.step_input(call, tally),
+            Kind::Snapshots => self.step_snapshots(call, tally),
+            Kind::SnapshotRefusals => self.step_snapshot_refusal(call, tally),
             _ => self.step_gossip(call, tally),
         }
     }

@@ -10,9 +10,9 @@ use crate::trace::{Kind, Trace, MAKING};
 use std::time::{Duration, Instant};
 use vocabulary::{Answer, Original, Port, Words};
 
-/// Of a thousand calls, so many are of each kind (more of the others where the port has no gossip); a kind of no table is quick, an input is as much work as its events.
-const SHARES: [(Kind, u64); 13] = [
-    (Kind::Peers, 450),
+/// Of a thousand calls, so many are of each kind (more of the others where the port has no gossip or no snapshots); a kind of no table is quick, an input is as much work as its events.
+const SHARES: [(Kind, u64); 15] = [
+    (Kind::Peers, 350),
     (Kind::Buckets, 130),
     (Kind::Amounts, 80),
     (Kind::Settings, 5),
@@ -25,6 +25,8 @@ const SHARES: [(Kind, u64); 13] = [
     (Kind::BanRefusals, 5),
     (Kind::LimiterRefusals, 5),
     (Kind::GossipRefusals, 10),
+    (Kind::Snapshots, 60),
+    (Kind::SnapshotRefusals, 40),
 ];
 
 /// So many mismatches are made small, and shown unless they come out the same; all are counted.
@@ -52,8 +54,7 @@ pub struct Outcome {
 }
 
 pub fn run(original: &mut dyn Original, port: &dyn Port, options: &Options) -> Outcome {
-    let has = |kind: Kind| kind.gossip_subject().is_none() || port.has_gossip();
-    run_kinds(original, port, options, &has)
+    run_kinds(original, port, options, &|_| true)
 }
 
 /// The kinds about the gossip policy alone, or all others.
@@ -70,7 +71,8 @@ fn run_kinds(original: &mut dyn Original, port: &dyn Port, options: &Options, ha
     };
     outcome.tally.watch = options.watch;
     let mut progress = Progress::new(options.calls);
-    let shares: Vec<(Kind, u64)> = SHARES.into_iter().filter(|(kind, _)| has(*kind)).collect();
+    let wanted = |kind: Kind| has(kind) && can_compare(port, kind);
+    let shares: Vec<(Kind, u64)> = SHARES.into_iter().filter(|(kind, _)| wanted(*kind)).collect();
     let whole: u64 = shares.iter().map(|(_, share)| share).sum();
     for (kind, share) in shares {
         let goal = outcome.tally.calls() + (options.calls * share).div_ceil(whole);
@@ -91,6 +93,11 @@ fn run_kinds(original: &mut dyn Original, port: &dyn Port, options: &Options, ha
         }
     }
     outcome
+}
+
+/// Whether the port has what the kind is about.
+fn can_compare(port: &dyn Port, kind: Kind) -> bool {
+    (kind.gossip_subject().is_none() || port.has_gossip()) && (!kind.is_of_snapshots() || port.snapshots().is_some())
 }
 
 fn seed_of(seed: u64, kind: Kind, number: u64) -> u64 {
@@ -145,7 +152,7 @@ fn begin(kind: Kind, dice: &mut Dice, original: &mut dyn Original) -> (Trace, us
         return (trace, length, Plan::Gossip(plan));
     }
     match kind {
-        Kind::Peers | Kind::PeerRefusals => {
+        kind if kind.begins_with_peers() => {
             let (mut trace, length, plan) = calls::peers::begin(dice);
             trace.kind = kind;
             (trace, length.max(1), Plan::Peers(plan))
@@ -168,6 +175,8 @@ fn next(trace: &Trace, plan: &mut Plan, dice: &mut Dice, both: &BothSides) -> Wo
             let state = both.gossip_state().expect("a trace on gossip");
             plan.next(dice, state, &trace.gossip.keys)
         }
+        (Kind::Snapshots, Plan::Peers(plan)) => calls::snapshots::next(dice, plan, both.state(), &trace.keys),
+        (Kind::SnapshotRefusals, _) => calls::snapshots::next_damage(dice),
         (Kind::PeerRefusals, _) => calls::refusals::next_peer(dice, trace),
         (Kind::BucketRefusals, _) => calls::refusals::next_bucket(dice),
         (Kind::Buckets, _) => calls::buckets::next(dice, both.buckets()),

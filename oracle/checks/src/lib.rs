@@ -1,8 +1,8 @@
 //! The comparison of the unchanged Rust with a port of it, and what is built on it.
 //!
 //! `calls` makes traces up, `both_sides` runs one and compares after each call, `compare` runs many of them,
-//! `shrink` makes a mismatch small, `show` writes it down. `gossip` is the gossip policy's part. `lists` are the recorded answers,
-//! `mutants` the edits of the self-test.
+//! `shrink` makes a mismatch small, `show` writes it down. `gossip` is the gossip policy's part, `snapshots` that of the snapshots.
+//! `lists` are the recorded answers, `mutants` the edits of the self-test.
 
 pub mod amounts;
 pub mod both_sides;
@@ -17,6 +17,7 @@ pub mod mutants;
 pub mod settings;
 pub mod show;
 pub mod shrink;
+pub mod snapshots;
 pub mod tally;
 pub mod trace;
 pub mod watch;

@@ -87,7 +87,7 @@ pub fn trace(trace: &Trace) -> String {
     if trace.kind == Kind::Inputs {
         return text + &format!("{GIVE}{}{TO_ADMIT_TRACE}\n", escaped(&trace.input.bytes));
     }
-    if matches!(trace.kind, Kind::Peers | Kind::PeerRefusals) {
+    if trace.kind.begins_with_peers() {
         text += &start(trace);
     }
     if let Some(subject) = trace.kind.gossip_subject() {
@@ -108,13 +108,14 @@ fn start(trace: &Trace) -> String {
     if start.in_flight != [0, 0] {
         text += &format!("I {}\n", numbers(&start.in_flight));
     }
-    for (place, row) in &start.rows {
-        text += &format!("R {} {}\n", key(&trace.keys[*place]), numbers(row));
-    }
-    if trace.kind == Kind::PeerRefusals {
+    // A call that is written as words names its key by its place, so the keys come first.
+    if trace.kind != Kind::Peers {
         for known in &trace.keys {
             text += &format!("K {}\n", key(known));
         }
+    }
+    for (place, row) in &start.rows {
+        text += &format!("R {} {}\n", key(&trace.keys[*place]), numbers(row));
     }
     text
 }
@@ -167,7 +168,7 @@ pub fn parse(text: &str) -> Result<Trace, String> {
         lines.next();
     }
     let mut trace = Trace::of_calls(kind.unwrap_or(Kind::Peers), Vec::new());
-    if matches!(trace.kind, Kind::Peers | Kind::PeerRefusals) {
+    if trace.kind.begins_with_peers() {
         let (_, settings) = lines.next().ok_or("no settings")?;
         trace.start.settings = exactly(&settings.split(' ').collect::<Vec<_>>()).ok_or("line 1: not nine numbers")?;
     }

@@ -139,7 +139,7 @@ impl<'a> Shrinker<'a> {
     /// All times of a trace on peers or gossip earlier by the same amount: each by itself often can't move.
     fn move_times(&mut self, small: &mut Trace) {
         let time = match small.kind {
-            Kind::Peers => 3,
+            Kind::Peers | Kind::Snapshots => 3,
             Kind::Bans | Kind::Limiter | Kind::Gossip => 4,
             _ => return,
         };

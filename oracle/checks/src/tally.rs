@@ -1,9 +1,10 @@
 //! Counts of a run: calls, mismatches and answers for each operation, and what happened to the rows.
 
+use crate::snapshots::WRITE;
 use crate::trace::Kind;
 use vocabulary::Answer;
 
-/// What a call on peers, or on gossip, did besides its answer.
+/// What a call did besides its answer, or what was read.
 #[derive(Clone, Copy)]
 pub enum Event {
     RowMade,
@@ -31,9 +32,12 @@ pub enum Event {
     LimiterStayedFull,
     OutboundRowMade,
     OutboundDebt,
+    SnapshotWithoutRows,
+    SnapshotOfMostRows,
+    SnapshotOfLimit0,
 }
 
-pub const EVENTS: [&str; 25] = [
+pub const EVENTS: [&str; 28] = [
     "row made",
     "own spent ban dropped",
     "spent bans dropped for room",
@@ -59,6 +63,9 @@ pub const EVENTS: [&str; 25] = [
     "limiter: full, and stayed so",
     "outbound: row made",
     "outbound: row in debt",
+    "snapshot read: no rows",
+    "snapshot read: 1,024 rows",
+    "snapshot read: limit 0",
 ];
 
 /// Refusals 1 to 6, then the answers from 256 on.
@@ -132,6 +139,13 @@ impl Tally {
         self.operations.iter().flat_map(|(_, tallies)| tallies)
     }
 
+    /// Calls on snapshots, without the peers' calls between them.
+    fn snapshots(&self) -> u64 {
+        let sum = |tallies: &[OperationTally]| tallies.iter().map(|tally| tally.calls).sum::<u64>();
+        let of = |kind: Kind| &self.operations[kind as usize].1;
+        sum(&of(Kind::Snapshots)[WRITE as usize..]) + sum(of(Kind::SnapshotRefusals))
+    }
+
     /// A line for each operation.
     pub fn table(&self) -> String {
         let mut text = format!("{:<60}{:>12}{:>12}\n", "operation", "calls", "mismatches");
@@ -142,8 +156,11 @@ impl Tally {
             }
         }
         text + &format!(
-            "{:<60}{:>12}\n",
-            "gossip evictions in a tie, brought together", self.ties
+            "{:<60}{:>12}\n{:<60}{:>12}\n",
+            "gossip evictions in a tie, brought together",
+            self.ties,
+            "snapshots written, read, asked and damaged",
+            self.snapshots()
         )
     }
 

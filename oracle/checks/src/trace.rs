@@ -4,7 +4,7 @@ use crate::damage::PEER_DAMAGE;
 use crate::gossip::damage::{BAN_DAMAGE_NAMES, GOSSIP_DAMAGE_NAMES, LIMITER_DAMAGE_NAMES};
 use crate::gossip::start::GossipStart;
 use crate::inputs::damage::SORTS;
-use crate::{amounts, settings};
+use crate::{amounts, settings, snapshots};
 use vocabulary::peer::*;
 use vocabulary::{BucketCall, BucketOperation, Subject, Words};
 
@@ -24,6 +24,8 @@ pub enum Kind {
     BanRefusals,
     LimiterRefusals,
     GossipRefusals,
+    Snapshots,
+    SnapshotRefusals,
 }
 
 /// The operations on peers, then the making of a fresh policy, with which a trace begins.
@@ -42,7 +44,7 @@ const PEER_OPERATIONS: [&str; MAKING as usize + 1] = [
 pub const MAKING: u64 = PeerOperation::ALL.len() as u64;
 
 impl Kind {
-    pub const ALL: [Self; 13] = [
+    pub const ALL: [Self; 15] = [
         Self::Peers,
         Self::Buckets,
         Self::Amounts,
@@ -56,6 +58,8 @@ impl Kind {
         Self::BanRefusals,
         Self::LimiterRefusals,
         Self::GossipRefusals,
+        Self::Snapshots,
+        Self::SnapshotRefusals,
     ];
 
     pub fn name(self) -> &'static str {
@@ -73,6 +77,8 @@ impl Kind {
             Self::BanRefusals => "ban-refusals",
             Self::LimiterRefusals => "limiter-refusals",
             Self::GossipRefusals => "gossip-refusals",
+            Self::Snapshots => "snapshots",
+            Self::SnapshotRefusals => "snapshot-refusals",
         }
     }
 
@@ -91,6 +97,8 @@ impl Kind {
             Self::BanRefusals => &BAN_DAMAGE_NAMES,
             Self::LimiterRefusals => &LIMITER_DAMAGE_NAMES,
             Self::GossipRefusals => &GOSSIP_DAMAGE_NAMES,
+            Self::Snapshots => &snapshots::OPERATIONS,
+            Self::SnapshotRefusals => &snapshots::damage::NAMES,
         }
     }
 
@@ -102,6 +110,16 @@ impl Kind {
             Self::Gossip | Self::GossipRefusals => Some(Subject::Gossip),
             _ => None,
         }
+    }
+
+    /// Whether it is about snapshots.
+    pub fn is_of_snapshots(self) -> bool {
+        matches!(self, Self::Snapshots | Self::SnapshotRefusals)
+    }
+
+    /// Whether it begins with a peers' policy and its table.
+    pub fn begins_with_peers(self) -> bool {
+        matches!(self, Self::Peers | Self::PeerRefusals) || self.is_of_snapshots()
     }
 
     /// Whether its calls are on damaged gossip states.
@@ -186,7 +204,7 @@ impl Trace {
             return false;
         }
         match self.kind {
-            Kind::Peers | Kind::PeerRefusals => {
+            kind if kind.begins_with_peers() => {
                 let keys = self.keys.len() as u64;
                 self.peer_state().is_some() && self.calls.iter().all(|call| call[1] < keys)
             }
@@ -207,7 +225,8 @@ impl Trace {
     }
 }
 
-fn is_sound(state: &PeerState) -> bool {
+/// Judged here apart from any port.
+pub(crate) fn is_sound(state: &PeerState) -> bool {
     let s = &state.settings;
     let within = s.unlimited() || state.in_flight_messages <= s.max_messages && state.in_flight_bytes <= s.max_bytes;
     let row_is_sound = |row: &Row| {

@@ -1,16 +1,17 @@
 //! The proved library as the port under test: each call goes to a C function of crate `c_peers` (peers), `c_trace` (inputs of
-//! the trace program), `c_gossip` (bans, limiter and gossip state) or `c_buckets` (the rest).
+//! the trace program), `c_gossip` (bans, limiter and gossip state), `c_snapshot` (snapshots) or `c_buckets` (the rest).
 
 mod gossip;
 mod peers;
 mod plain;
+mod snapshots;
 mod traces;
 
 use traces::Scan;
 use vocabulary::amounts::{DIV_CEIL_LOW, FROM_U64, PRODUCT_PER_THOUSAND, TO_U64};
 use vocabulary::settings::{self, SettingsCall};
 use vocabulary::{Amount, Answer, BucketCall, BucketOperation, Buckets, PeerCall, PeerOperation, Port, Record, Words};
-use vocabulary::{GossipCall, GossipWords};
+use vocabulary::{GossipCall, GossipWords, Snapshots};
 
 pub struct Proved;
 
@@ -117,5 +118,9 @@ impl Port for Proved {
 
     fn gossip(&self, call: &GossipCall, words: &mut GossipWords, tables: [&mut [u8]; 2]) -> Answer {
         gossip::call(call, words, tables)
+    }
+
+    fn snapshots(&self) -> Option<&dyn Snapshots> {
+        Some(self)
     }
 }

@@ -13,7 +13,7 @@ pub use answer::Answer;
 pub use bucket::{Amount, BucketCall, BucketOperation, Buckets, ByteBucket, DiscreteBucket};
 pub use gossip::{GossipCall, GossipRow, GossipState, GossipWords, LongKey, Reads, Shape, Subject};
 pub use peer::{Key, PeerCall, PeerOperation, PeerState, Record, Row, Settings};
-pub use sides::{Original, Port};
+pub use sides::{Original, Port, Snapshots};
 
 /// A call as eight words: the operation's number, then its operands. The recorded lists hold these, little-endian.
 pub type Words = [u64; 8];

@@ -1,8 +1,8 @@
 //! The two sides of a comparison: the unchanged Rust, and the system under test.
 
 use crate::{
-    Answer, BucketCall, Buckets, GossipCall, GossipState, GossipWords, PeerCall, PeerState, Record, Settings, Subject,
-    Words,
+    Answer, BucketCall, Buckets, GossipCall, GossipState, GossipWords, Key, PeerCall, PeerState, Record, Settings,
+    Subject, Words,
 };
 
 /// The unchanged Rust. It keeps its own state, which can be read out and set.
@@ -57,4 +57,20 @@ pub trait Port {
     fn gossip(&self, _call: &GossipCall, _words: &mut GossipWords, _tables: [&mut [u8]; 2]) -> Answer {
         unreachable!("no gossip calls to compare")
     }
+
+    /// Its snapshots, if there are any to compare.
+    fn snapshots(&self) -> Option<&dyn Snapshots> {
+        None
+    }
+}
+
+/// Snapshots of the system under test, as the functions of the C boundary have them: each answers a number, and leaves what it gives
+/// where the caller's own stood.
+pub trait Snapshots {
+    fn write(&self, record: &Record, table: &[u8], output: &mut [u8], length: &mut u64) -> u32;
+    fn read(&self, record: &mut Record, snapshot: &[u8], table: &mut [u8]) -> u32;
+    /// Where the part of a kind begins and ends.
+    fn place(&self, snapshot: &[u8], kind: u32, place: &mut [u64; 2]) -> u32;
+    /// A row's key and eleven numbers, then the next row's place.
+    fn row(&self, snapshot: &[u8], at: u64, key: &mut Key, numbers: &mut [u64; 12]) -> u32;
 }

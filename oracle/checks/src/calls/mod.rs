@@ -10,6 +10,7 @@ pub mod inputs;
 pub mod peers;
 pub mod refusals;
 pub mod settings;
+pub mod snapshots;
 
 use crate::dice::Dice;
 

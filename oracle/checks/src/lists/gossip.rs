@@ -25,6 +25,7 @@
 //! Each trace begins in any sound state; after its calls the memory is damaged in known ways, each before a call that must refuse it, and
 //! mended. The last three traces have 1,024 rows.
 
+use super::checksum::{made_up, with_bytes, with_shorts, with_words};
 use super::List;
 use crate::calls::gossip::{begin, Plan};
 use crate::calls::refusals;
@@ -116,14 +117,8 @@ struct Held {
 
 impl Held {
     fn new(filler: u64, lent: [usize; 2]) -> Self {
-        let mut sum = filler;
-        let mut fill = || {
-            let byte = |_| {
-                sum = step(sum, 7);
-                sum as u8
-            };
-            (0..MEMORY).map(byte).collect()
-        };
+        let mut seed = filler;
+        let mut fill = || made_up(MEMORY, &mut seed);
         Self {
             words: GossipWords::default(),
             memory: [fill(), fill()],
@@ -348,18 +343,7 @@ fn five_words(number: u64, bytes: &[u8]) -> [u64; 6] {
     words
 }
 
-/// The largest prime below 2^55.
-const MODULUS: u64 = 0x7f_ffff_ffff_ffc9;
-
-/// As the replaying program reckons.
-fn step(sum: u64, n: u32) -> u64 {
-    (sum % MODULUS * 257 + u64::from(n) + 1) % MODULUS
-}
-
 fn checksum(words: &GossipWords, lent: [&[u8]; 2]) -> u64 {
-    let halves = |sum, n: &u64| step(step(sum, *n as u32), (n >> 32) as u32);
-    let sum = words.longs.iter().fold(0, halves);
-    let sum = words.shorts.iter().fold(sum, |sum, n| step(sum, *n));
-    let bytes = lent[0].iter().chain(lent[1]);
-    bytes.fold(sum, |sum, byte| step(sum, (*byte).into()))
+    let sum = with_shorts(with_words(0, &words.longs), &words.shorts);
+    with_bytes(with_bytes(sum, lent[0]), lent[1])
 }

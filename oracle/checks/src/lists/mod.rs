@@ -4,6 +4,7 @@
 
 pub mod amounts;
 pub mod buckets;
+mod checksum;
 pub mod gossip;
 pub mod peers;
 pub mod traces;

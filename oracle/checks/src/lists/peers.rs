@@ -4,6 +4,7 @@
 //! before a call that must refuse it; then come two makings that must be refused. A line is the answer, the messages and bytes in
 //! flight, the rows, and a checksum of the settings and of every lent byte.
 
+use super::checksum::{made_up, with_bytes, with_shorts, with_words};
 use super::List;
 use crate::both_sides::meets_refusal_4;
 use crate::calls::peers::{begin, Plan};
@@ -151,7 +152,7 @@ impl Recorder<'_> {
             tracked,
         ];
         self.tell(&first, "-");
-        self.held.memory = filled(filler);
+        self.held.memory = made_up(MEMORY, &mut { filler });
         self.held.lent = lent;
         let answer = match refusal {
             Some(number) => Answer::plain(number),
@@ -281,28 +282,8 @@ fn text(answer: &Answer) -> String {
     }
 }
 
-/// The largest prime below 2^55.
-const MODULUS: u64 = 0x7f_ffff_ffff_ffc9;
-
-/// As the replaying program reckons.
-fn step(sum: u64, n: u32) -> u64 {
-    (sum % MODULUS * 257 + u64::from(n) + 1) % MODULUS
-}
-
 fn checksum(record: &Record, lent: &[u8]) -> u64 {
     let Record { longs, shorts } = record;
-    let sum = longs[..6]
-        .iter()
-        .fold(0, |sum, n| step(step(sum, *n as u32), (n >> 32) as u32));
-    let sum = shorts[..3].iter().fold(sum, |sum, n| step(sum, *n));
-    lent.iter().fold(sum, |sum, byte| step(sum, (*byte).into()))
-}
-
-fn filled(filler: u64) -> Vec<u8> {
-    let mut sum = filler;
-    let mut next = || {
-        sum = step(sum, 7);
-        sum as u8
-    };
-    (0..MEMORY).map(|_| next()).collect()
+    let settings = with_shorts(with_words(0, &longs[..6]), &shorts[..3]);
+    with_bytes(settings, lent)
 }

@@ -1,11 +1,15 @@
 //! The comparison notices wrong ports, and what it prints is short, can be read back, and still shows the difference.
 
+mod snapshots;
+
 use checks::compare::{self, Options};
 use checks::show;
 use original::UnchangedRust;
 use port::Proved;
+use snapshots::WrongSnapshots;
 use vocabulary::layout::ROW;
-use vocabulary::{answer, Answer, BucketCall, BucketOperation, Buckets, PeerCall, PeerOperation, Port, Record, Words};
+use vocabulary::{answer, Answer, BucketCall, BucketOperation, Buckets, PeerCall, PeerOperation, Port, Record};
+use vocabulary::{Snapshots, Words};
 
 type PeersFault = fn(&PeerCall, &mut Record, &mut [u8]) -> Answer;
 
@@ -16,6 +20,8 @@ struct Wrong {
     settings: fn(&Words) -> (Answer, [u64; 9]),
     amount: fn(&Words) -> Answer,
     trace: fn(&[u8], &mut [u8]) -> Vec<u8>,
+    /// Not compared where there are none.
+    snapshots: Option<WrongSnapshots>,
 }
 
 /// No fault yet.
@@ -25,6 +31,7 @@ const FAITHFUL: Wrong = Wrong {
     settings: |call| Proved.settings(call),
     amount: |call| Proved.amount(call),
     trace: |input, table| Proved.trace(input, table),
+    snapshots: None,
 };
 
 impl Wrong {
@@ -54,6 +61,9 @@ impl Port for Wrong {
     }
     fn trace(&self, input: &[u8], table: &mut [u8]) -> Vec<u8> {
         (self.trace)(input, table)
+    }
+    fn snapshots(&self) -> Option<&dyn Snapshots> {
+        self.snapshots.as_ref().map(|wrong| wrong as &dyn Snapshots)
     }
 }
 
