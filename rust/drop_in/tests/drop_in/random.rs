@@ -2,7 +2,7 @@
 //! step back.
 //!
 //! Outside the comparison is what document 01 leaves out of it: an admit that the port refuses with 4 is not made (it is seen in the load in flight),
-//! refusal 5 is out of reach with fewer than 1,024 peers, and so are the gossip state's ban tables, whose limits differ. Where a violation would
+//! with fewer than 1,024 peers refusal 5 is out of reach, and so is a full ban table of the gossip state, whose limits differ. Where a violation would
 //! evict one of several gossip entries that tie, the Rust takes any and the port the smallest key: the tie is seen beforehand, the call is not
 //! made, and both sides get one that ends the tie.
 
