@@ -412,6 +412,25 @@ macro_rules! suite {
             }
 
             #[test]
+<<<<<<< HEAD
+=======
+            fn the_public_parts_of_a_state_are_replaced() {
+                let mut state = GossipPolicyState::new(GossipPolicyConfig::default());
+                let made = $made;
+                let tracker_of_one = made(GossipBanTracker::with_max_entries(GossipBanConfig::default(), 1));
+                state.ban_tracker = tracker_of_one;
+                state.global_outbound = ByteTokenBucket::new(limit(1_000, 50));
+                for peer in [pubkey(2), pubkey(5)] {
+                    assert!(state.record_violation(&peer, GossipViolation::InvalidSyncResponse, 7));
+                }
+                assert!(!state.is_banned(&pubkey(2), 7) && state.is_banned(&pubkey(5), 7));
+                assert!(state.allow_outbound_message(&pubkey(2), 50, 7) && !state.allow_outbound_message(&pubkey(5), 1, 7));
+                assert_eq!(state.estimate_outbound_message_delay(&pubkey(2), 10, 7), 10);
+                assert_eq!(state.outbound_global_delayed_byte_capacity(), Some(50));
+            }
+
+            #[test]
+>>>>>>> wip/rust
             fn the_clock_steps_back() {
                 let made = $made;
                 let mut policy = made(PeerMessagePolicy::new(PeerMessagePolicyConfig {
