@@ -22,12 +22,8 @@
 //!   [`from_bytes`](peer_message_policy::PeerMessagePolicy::from_bytes) of the peers' policies.
 //! - **No serde, no logging.** All settings have public fields; serde's `remote` derive serves them.
 //!
-<<<<<<< HEAD
-//! Every policy owns its memory, sized by its limit when it is made; no call allocates. All types are `Send` and `Sync`. No call panics.
-=======
 //! Every policy owns its memory, sized by its limit when it is made; only snapshots and clones allocate. All types are `Send` and `Sync`. No call
 //! panics.
->>>>>>> wip/rust
 //!
 //! The trouble that this library began with is a clock that steps back: one interval back fills a message bucket at once.
 //! [`HeldPeerMessagePolicy`](peer_message_policy::HeldPeerMessagePolicy) is the peers' policy with the cure built in.

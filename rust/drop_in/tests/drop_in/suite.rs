@@ -412,8 +412,6 @@ macro_rules! suite {
             }
 
             #[test]
-<<<<<<< HEAD
-=======
             fn the_public_parts_of_a_state_are_replaced() {
                 let mut state = GossipPolicyState::new(GossipPolicyConfig::default());
                 let made = $made;
@@ -430,7 +428,6 @@ macro_rules! suite {
             }
 
             #[test]
->>>>>>> wip/rust
             fn the_clock_steps_back() {
                 let made = $made;
                 let mut policy = made(PeerMessagePolicy::new(PeerMessagePolicyConfig {
