@@ -1,4 +1,4 @@
-/* A policy of two peers in C: document 01's trace, six events, a line for each. scripts/run-c-example compiles and runs it, and compares the lines
+/* A policy of two peers in C: the trace program's sample, six events, a line for each. scripts/run-c-example compiles and runs it, and compares the lines
  * with those of the trace program. */
 #include "uglezmir.h"
 

@@ -119,7 +119,7 @@ mod tests {
 
     #[test]
     fn rounding_up_may_carry_over_the_low_64_bits() {
-        // document 10, 4.14: rate 999, the floor is 2^64 - 1 with a remainder, the delay 0
+        // rate 999, the floor is 2^64 - 1 with a remainder, the delay 0
         let product = 18_428_297_329_635_842_064u128 * 1_000;
         let answer = by_rust(&on(DIV_CEIL_LOW, Amount::plus(product), &[999]));
         assert_eq!(answer, Answer::value(0));

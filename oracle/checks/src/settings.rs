@@ -1,6 +1,6 @@
 //! What the Rust answers to a call on settings alone (`vocabulary::settings`).
 //!
-//! One difference is meant: the Rust's default for the tracked peers is 50,000, here it is 1,024 (document 01).
+//! One difference is meant: the Rust's default for the tracked peers is 50,000, here it is 1,024 (docs/DIFFERENCES.md).
 
 use vocabulary::{settings, Answer, Original, Words};
 

@@ -180,7 +180,7 @@ impl Trace {
         }
     }
 
-    /// The state that it begins with, if that is sound (document 10, 2.3); judged here apart from any port.
+    /// The state that it begins with, if that is sound (docs/REFERENCE.md, "Sound"); judged here apart from any port.
     pub fn peer_state(&self) -> Option<PeerState> {
         let settings = Settings::from_words(&self.start.settings)?;
         let mut state = PeerState::fresh(settings);

@@ -96,7 +96,7 @@ impl PeerMessagePolicy {
         policy.ingress.in_flight_bytes = state.in_flight_bytes;
         for row in &state.rows {
             let entry = PeerMessagePolicyEntry::oracle_make(row, &state.settings);
-            // Not through insert_entry: the state is set as document 01 has it, whatever that function does.
+            // Not through insert_entry: the state is set as it is given, whatever that function does.
             let key = Pubkey(row.key);
             match entry.banned_until_ms {
                 Some(end) => policy.banned_expirations.insert((end, key)),

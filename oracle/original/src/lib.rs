@@ -82,7 +82,7 @@ impl Original for UnchangedRust {
                 let (messages, bytes) = self.policy.oracle_in_flight();
                 Answer::values([messages.into(), bytes, 0])
             }
-            // Added by document 01: the Rust has no such call, so it is worked out from its state.
+            // Added by the port: the Rust has no such call, so it is worked out from its state.
             P::HeldTime => {
                 let last_used = self.policy.oracle_last_used(&key);
                 Answer::value(last_used.map_or(now, |used| used.max(now)))

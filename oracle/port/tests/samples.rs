@@ -1,4 +1,4 @@
-//! Document 01's worked examples, on the unchanged Rust and on the proved library at once.
+//! The samples of docs/REFERENCE.md, on the unchanged Rust and on the proved library at once.
 
 use checks::compare::replay_and_watch;
 use checks::show;

@@ -1,4 +1,4 @@
-//! Where a trace on gossip begins: any sound state (document 10, 2.3), judged here apart from any port, and the lent tables.
+//! Where a trace on gossip begins: any sound state (docs/REFERENCE.md, "Sound"), judged here apart from any port, and the lent tables.
 
 use vocabulary::gossip::*;
 use vocabulary::{GossipRow, GossipState, GossipWords, LongKey, Subject};

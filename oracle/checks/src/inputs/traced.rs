@@ -1,4 +1,4 @@
-//! The trace program as document 01 describes it, over the unchanged Rust.
+//! The trace program as docs/REFERENCE.md describes it, over the unchanged Rust.
 
 use super::{LONGEST, ROWS};
 use crate::both_sides::meets_refusal_4;

@@ -57,7 +57,7 @@ fn byte_set(rate: u64, burst: u64, available: i128, last: u64) -> Words {
     on(B::ByteSet, &[rate, burst, sign, low, high, last])
 }
 
-/// Document 01's marked samples A to F.
+/// Samples A to F of docs/REFERENCE.md.
 fn samples() -> Vec<Words> {
     let consume = |now: u64| on(B::DiscreteTryConsume, &[now]);
     let take = |bytes: u64, now: u64| on(B::ByteTryConsume, &[bytes, now]);

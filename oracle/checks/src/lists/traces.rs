@@ -1,4 +1,4 @@
-//! The list of traces: whole inputs of the trace program, answered by the unchanged Rust as document 01 says.
+//! The list of traces: whole inputs of the trace program, answered by the unchanged Rust as docs/REFERENCE.md says.
 //!
 //! Input: for each trace its length as a little-endian word, then its bytes. Output: `trace K`, then the trace's output.
 
@@ -16,7 +16,7 @@ const MADE_EVENTS: u64 = 60;
 const DAMAGED_EVENTS: u64 = 6;
 const OF_EACH_SORT: usize = 6;
 
-/// Document 01's sample, then the corner cases of document 10, 4.12.
+/// The sample of docs/REFERENCE.md's trace program, then its corner cases.
 const CORNERS: &[&str] = &[
     "10 2 0 0 2 100 2 4 1000\na 02 300 50\na 02 300 50\na 02 1 50\na 02 1 55\na 02 1 155\nr 300\n",
     "",

@@ -1,4 +1,4 @@
-//! A snapshot's bytes as document 01 has them: those of a state, and what any bytes must be taken for. Little-endian. First the
+//! A snapshot's bytes as docs/REFERENCE.md has them: those of a state, and what any bytes must be taken for. Little-endian. First the
 //! contents: a count, and of each part its kind, place and length; then the bodies.
 
 use crate::trace::is_sound;

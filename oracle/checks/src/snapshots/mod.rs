@@ -1,4 +1,4 @@
-//! Snapshots. The Rust has none: `form` lays its state out as document 01 says ("Snapshot (added)") and judges any bytes, apart from any
+//! Snapshots. The Rust has none: `form` lays its state out as docs/REFERENCE.md says ("Snapshots") and judges any bytes, apart from any
 //! port; `left` is what each function must leave; `asks` has a port write, read and be asked, and compares all that is lent; `damage` makes wrong snapshots of known sorts.
 
 pub mod asks;

@@ -146,7 +146,7 @@ fn limit_of(words: &GossipWords, place: usize) -> ByteLimit {
     }
 }
 
-// Soundness (document 10, 2.3).
+// Soundness (docs/REFERENCE.md, "Sound").
 
 fn record_is_sound(words: &GossipWords, table: usize) -> bool {
     if table == 0 {

@@ -1,7 +1,7 @@
 //! A million made-up calls on both sides, each answered alike: fresh policies of limits 0, 1, 16 and 1,024, with clocks that stand, run, jump and
 //! step back.
 //!
-//! Outside the comparison is what document 01 leaves out of it: an admit that the port refuses with 4 is not made (it is seen in the load in flight),
+//! Outside the comparison is what can't be equal: an admit that the port refuses with 4 is not made (it is seen in the load in flight),
 //! with fewer than 1,024 peers refusal 5 is out of reach, and so is a full ban table of the gossip state, whose limits differ. Where a violation would
 //! evict one of several gossip entries that tie, the Rust takes any and the port the smallest key: the tie is seen beforehand, the call is not
 //! made, and both sides get one that ends the tie.

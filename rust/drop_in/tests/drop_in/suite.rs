@@ -189,7 +189,7 @@ macro_rules! suite {
                 }
             }
 
-            // ---- examples: document 01's samples, and each method that has no call above
+            // ---- examples: docs/REFERENCE.md's samples, and each method that has no call above
 
             #[test]
             fn sample_a() {

@@ -148,7 +148,7 @@ impl PeerMessagePolicy {
     }
 
     /// The whole policy as bytes: settings, load in flight and every peer, 120 bytes and 121 for each that is tracked. The layout is the library's
-    /// own (document 01, "Snapshot"), the same on every machine.
+    /// own (docs/REFERENCE.md, "Snapshots"), the same on every machine.
     ///
     /// ```
     /// use uglezmir::peer_message_policy::{PeerMessageAdmission::*, PeerMessagePolicy, PeerMessagePolicyConfig};
