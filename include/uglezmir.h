@@ -260,7 +260,7 @@ uint32_t uglezmir_settings(uint32_t operation, uint64_t longs[UGLEZMIR_SETTINGS_
 /* OP_LIMIT_.., on a rate and a burst. */
 uint32_t uglezmir_limit(uint32_t operation, uint64_t words[UGLEZMIR_LIMIT_WORDS]);
 
-/* ---- libc_gossip.a: bans, limiter and gossip state. YES, NO, DONE; or 3, 0; at making 2, 1; outbound 5. */
+/* ---- libc_bans.a, libc_limiter.a, libc_gossip.a: bans, limiter and gossip state. YES, NO, DONE; or 3, 0; at making 2, 1; outbound 5. */
 
 /* OP_BAN_.. */
 uint32_t uglezmir_bans(uint32_t operation, uint64_t longs[UGLEZMIR_BAN_LONGS], uint32_t shorts[UGLEZMIR_BAN_SHORTS], uint8_t *table,

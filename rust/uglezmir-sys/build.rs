@@ -9,7 +9,15 @@ use std::process::{exit, Command};
 use std::{env, fs};
 
 /// The crates whose C functions are linked, an archive each.
-const EXPORTING: [&str; 5] = ["c_peers", "c_buckets", "c_gossip", "c_snapshot", "c_trace"];
+const EXPORTING: [&str; 7] = [
+    "c_peers",
+    "c_buckets",
+    "c_bans",
+    "c_limiter",
+    "c_gossip",
+    "c_snapshot",
+    "c_trace",
+];
 
 /// The variable that names a folder with ready archives.
 const READY: &str = "UGLEZMIR_LIB_DIR";

@@ -21,15 +21,15 @@ use Rattle.gossip_policy.specs.State.{outboundOf, delayedByteCapacity}
 use Rattle.gossip_policy.specs.Calls.{NewMeets, RecordViolationMeets, IsBannedMeets, PruneBansMeets, AllowMeets, EstimateMeets, RemoveMeets, ReserveMeets, RefundMeets, BypassMeets}
 use Rattle.c_terms.specs.declared.said.Said.{Said}
 use Rattle.c_terms.specs.Answers.{said, truthSaid, toldSaid, delaySaid}
-use Rattle.c_gossip.specs.declared.blame.Blame.{Blame}
-use Rattle.c_gossip.specs.declared.blame.Blame.the-variants as Blame
+use Rattle.c_bans.specs.declared.blame.Blame.{Blame}
+use Rattle.c_bans.specs.declared.blame.Blame.the-variants as Blame
 use Rattle.c_gossip.specs.declared.gossip.GossipOperation.{GossipOperation}
 use Rattle.c_gossip.specs.declared.gossip.GossipOperation.the-variants.{New, Default, RecordViolation, IsBanned, PruneBans, Allow, EstimateDelay, RemovePeer, Reserve, Refund, ShouldBypass, Exceeds, QueueCapacity, GlobalCapacity, PeerCapacity, Unknown}
 use Rattle.c_gossip.specs.declared.gossip.GossipDone.{GossipDone}
-use Rattle.c_gossip.specs.Left.{Left, Untouched}
-use Rattle.c_gossip.specs.Keys.{keyOf}
-use Rattle.c_gossip.specs.Blame.{blameOf}
-use Rattle.c_gossip.specs.Bans.{prunedSaid}
+use Rattle.c_terms.specs.Left.{Left, Untouched}
+use Rattle.c_terms.specs.Keys.{keyOf}
+use Rattle.c_bans.specs.Blame.{blameOf}
+use Rattle.c_bans.specs.Bans.{prunedSaid}
 use Rattle.c_gossip.specs.GossipWords.{stateOf, configOf, gossipLongs, gossipShorts}
 
 -- the operation of a number

@@ -20,14 +20,14 @@ use Rattle.gossip_laws.specs.PolicyOutcomeLaws.{
   should-bypass-one,
 }
 use Rattle.c_terms.specs.SomeLaws.{some-one, some-alone}
-use Rattle.c_gossip.specs.declared.blame.Blame.{Blame}
-use Rattle.c_gossip.specs.declared.blame.Blame.the-variants as Blame
+use Rattle.c_bans.specs.declared.blame.Blame.{Blame}
+use Rattle.c_bans.specs.declared.blame.Blame.the-variants as Blame
 use Rattle.c_gossip.specs.declared.gossip.GossipOperation.{GossipOperation}
 use Rattle.c_gossip.specs.declared.gossip.GossipOperation.the-variants as Operation
 use Rattle.c_gossip.specs.declared.gossip.GossipDone.{GossipDone}
-use Rattle.c_gossip.specs.LeftLaws.{Alike, left-one, untouched-one}
-use Rattle.c_gossip.specs.Keys.{keyOf}
-use Rattle.c_gossip.specs.Blame.{blameOf}
+use Rattle.c_terms.specs.LeftLaws.{Alike, left-one, untouched-one}
+use Rattle.c_terms.specs.Keys.{keyOf}
+use Rattle.c_bans.specs.Blame.{blameOf}
 use Rattle.c_gossip.specs.GossipWords.{stateOf, configOf, gossipLongs, gossipShorts}
 use Rattle.c_gossip.specs.Gossip.{gossipOperation, BlameDoes, Reads, GossipDoes, GossipExported}
 

@@ -1,11 +1,3 @@
-pub mod Keys
-pub mod Left
-pub mod LeftLaws
-pub mod Blame
-pub mod Bans
-pub mod BansLaws
-pub mod Limiter
-pub mod LimiterLaws
 pub mod GossipWords
 pub mod Gossip
 pub mod GossipLaws

@@ -3,12 +3,12 @@
 // in any case, 10 gives one back, 11 asks whether one that is too large may be sent all the same, 12 whether one is too large; 13, 14, 15
 // ask for the capacities of the delay queue, of all peers together and of one peer.
 ghost use mathlib.Core.Path.{_≡_};
-ghost use Rattle.c_gossip.specs.Blame.{blameOf};
+ghost use Rattle.c_bans.specs.Blame.{blameOf};
 ghost use Rattle.c_gossip.specs.Gossip.{gossipOperation, toldDone, prunedDone, settledDone, reservedDone, capacitySaid, BlameDoes, GossipDoes, GossipLeft, GossipExported};
-use super::bans;
-use super::blame;
-use super::blame::Blame;
 use super::gossip_words;
+use c_bans::bans;
+use c_bans::blame;
+use c_bans::blame::Blame;
 use c_terms::said;
 use c_terms::said::Said;
 use gossip_outbound::answer::Settled;

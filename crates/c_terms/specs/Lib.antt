@@ -1,3 +1,6 @@
 pub mod Answers
 pub mod AmountWords
 pub mod SomeLaws
+pub mod Keys
+pub mod Left
+pub mod LeftLaws

@@ -3,9 +3,9 @@
 use crate::checksum;
 use crate::held::Held;
 use crate::held::Step;
-use c_gossip::bans::uglezmir_bans;
+use c_bans::bans::uglezmir_bans;
 use c_gossip::gossip::uglezmir_gossip;
-use c_gossip::limiter::uglezmir_limiter;
+use c_limiter::limiter::uglezmir_limiter;
 use replay::line::Line;
 use replay::record::Record;
 use replay::record::low_half;

@@ -1,5 +1,5 @@
 // Replays recorded calls of the gossip policy: a record of standard input sets something up or names a call and its operands, a line of
-// standard output gives what the C functions of crate `c_gossip` answer: the answer, its value, the rows of both tables, and a checksum of
+// standard output gives what the C functions of crates `c_bans`, `c_limiter` and `c_gossip` answer: the answer, its value, the rows of both tables, and a checksum of
 // the words and of every lent byte after the call. `oracle/record` wrote both files, from the unchanged Rust; what each record does stands
 // at the top of `oracle/checks/src/lists/gossip.rs`.
 mod calls;

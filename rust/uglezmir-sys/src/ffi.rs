@@ -88,7 +88,7 @@ extern "C" {
     pub fn uglezmir_limit(operation: u32, words: &mut LimitWords) -> u32;
 }
 
-// Crate c_gossip.
+// Crates c_bans, c_limiter and c_gossip.
 extern "C" {
     pub fn uglezmir_bans(
         operation: u32,

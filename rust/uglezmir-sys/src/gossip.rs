@@ -1,4 +1,4 @@
-//! The ban tracker, the limiter and the gossip state (crate `c_gossip`): one function a subject, its first argument the operation's number,
+//! The ban tracker, the limiter and the gossip state (crates `c_bans`, `c_limiter`, `c_gossip`): one function a subject, its first argument the operation's number,
 //! `numbers::OP_..`. Each answers `YES`, `NO` or `DONE`, or a refusal, on which nothing changes; 0 where there is no such operation or violation.
 
 // They take what the C functions take.

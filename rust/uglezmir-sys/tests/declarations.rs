@@ -256,7 +256,7 @@ fn answers_refusals_and_violations_have_the_sources_numbers() {
         assert_eq!(ours.get(&format!("REFUSAL_{name}")), Some(&number), "{name}");
     }
     let mut seen = BTreeSet::new();
-    for line in sources("c_gossip").lines() {
+    for line in sources("c_bans").lines() {
         let Some((number, rest)) = line.trim().split_once(" => Blame::Violation(GossipViolation::") else {
             continue;
         };
