@@ -12,7 +12,7 @@ use Rattle.amount.specs.AmountLaws.{digit-under}
 use Rattle.amount.specs.Magnitude.{size}
 use Rattle.amount.proofs.Tests.{same-ltb, same-eqb}
 
--- ---- two digits in base P: a and b the low ones, h and k the high ones
+-- ════ Two digits in base P: a and b the low ones, h and k the high ones ════
 
 module _ (P a b h k : ℕ) where
   equal-high : h ≡ k → ltb a b ≡ ltb (a + P * h) (b + P * k)
@@ -64,7 +64,7 @@ not-below n m h = go (ltb n m) refl
 wrapped : {r a b : ℕ} → r < 2 ^ 64 → b < 2 ^ 64 → a < b → (r + b) % 2 ^ 64 ≡ a → r + b ≡ a + 2 ^ 64
 wrapped h k l e = omega arith
 
--- ---- zero
+-- ════ Zero ════
 
 pub low-zero : (m : Magnitude) → m .high ≡ 0 → eqb (m .low) 0 ≡ eqb (size m) 0
 low-zero m e = same-eqb (m .low) 0 (size m) 0 (omega arith) (omega arith)
@@ -72,7 +72,7 @@ low-zero m e = same-eqb (m .low) 0 (size m) 0 (omega arith) (omega arith)
 pub high-nonzero : (m : Magnitude) → (m .high ≡ 0 → ⊥) → eqb (size m) 0 ≡ false
 high-nonzero m e = ne-eqb (size m) 0 (λ t. e (omega arith))
 
--- ---- order, sums and differences
+-- ════ Order, sums and differences ════
 
 module _ (a b : Magnitude) where
   pub low-decides : a .high ≡ b .high → ltb (a .low) (b .low) ≡ ltb (size a) (size b)
@@ -107,7 +107,7 @@ module _ (a b : Magnitude) where
 pub high-sum-fits : {h k c : ℕ} → h < 2 ^ 63 → k < 2 ^ 63 → c ≤ 1 → h + k + c < 2 ^ 64
 high-sum-fits h k c = omega arith
 
--- ---- 2^127
+-- ════ 2^127 ════
 
 pub size-under : (m : Magnitude) → m .low < 2 ^ 64 → m .high < 2 ^ 63 → size m < 2 ^ 127
 size-under m l h = digit-under {P = 2 ^ 64} {Q = 2 ^ 63} l h
@@ -121,7 +121,7 @@ size-end m h = at-end (2 ^ 64) (2 ^ 63) (m .low) (m .high) h
 pub size-past : (m : Magnitude) → 2 ^ 63 ≤ m .high → (m .high ≡ 2 ^ 63 → ⊥) → eqb (size m) (2 ^ 127) ≡ false
 size-past m h k = past-end (2 ^ 64) (2 ^ 63) (m .low) (m .high) (lit< tt) (omega arith)
 
--- ---- 2^64
+-- ════ 2^64 ════
 
 ne-zero-over : (a h : ℕ) → (h ≡ 0 → ⊥) → 2 ^ 64 - 1 ≤ a + 2 ^ 64 * h
 ne-zero-over a h e = omega arith

@@ -18,7 +18,7 @@ pub signed-not : (s : Bool) (n : ℕ) → signed (not s) n ≡ negℤ (signed s 
 signed-not false n = refl
 signed-not true n = sym (negℤ-negℤ (pos n))
 
--- ---- sums
+-- ════ Sums ════
 
 pub sum-same : (s : Bool) (n m : ℕ) → signed s n +ℤ signed s m ≡ signed s (n + m)
 sum-same false n m = refl
@@ -45,7 +45,7 @@ left-over m h = omega arith
 pub right-over : {M m : ℕ} (n : ℕ) → M ≤ m → M ≤ n + m
 right-over n h = omega arith
 
--- ---- order
+-- ════ Order ════
 
 pub below-both-minus : (n m : ℕ) → ltZ (signed true n) (signed true m) ≡ ltb m n
 below-both-minus zero zero = refl
@@ -65,7 +65,7 @@ pub below-plus-minus : (n m : ℕ) → ltZ (signed false n) (signed true m) ≡ 
 below-plus-minus n zero = le-ltb n 0 (omega arith)
 below-plus-minus n (suc m) = refl
 
--- ---- the amount with a sign and limbs
+-- ════ The amount with a sign and limbs ════
 
 zero-signed : (s : Bool) → signed s 0 ≡ pos 0
 zero-signed false = refl
@@ -87,7 +87,7 @@ nonzero-is s n {limbs} e z =
       plain = ap (λ (b : Bool). s && b) (ne-eqb (digits limbs) 0 (λ h. z (sym e ∙ h))) ∙ and-false s;
     }
 
--- ---- whether a sign and a number are an i128
+-- ════ Whether a sign and a number are an i128 ════
 
 and-true : (s : Bool) → (s && true) ≡ s
 and-true false = refl

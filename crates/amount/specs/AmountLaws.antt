@@ -16,7 +16,7 @@ use Rattle.amount.specs.declared.Amount.{Amount}
 use Rattle.amount_limbs.specs.Limbs.{digits}
 use Rattle.amount.specs.Amount.{signed, value, minusZero, Is, saturated, natural, lesser, inRange, isI128}
 
--- ---- four limbs, each below 2^32: what the language gives of any amount that a program holds (`search needs` finds it)
+-- ════ Four limbs, each below 2^32: what the language gives of any amount that a program holds (`search needs` finds it) ════
 
 pub record Whole (a : Amount) : Type 0 where
   pub four : length (a .limbs) ≡ 4
@@ -101,7 +101,7 @@ is-pos {a} {n} h =
     let same = signed-injective (a .negative) false (digits (a .limbs)) n (h .plain) refl (h .stands) in
     (same .1, same .0)
 
--- ---- the range of an i128
+-- ════ The range of an i128 ════
 
 and-left : (a b : Bool) → (a && b) ≡ true → a ≡ true
 and-left true b h = refl
@@ -159,7 +159,7 @@ pub saturated-i128 : {a : Amount} (z : ℤ) → Is a (saturated z) → isI128 a 
 unfolding isI128
 saturated-i128 {a} z h = rw (h .stands, h .plain, saturated-in-range z)
 
--- ---- amounts that stand for natural numbers
+-- ════ Amounts that stand for natural numbers ════
 
 pub natural-pos : (n : ℕ) → natural (pos n) ≡ n
 natural-pos n = refl

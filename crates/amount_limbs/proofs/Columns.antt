@@ -43,7 +43,7 @@ fifth-above P a b c d e h =
     let one : 1 ≤ e = omega arith in
     omega (arith, mul-le-mul-left (P * P * P * P) one)
 
--- ---- saturation of k times n, which is m
+-- ════ Saturation of k times n, which is m ════
 
 pub saturated-fits : (k n : ℕ) {m : ℕ} → Scaled k n 0 0 m → m < 2 ^ 128 → m ≡ saturatedUnsigned (k * n)
 saturated-fits k n {m} s h =

@@ -34,7 +34,7 @@ ceil-over {n} {d} {q} {r} s e =
 pub ceil-low : {n d q r low : ℕ} → Divided n d q r → (r ≡ 0 → ⊥) → low ≡ q % 2 ^ 64 → ceilDiv n d % 2 ^ 64 ≡ (low + 1) % 2 ^ 64
 ceil-low {q = q} s h e = ap (λ (x : ℕ). x % 2 ^ 64) (ceil-over s h) ∙ omega arith
 
--- ---- limb by limb
+-- ════ Limb by limb ════
 
 pub nothing : (d : ℕ) → 0 < d → Divided 0 d 0 0
 nothing d h = record { whole = omega arith; small = h }
@@ -92,7 +92,7 @@ reached-limb q r′ {a} {w} {d} {r} {i} s h t =
 pub reached-all : {a w : List ℕ} {d r i : ℕ} → Reached a d w r i → i ≡ 0 → Divided (digits a) d (digits w) r
 reached-all {a} {w} {d} {r} s e = subst (λ (k : ℕ). Divided (digits (drop k a)) d (digits (drop k w)) r) e (s .above)
 
--- ---- bit by bit
+-- ════ Bit by bit ════
 
 -- i bits of a limb are brought down to what stood above it, n in all: their quotient is q, r is kept, and `left` has the other bits, moved up
 pub record BitsReached (n d q r left i : ℕ) : Type 0 where

@@ -55,7 +55,7 @@ delay-of rate {d} {t} {n} {r} h k e = rw (h .stands) at (rw (k .stands) at e)
 pub below-number : (a : Amount) {b : Amount} {n : ℕ} {r t : Bool} → Is b (pos n) → r ≡ ltZ (value a) (value b) → r ≡ t → ltZ (value a) (pos n) ≡ t
 below-number a h e k = ap (λ (z : ℤ). ltZ (value a) z) (sym (h .stands)) ∙ sym e ∙ k
 
--- ---- a bucket that is on has a rate, and a refill keeps the settings
+-- ════ A bucket that is on has a rate, and a refill keeps the settings ════
 
 rate-on : (rate : ℕ) (b : Bool) → (eqb rate 0 || b) ≡ false → 0 < rate
 rate-on zero b h = absurd (true≢false h)

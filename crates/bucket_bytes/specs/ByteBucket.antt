@@ -107,7 +107,7 @@ byteRefund b bytes now = cond (byteDisabled (b .config)) b (byteGivenBack (byteR
 unfoldable pub byteHasDebt : ByteTokenBucket → ℕ → Bool
 byteHasDebt b now = not (byteDisabled (b .config)) && ltZ (value (byteRefill b now .«available_bytes»)) (pos 0)
 
--- ════ The calls ═══════════════════════════════════════════════════════════════════════════════════
+-- ════ The calls ════
 -- What each contract says of a call's answer. An unsound bucket is refused with 3 and comes back as it was.
 
 unfoldable pub ByteRefillMeets : ByteTokenBucket → ℕ → ByteRefilled → Type 0

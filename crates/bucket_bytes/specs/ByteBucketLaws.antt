@@ -27,7 +27,7 @@ use Rattle.bucket_bytes.specs.declared.bytes.ByteReserved.{ByteReserved}
 use Rattle.bucket_bytes.specs.ByteBucket.{byteSound, byteNew, byteRefill, byteTake, byteTryConsume, byteReserve, bytePeekDelayAfterRefill, byteRefund, byteHasDebt}
 use Rattle.bucket_bytes.specs.ByteBucket.{ByteRefillMeets, ByteTryConsumeMeets, ByteReserveMeets, BytePeekDelayMeets, ByteRefundMeets, ByteHasDebtMeets}
 
--- ════ At most one outcome ═════════════════════════════════════════════════════════════════════════
+-- ════ At most one outcome ════
 
 pub byte-new-outcome : (c : ByteRateLimitConfig) {r q : ByteTokenBucket} → r ≡ byteNew c → q ≡ byteNew c → r ≡ q
 byte-new-outcome c = one-outcome
@@ -62,7 +62,7 @@ byte-burst-bytes-outcome b = one-outcome
 pub byte-is-disabled-outcome : (b : ByteTokenBucket) {r q : Bool} → r ≡ byteDisabled (b .config) → q ≡ byteDisabled (b .config) → r ≡ q
 byte-is-disabled-outcome b = byte-limit-is-disabled-outcome (b .config)
 
--- ════ A sound bucket is never refused ═════════════════════════════════════════════════════════════
+-- ════ A sound bucket is never refused ════
 
 pub byte-refill-sound : (b : ByteTokenBucket) (now : ℕ) {r : ByteRefilled} → byteSound b ≡ true → ByteRefillMeets b now r → r ≡ record { bucket = byteRefill b now; answer = Refilled.Done }
 unfolding ByteRefillMeets
@@ -88,7 +88,7 @@ pub byte-has-debt-sound : (b : ByteTokenBucket) (now : ℕ) {r : Told} → byteS
 unfolding ByteHasDebtMeets
 byte-has-debt-sound b now h e = rw h at e
 
--- ════ A refusal leaves the bucket ═════════════════════════════════════════════════════════════════
+-- ════ A refusal leaves the bucket ════
 
 pub byte-refill-refused : (b : ByteTokenBucket) (now : ℕ) {r : ByteRefilled} {n : ℕ} → ByteRefillMeets b now r → r .answer ≡ Refilled.Refused n → r .bucket ≡ b
 unfolding ByteRefillMeets

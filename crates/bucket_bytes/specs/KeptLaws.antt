@@ -25,7 +25,7 @@ second : (a b : Bool) → (a && b) ≡ true → b ≡ true
 second true b h = h
 second false b h = let z : _≡_ {A = ℕ} 0 1 = cc in absurd (omega arith)
 
--- ---- levels ----
+-- ════ Levels ════
 
 less-than-twice : (M n : ℕ) → 0 < M → n ≤ M - 1 → suc n < 2 * M
 less-than-twice M n h k = omega arith
@@ -83,7 +83,7 @@ taken-within (pos n) burst (suc m) h = sub-within n (suc m) burst (ltb-false bur
 taken-within (negsuc n) burst zero h = sub-within 0 (suc n) burst (omega arith)
 taken-within (negsuc n) burst (suc m) h = refl
 
--- ---- what an operation leaves ----
+-- ════ What an operation leaves ════
 
 -- what is left of a sound bucket: itself, or a level of its settings that is sound
 pub data Left (b q : ByteTokenBucket) : Type 0 where
@@ -107,7 +107,7 @@ left-left (as-it-was e) (level z last f s) = level z last (f ∙ ap (λ (x : Byt
 left-left (level z last e s) (as-it-was f) = level z last (f ∙ e) (rw f s)
 left-left (level y first e s) (level z last f t) = level z last (f ∙ ap (λ (x : ByteTokenBucket). byteLevel (x .config) z last) e) t
 
--- ---- the operations ----
+-- ════ The operations ════
 
 -- a fresh bucket is sound
 pub byte-new-sound : (c : ByteRateLimitConfig) → c .«burst_bytes» < 2 ^ 64 → byteSound (byteNew c) ≡ true

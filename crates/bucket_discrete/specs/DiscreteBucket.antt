@@ -70,7 +70,7 @@ discreteTryConsume b now = discreteTake (discreteRefill b now)
 abbrev pub discreteIsFull : DiscreteTokenBucket → Bool
 discreteIsFull b = eqb (b .available) (b .capacity)
 
--- ════ The calls ═══════════════════════════════════════════════════════════════════════════════════
+-- ════ The calls ════
 -- What each contract says of a call's answer. An unsound bucket is refused with 3 and comes back as it was.
 
 unfoldable pub DiscreteRefillMeets : DiscreteTokenBucket → ℕ → DiscreteRefilled → Type 0

@@ -19,7 +19,7 @@ use Rattle.bucket_discrete.specs.declared.discrete.DiscreteConsumed.{Dis
 use Rattle.bucket_discrete.specs.DiscreteBucket.{discreteSound, discreteNew, discreteRefill, discreteTake, discreteTryConsume, discreteIsFull}
 use Rattle.bucket_discrete.specs.DiscreteBucket.{DiscreteRefillMeets, DiscreteTryConsumeMeets, DiscreteIsFullMeets}
 
--- ════ At most one outcome ═════════════════════════════════════════════════════════════════════════
+-- ════ At most one outcome ════
 
 pub discrete-new-outcome : (interval capacity : ℕ) {r q : DiscreteTokenBucket} → r ≡ discreteNew interval capacity → q ≡ discreteNew interval capacity → r ≡ q
 discrete-new-outcome interval capacity = one-outcome
@@ -36,7 +36,7 @@ pub discrete-is-full-outcome : (b : DiscreteTokenBucket) {r q : Told} → Discre
 unfolding DiscreteIsFullMeets
 discrete-is-full-outcome b = one-outcome
 
--- ════ A sound bucket is never refused ═════════════════════════════════════════════════════════════
+-- ════ A sound bucket is never refused ════
 
 pub discrete-refill-sound : (b : DiscreteTokenBucket) (now : ℕ) {r : DiscreteRefilled} → discreteSound b ≡ true → DiscreteRefillMeets b now r → r ≡ record { bucket = discreteRefill b now; answer = Refilled.Done }
 unfolding DiscreteRefillMeets
@@ -50,7 +50,7 @@ pub discrete-is-full-sound : (b : DiscreteTokenBucket) {r : Told} → discreteSo
 unfolding DiscreteIsFullMeets
 discrete-is-full-sound b h e = rw h at e
 
--- ════ A refusal leaves the bucket ═════════════════════════════════════════════════════════════════
+-- ════ A refusal leaves the bucket ════
 
 pub discrete-refill-refused : (b : DiscreteTokenBucket) (now : ℕ) {r : DiscreteRefilled} {n : ℕ} → DiscreteRefillMeets b now r → r .answer ≡ Refilled.Refused n → r .bucket ≡ b
 unfolding DiscreteRefillMeets

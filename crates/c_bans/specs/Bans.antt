@@ -38,7 +38,7 @@ banOperation n =
     (cond (eqb n 3) RecordViolation
     (cond (eqb n 4) IsBanned (cond (eqb n 5) Score (cond (eqb n 6) PruneExpired (cond (eqb n 7) TrackedPeers Unknown))))))
 
--- ════ Words ═══════════════════════════════════════════════════════════════════════════════════════
+-- ════ Words ════
 
 -- the tracker that these words say
 abbrev pub trackerOf : List ℕ → List ℕ → GossipBanTracker
@@ -57,7 +57,7 @@ banLongs t = t .config .«duration_ms» ∷ t .«max_entries» ∷ t .rows ∷ [
 abbrev pub banShorts : GossipBanTracker → List ℕ
 banShorts t = t .config .threshold ∷ []
 
--- ════ Answers ═════════════════════════════════════════════════════════════════════════════════════
+-- ════ Answers ════
 
 abbrev pub banDone : GossipBanTracker → Said → BanDone
 banDone t s = record { tracker = t; said = s }
@@ -86,7 +86,7 @@ abbrev pub trackedSaid : Tracked → Said
 trackedSaid (Tracked.Peers n) = said 261 n
 trackedSaid (Tracked.Refused n) = said n 0
 
--- ════ The calls ═══════════════════════════════════════════════════════════════════════════════════
+-- ════ The calls ════
 
 -- counting a violation; 0 where no violation has the number
 abbrev pub BlameDoes : Blame → GossipBanTracker → List ℕ → Pubkey → ℕ → BanDone → List ℕ → Type 0

@@ -20,7 +20,7 @@ use Rattle.c_buckets.specs.Amounts.{AmountExported}
 use Rattle.c_buckets.specs.Settings.{SettingsExported}
 use Rattle.c_buckets.specs.Limits.{LimitExported}
 
--- ════ What each operation does ════════════════════════════════════════════════════════════════════
+-- ════ What each operation does ════
 
 discrete-does : (o : DiscreteOperation) (b : DiscreteTokenBucket) (now : ℕ) (d e : DiscreteDone) → DiscreteDoes o b now d → DiscreteDoes o b now e → d ≡ e
 discrete-does DiscreteOperation.New b now d e p q = one-outcome p q
@@ -41,7 +41,7 @@ byte-does ByteOperation.BurstBytes b bytes now d e p q = one-outcome p q
 byte-does ByteOperation.IsDisabled b bytes now d e p q = one-outcome p q
 byte-does ByteOperation.Unknown b bytes now d e p q = one-outcome p q
 
--- ════ At most one outcome ═════════════════════════════════════════════════════════════════════════
+-- ════ At most one outcome ════
 
 pub uglezmir-discrete-outcome : (operation : ℕ) (longs shorts : List ℕ) (now value : ℕ) {r s : ℕ} {longs′ longs″ shorts′ shorts″ : List ℕ} {value′ value″ : ℕ}
     → DiscreteExported operation longs shorts now value r longs′ shorts′ value′

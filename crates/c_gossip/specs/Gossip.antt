@@ -49,7 +49,7 @@ gossipOperation n =
     (cond (eqb n 12) Exceeds
     (cond (eqb n 13) QueueCapacity (cond (eqb n 14) GlobalCapacity (cond (eqb n 15) PeerCapacity Unknown))))))))))))))
 
--- ════ Answers ═════════════════════════════════════════════════════════════════════════════════════
+-- ════ Answers ════
 
 abbrev pub gossipDone : GossipPolicyState → Said → GossipDone
 gossipDone s x = record { state = s; said = x }
@@ -79,7 +79,7 @@ abbrev pub capacitySaid : DelayedByteCapacity → Said
 capacitySaid DelayedByteCapacity.Unlimited = said 259 0
 capacitySaid (DelayedByteCapacity.Bytes n) = said 261 n
 
--- ════ The calls ═══════════════════════════════════════════════════════════════════════════════════
+-- ════ The calls ════
 
 -- counting a violation; 0 where no violation has the number
 abbrev pub BlameDoes : Blame → GossipPolicyState → List ℕ → Pubkey → ℕ → GossipDone → List ℕ → Type 0

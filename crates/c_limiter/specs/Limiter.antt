@@ -28,7 +28,7 @@ abbrev pub limiterOperation : ℕ → LimiterOperation
 limiterOperation n =
     cond (eqb n 1) New (cond (eqb n 2) WithMaxEntries (cond (eqb n 3) TryAcquire (cond (eqb n 4) Tracked Unknown)))
 
--- ════ Words ═══════════════════════════════════════════════════════════════════════════════════════
+-- ════ Words ════
 
 -- the limiter that these words say
 abbrev pub limiterOf : List ℕ → List ℕ → ChannelUpdateLimiter
@@ -47,7 +47,7 @@ limiterLongs l = l .config .«interval_ms» ∷ l .«max_entries» ∷ l .rows �
 abbrev pub limiterShorts : ChannelUpdateLimiter → List ℕ
 limiterShorts l = l .config .burst ∷ []
 
--- ════ Answers ═════════════════════════════════════════════════════════════════════════════════════
+-- ════ Answers ════
 
 abbrev pub limiterDone : ChannelUpdateLimiter → Said → LimiterDone
 limiterDone l s = record { limiter = l; said = s }
@@ -66,7 +66,7 @@ abbrev pub trackedSaid : TrackedKeys → Said
 trackedSaid (TrackedKeys.Keys n) = said 261 n
 trackedSaid (TrackedKeys.Refused n) = said n 0
 
--- ════ The calls ═══════════════════════════════════════════════════════════════════════════════════
+-- ════ The calls ════
 
 -- what each operation does: there is an answer that meets the call's contract, with every lent byte, and it is what is said
 abbrev pub LimiterDoes : LimiterOperation → ChannelUpdateLimiter → List ℕ → ChannelUpdateLimiterKey → ℕ → LimiterDone → List ℕ → Type 0

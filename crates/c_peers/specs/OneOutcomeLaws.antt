@@ -27,7 +27,7 @@ use Rattle.c_peers.specs.Exported.{
   HeldTimeExported,
 }
 
--- ════ The calls that leave a policy in words ══════════════════════════════════════════════════════
+-- ════ The calls that leave a policy in words ════
 
 module _ (longs shorts : List ℕ) {r q : ℕ} {longs' longs'' shorts' shorts'' : List ℕ} where
   module _ (before : List ℕ) {first second : List ℕ} where
@@ -65,7 +65,7 @@ module _ (longs shorts : List ℕ) {r q : ℕ} {longs' longs'' shorts' shorts'' 
   release-ingress-one size =
       some-alone (λ a b. Calls.release-ingress-one (policyOf longs shorts) size {r = a} {q = b}) (λ a. leaves-one (changedTold a) longs shorts)
 
--- ════ The calls that only read the words ══════════════════════════════════════════════════════════
+-- ════ The calls that only read the words ════
 
 in-flight-left : (a : InFlight) (numbers : List ℕ) {r q : ℕ} {first second : List ℕ} → LeavesInFlight a numbers r first
     → LeavesInFlight a numbers q second → (r ≡ q) × (first ≡ second)

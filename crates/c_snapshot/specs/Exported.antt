@@ -17,7 +17,7 @@ use Rattle.snapshot.specs.Snapshot.{WriteMeets, ReadMeets, partPlace}
 use Rattle.snapshot_reader.specs.declared.row.RowStep.{RowStep}
 use Rattle.snapshot_reader.specs.Reader.{given, done, stepAt}
 
--- ════ A policy written and read ═══════════════════════════════════════════════════════════════════
+-- ════ A policy written and read ════
 
 -- the snapshot's length is left with 261; on a refusal what stood there stays
 abbrev pub LengthLeft : Written → ℕ → ℕ → ℕ → Type 0
@@ -34,7 +34,7 @@ abbrev pub ReadExported : List ℕ → List ℕ → List ℕ → List ℕ → �
 ReadExported longs shorts snapshot before r longs' shorts' after =
     Some (λ a. ReadMeets first snapshot before a after) (λ a. Leaves (madeTold a) longs shorts r longs' shorts')
 
--- ════ A snapshot asked for its parts ══════════════════════════════════════════════════════════════
+-- ════ A snapshot asked for its parts ════
 
 -- where the part begins and ends is left with 261; on a refusal what stood there stays
 abbrev pub PlaceLeft : PartPlace → List ℕ → ℕ → List ℕ → Type 0

@@ -18,7 +18,7 @@ use Rattle.snapshot.specs.ReadLaws as Read
 use Rattle.snapshot.specs.WriteLaws as Write
 use Rattle.c_snapshot.specs.Exported.{LengthLeft, WriteExported, ReadExported, PlaceLeft, PlaceExported, RowExported}
 
--- ════ A policy written and read ═══════════════════════════════════════════════════════════════════
+-- ════ A policy written and read ════
 
 length-left : (a : Written) (length : ℕ) {r q first second : ℕ} → LengthLeft a length r first → LengthLeft a length q second
     → (r ≡ q) × (first ≡ second)
@@ -38,7 +38,7 @@ module _ (longs shorts : List ℕ) {r q : ℕ} where
   read-one snapshot before {first = one} {second = other} =
       some-one (λ a b. Read.read-one first snapshot before {r = a} {q = b} {x = one} {y = other}) (λ a. leaves-one (madeTold a) longs shorts)
 
--- ════ A snapshot asked for its parts ══════════════════════════════════════════════════════════════
+-- ════ A snapshot asked for its parts ════
 
 place-left : (a : PartPlace) (place : List ℕ) {r q : ℕ} {first second : List ℕ} → PlaceLeft a place r first → PlaceLeft a place q second
     → (r ≡ q) × (first ≡ second)

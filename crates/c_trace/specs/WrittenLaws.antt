@@ -24,7 +24,7 @@ use Rattle.trace.specs.Step.{spokenText, stepOutcome, answeredOutcome}
 use Rattle.trace.specs.Scan.{firstLine, last, ended, lineOutcome, eventsOutcome, EventsMeets, settledScan, SettledMeets, SettingsBy, SettingsMeets, NextIn, NextMeets}
 use Rattle.c_trace.specs.Written.{Written}
 
--- ════ No text is empty ════════════════════════════════════════════════════════════════════════════
+-- ════ No text is empty ════
 
 abbrev isEmpty : List ℕ → Bool
 isEmpty text = eqb (length text) 0
@@ -46,7 +46,7 @@ spoken number (Says w q) =
 spoken number (Refused n) = refusal n
 spoken number NoEvent = bad-line number
 
--- ════ What is handed out ══════════════════════════════════════════════════════════════════════════
+-- ════ What is handed out ════
 
 -- the line of a text, empty where it is done and nowhere else
 record Hands (h : Handed) : Type 0 where

@@ -15,7 +15,7 @@ use Rattle.decimal.specs.DecimalLaws.{digits-more, is-digit, value-grows
 use Rattle.decimal.specs.declared.Scanned.{Scanned}
 use Rattle.decimal.specs.declared.Scanned.the-variants.{Number, Bad}
 
--- ---- reading
+-- ════ Reading ════
 
 -- what the digits from the place i on make of the number v
 abbrev pub outcome : List ℕ → ℕ → ℕ → ℕ → Scanned
@@ -69,7 +69,7 @@ run-number text at most h low high =
     let above : 48 < getD (digitsAtFront (drop at text)) 0 0 = rw first (omega arith) in
     plain-number (digitsAtFront (drop at text)) at most above
 
--- ---- counting
+-- ════ Counting ════
 
 pub one-digit : (k n : ℕ) → n < 10 → length (digitsWithin (suc k) n) ≡ 1
 one-digit k n h = rw (lt-ltb n 10 h)
@@ -85,7 +85,7 @@ last-digit n = go (ltb n 10)
     go true = refl
     go false = refl
 
--- ---- writing
+-- ════ Writing ════
 
 -- the last digit is written first, and then the others before it
 pub digit-written : (out : List ℕ) (at left n : ℕ) → at + suc left ≤ length out

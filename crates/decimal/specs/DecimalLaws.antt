@@ -20,7 +20,7 @@ use Rattle.decimal.specs.Decimal.{isDigit, digitsWithin, digitsOf, digit
 use Rattle.decimal.specs.declared.Scanned.{Scanned}
 use Rattle.decimal.specs.declared.Scanned.the-variants.{Number, Bad}
 
--- ---- digits of a text
+-- ════ Digits of a text ════
 
 pub is-digit : (b : ℕ) → 48 ≤ b → b ≤ 57 → isDigit b ≡ true
 is-digit b low high = rw (le-leb 48 b low, le-leb b 57 high)
@@ -87,7 +87,7 @@ take-front (b ∷ s) = go (isDigit b) (take-front s)
     go true h = ap (λ (l : List ℕ). b ∷ l) h
     go false h = refl
 
--- ---- the value of digits
+-- ════ The value of digits ════
 
 pub value-append : (v : ℕ) (xs ys : List ℕ) → valueFrom v (xs ++ ys) ≡ valueFrom (valueFrom v xs) ys
 value-append v [] ys = refl
@@ -109,7 +109,7 @@ value-below v (d ∷ ds) h =
     let p : 10 ^ suc (length ds) ≡ P * 10 = pow-suc 10 (length ds) in
     rw p (omega (arith, below, mul-le-mul-right P digit))
 
--- ---- the digits of a number
+-- ════ The digits of a number ════
 
 -- more room than is needed changes nothing
 pub within-more : (k j n : ℕ) → k ≤ j → n < 10 ^ suc k → digitsWithin (suc j) n ≡ digitsWithin (suc k) n
@@ -194,7 +194,7 @@ pub length-digits : (k n : ℕ) → n < 10 ^ suc k → length (digitsOf n) ≤ s
 unfolding digitsOf
 length-digits k n h = length-within k 20 n h
 
--- ---- what stands at a place
+-- ════ What stands at a place ════
 
 -- a run that begins with no zero is the number that it spells
 pub plain-number : (ds : List ℕ) (at most : ℕ) → 48 < getD ds 0 0
@@ -227,7 +227,7 @@ within-bound v end most n place h = go (leb v most) refl h
         record { same-value = sym e; same-end = sym f; small = omega (arith, leb-true v most p) }
     go false p q = let z : _≡_ {A = ℕ} 0 1 = cc in absurd (omega arith)
 
--- ---- what is written reads back
+-- ════ What is written reads back ════
 
 -- the text of a number, before a text that begins with no digit, reads as that number
 pub reads-back : (before rest : List ℕ) (n most : ℕ) → digitsAtFront rest ≡ [] → n ≤ most → n < 10 ^ 20
@@ -260,7 +260,7 @@ written-reads-back s at n most h ended small below =
     ∙ reads-back (take at s) rest n most ended small below
     ∙ ap (λ (k : ℕ). Number n (k + length (digitsOf n))) e
 
--- ---- the only spelling
+-- ════ The only spelling ════
 
 -- digits behind those of a number above zero are the digits of the number that they spell together
 spelled : (j v : ℕ) (ds : List ℕ) → 0 < v → AllDigits ds → digitsWithin (j + length ds) (valueFrom v ds) ≡ digitsWithin j v ++ ds
@@ -344,7 +344,7 @@ only-spelling text at most n end m h =
       small = r .1 .1;
     }
 
--- ---- at most one outcome
+-- ════ At most one outcome ════
 
 pub scan-outcome : (text : List ℕ) (at most : ℕ) {r s : Scanned} → r ≡ scanOf text at most → s ≡ scanOf text at most → r ≡ s
 scan-outcome text at most = one-outcome

@@ -20,7 +20,7 @@ use Rattle.gossip_ban_rows.specs.Entry.{isExpired}
 use Rattle.gossip_ban_rows.specs.Rows.{Bans}
 use Rattle.gossip_ban_rows.specs.Room.{expireFound, maybeExpire, unexpired, pruneExpired, evictionRank, evict, contains, evictWhileFull, makeRoom, roomFor}
 
--- ---- one entry ----
+-- ════ One entry ════
 
 module _ (duration now : ℕ) (k : List ℕ) (rs : Bans) where
   -- a peer without an entry
@@ -51,7 +51,7 @@ module _ (duration now : ℕ) (k : List ℕ) (rs : Bans) where
 pub sub-prune : (duration now : ℕ) (rs : Bans) → Sub (pruneExpired duration now rs) rs
 sub-prune duration now rs = sub-retain (unexpired duration now) rs
 
--- ---- the row evicted ----
+-- ════ The row evicted ════
 
 -- the row found goes
 pub evict-found : (now : ℕ) (rs : Bans) {j n : ℕ} → leastFrom (evictionRank now) nothing 0 rs ≡ best j n → evict now rs ≡ removeAt j rs
@@ -72,7 +72,7 @@ unfolding evict
 sub-evict now rs =
     by-best (leastFrom (evictionRank now) nothing 0 rs) (λ h. rw h (sub-all rs)) (λ j n h. rw h (sub-removeAt j rs))
 
--- ---- making room ----
+-- ════ Making room ════
 
 module _ (limit duration now : ℕ) (rs : Bans) where
   -- a table that is not full stays as it is

@@ -38,7 +38,7 @@ use Rattle.gossip_bans.specs.Calls.{carried, fresh, madeOutcome, MadeMee
 use Rattle.gossip_bans.specs.Carry.{Left}
 use Rattle.gossip_bans.proofs.Judged.{few-rows, rows-fit, order}
 
--- ---- any call ----
+-- ════ Any call ════
 
 -- a call on a sound tracker: what it comes to on the rows
 met : {R P : Type 0} (pair : GossipBanTracker → R → P) (refused : Outcome GossipBanEntry P) (t : GossipBanTracker) (s u : List ℕ) {r : P} {o q : Outcome GossipBanEntry R}
@@ -71,7 +71,7 @@ module _ {R P : Type 0} (pair : GossipBanTracker → R → P) (t : GossipBanTrac
         memory = unchanged ban-faithful s s (t .rows) b (rows-fit t s h) refl;
       })
 
--- ---- making ----
+-- ════ Making ════
 
 module _ (c : GossipBanConfig) (limit : ℕ) (s : List ℕ) where
   pub made-large : 1024 < limit → MadeMeets c limit s (MadeTracker.Refused limitTooLarge) s
@@ -89,7 +89,7 @@ module _ (c : GossipBanConfig) (limit : ℕ) (s : List ℕ) where
         rw (le-ltb 1024 limit h, long-enough banLayout (limitOf limit) s (omega arith) l)
         (record { answers = refl; leaves = holds ban-faithful s u (limitOf limit) [] tt (e ∙ put-clear ban-faithful s (limitOf limit)) })
 
--- ---- record_violation ----
+-- ════ record_violation ════
 
 module _ (t : GossipBanTracker) (s : List ℕ) (k : Pubkey) (v : GossipViolation) (now : ℕ) where
   pub violation-unsound : sound t s ≡ false → RecordViolationMeets t s k v now (record { tracker = t; answer = Told.Refused unsound }) s
@@ -142,7 +142,7 @@ module _ (t : GossipBanTracker) (s : List ℕ) (k : Pubkey) (v : GossipViolation
           (violation-new (t .config) (k .bytes) now (rowsOf t s) (limitOf (t .«max_entries»)) (violationScore v) on (order t s h) (few-rows t s h) (omega arith) found)
           (raised-is ∙ ap (λ (b : GossipBanEntry). raised b points now) first-is)
 
--- ---- is_banned ----
+-- ════ is_banned ════
 
 module _ (t : GossipBanTracker) (s : List ℕ) (k : Pubkey) (now : ℕ) where
   pub standing-unsound : sound t s ≡ false → IsBannedMeets t s k now (record { tracker = t; answer = Told.Refused unsound }) s
@@ -173,7 +173,7 @@ module _ (t : GossipBanTracker) (s : List ℕ) (k : Pubkey) (now : ℕ) where
       standing-live b x =
           met banTold _ t s s h (banned-live (t .config) (k .bytes) now (rowsOf t s) on e found x) (keeps banTold t s (isCurrentlyBanned e now) b h)
 
-  -- ---- score ----
+  -- ════ Score ════
 
   pub scored-unsound : sound t s ≡ false → ScoreMeets t s k now (record { tracker = t; answer = Scored.Refused unsound }) s
   unfolding ScoreMeets scoreOutcome
@@ -195,7 +195,7 @@ module _ (t : GossipBanTracker) (s : List ℕ) (k : Pubkey) (now : ℕ) where
       unfolding ScoreMeets scoreOutcome
       scored-live b x = met banScored _ t s s h (score-live (t .config) (k .bytes) now (rowsOf t s) e found x) (keeps banScored t s (e .score) b h)
 
--- ---- prune_expired ----
+-- ════ prune_expired ════
 
 module _ (t : GossipBanTracker) (s : List ℕ) (now : ℕ) where
   pub pruned-unsound : sound t s ≡ false → PruneExpiredMeets t s now (banPruned t (Pruned.Refused unsound)) s

@@ -31,7 +31,7 @@ use Rattle.gossip_bans.specs.declared.answer.Tracked.{Tracked}
 use Rattle.gossip_bans.specs.declared.answer.Tracked.the-variants as Tracked
 use Rattle.gossip_bans.specs.Tracker.{rowsOf, limitOf, trackerSound, sound, turn, recordViolation, isBanned, score}
 
--- ════ What the answers say ════════════════════════════════════════════════════════════════════════
+-- ════ What the answers say ════
 
 abbrev pub madeSays : MadeTracker → Said
 madeSays (MadeTracker.Tracker t) = gives []
@@ -53,7 +53,7 @@ abbrev pub trackedSays : Tracked → Said
 trackedSays (Tracked.Peers n) = gives (n ∷ [])
 trackedSays (Tracked.Refused n) = refused n
 
--- ════ What becomes of the tracker ═════════════════════════════════════════════════════════════════
+-- ════ What becomes of the tracker ════
 
 -- the tracker with so many rows
 abbrev pub trackerWith : GossipBanTracker → ℕ → GossipBanTracker
@@ -71,7 +71,7 @@ carried pair t o = turn (pair (trackerAfter t (o .change)) (o .answer)) (o .chan
 abbrev pub refuse : {P : Type 0} → P → Outcome GossipBanEntry P
 refuse answer = turn answer same
 
--- ════ The calls ═══════════════════════════════════════════════════════════════════════════════════
+-- ════ The calls ════
 
 -- a tracker without a row; the limit is kept as it is given
 abbrev pub fresh : GossipBanConfig → ℕ → GossipBanTracker

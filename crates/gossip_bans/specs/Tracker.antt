@@ -25,7 +25,7 @@ rowsOf t s = rows banLayout s (t .rows)
 abbrev pub limitOf : ℕ → ℕ
 limitOf limit = max limit 1
 
--- ════ Soundness ═══════════════════════════════════════════════════════════════════════════════════
+-- ════ Soundness ════
 
 -- the record's own rules: the limit within 1,024, and the rows within the limit
 unfoldable pub trackerSound : GossipBanTracker → Bool
@@ -39,7 +39,7 @@ sound t s = lentSound banLayout banSound (trackerSound t) (limitOf (t .«max_ent
 abbrev pub soughtIn : GossipBanTracker → List ℕ → List ℕ → Seek
 soughtIn t s k = lentSought banLayout banSound (trackerSound t) (limitOf (t .«max_entries»)) s (t .rows) k
 
--- ════ The calls, on rows ══════════════════════════════════════════════════════════════════════════
+-- ════ The calls, on rows ════
 
 -- what a call says, and what becomes of the rows
 abbrev pub turn : {R : Type 0} → R → Change GossipBanEntry → Outcome GossipBanEntry R

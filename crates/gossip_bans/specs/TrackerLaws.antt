@@ -25,7 +25,7 @@ use Rattle.gossip_ban_rows.specs.RoomLaws.{expire-absent, expire-expired, expir
 use Rattle.gossip_bans.specs.declared.tracker.GossipBanTracker.{GossipBanTracker}
 use Rattle.gossip_bans.specs.Tracker.{limitOf, trackerSound, turn, orDefault, recordedOver, recordedAmong, recordViolation, isLive, bannedAmong, isBanned, scoreOr, scoreAmong, score}
 
--- ---- the record ----
+-- ════ The record ════
 
 module _ (t : GossipBanTracker) where
   -- the limit is within 1,024
@@ -43,7 +43,7 @@ module _ (t : GossipBanTracker) where
   within-sound h k = both (le-leb _ _ h) (le-leb _ _ k)
 
 module _ (c : GossipBanConfig) (k : List ℕ) (now : ℕ) (rs : Bans) where
-  -- ---- record_violation ----
+  -- ════ record_violation ════
 
   module _ (limit points : ℕ) where
     -- bans are off
@@ -86,7 +86,7 @@ module _ (c : GossipBanConfig) (k : List ℕ) (now : ℕ) (rs : Bans) where
           (ap (makeRoom limit duration now k) (expire-absent duration now k rs found) ∙ room-absent limit duration now k rs found order least few)
           (sub-look-none (sub-room limit duration now rs) order k found)
 
-  -- ---- is_banned ----
+  -- ════ is_banned ════
 
   -- bans are off
   pub banned-off : gossipBanDisabled c ≡ true → isBanned c k now rs ≡ turn false same
@@ -116,7 +116,7 @@ module _ (c : GossipBanConfig) (k : List ℕ) (now : ℕ) (rs : Bans) where
         → isBanned c k now rs ≡ turn (isCurrentlyBanned e now) (become rs)
     banned-live e found h = banned-among rs (some e) (expire-live (c .«duration_ms») now k rs e found h) found
 
-  -- ---- score ----
+  -- ════ Score ════
 
   score-among : (qs : Bans) (found : Option GossipBanEntry) → maybeExpire (c .«duration_ms») now k rs ≡ qs → look k qs ≡ found
       → score c k now rs ≡ turn (scoreOr found) (become qs)

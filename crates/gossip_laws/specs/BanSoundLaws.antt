@@ -41,7 +41,7 @@ use Rattle.gossip_bans.specs.Tracker.{rowsOf, limitOf, trackerSound, sound, tur
 use Rattle.gossip_bans.specs.TrackerLaws.{limit-within, rows-within, within-sound, violation-off, violation-known, violation-new}
 use Rattle.gossip_bans.specs.Calls.{trackerAfter, carried, refuse, fresh, madeOutcome, MadeMeets, banTold, recordViolationOutcome, RecordViolationMeets, isBannedOutcome, IsBannedMeets, banScored, scoreOutcome, ScoreMeets, banPruned, pruneExpiredOutcome, PruneExpiredMeets}
 
--- ---- entries ----
+-- ════ Entries ════
 
 -- a mark of 1, or no ban and no end
 abbrev marked : ℕ → ℕ → Bool
@@ -70,7 +70,7 @@ default-sound : entrySound entryDefault ≡ true
 unfolding entrySound
 default-sound = refl
 
--- ---- a change kept ----
+-- ════ A change kept ════
 
 -- what a call leaves of a tracker and its memory: soundness, the memory's length, bytes, and the settings
 pub record BanKept (t : GossipBanTracker) (s : List ℕ) (q : GossipBanTracker) (u : List ℕ) : Type 0 where
@@ -122,7 +122,7 @@ module _ (t : GossipBanTracker) (s : List ℕ) (h : sound t s ≡ true) (b : Byt
       subst (λ (q : GossipBanTracker). BanKept t s q u) (sym (ap trackerOf (met .answers) ∙ beside (trackerAfter t (o .change)) (o .answer)))
       (changed u (o .change) rs (met .leaves))
 
--- ---- what each call makes of the rows ----
+-- ════ What each call makes of the rows ════
 
 module _ (c : GossipBanConfig) (limit now : ℕ) (k : List ℕ) (rs : Bans) (h : RowsHold banLayout banSound limit rs) where
   expired-holds : RowsHold banLayout banSound limit (maybeExpire (c .«duration_ms») now k rs)
@@ -169,7 +169,7 @@ module _ (c : GossipBanConfig) (limit now : ℕ) (k : List ℕ) (rs : Bans) (h :
         (λ t. subst (λ (o : Outcome GossipBanEntry Bool). ChangeHolds banLayout banSound limit (o .change)) (sym (violation-off c k now rs limit points t)) tt)
         (λ t. violation-by t (look k rs) refl)
 
--- ---- making ----
+-- ════ Making ════
 
 module _ (c : GossipBanConfig) (limit : ℕ) (s u : List ℕ) where
   made-as : {r : MadeTracker} {t : GossipBanTracker} (large long : Bool) → r ≡ MadeTracker.Tracker t
@@ -194,7 +194,7 @@ module _ (c : GossipBanConfig) (limit : ℕ) (s u : List ℕ) where
       (record { few = omega arith; long = omega arith; rules = refl; order = refl }) in
       (subst (λ (q : GossipBanTracker). sound q u ≡ true) (sym (parts .0)) here, (same-length, parts .0))
 
--- ---- the calls ----
+-- ════ The calls ════
 
 module _ (t : GossipBanTracker) (s u : List ℕ) (now : ℕ) (h : sound t s ≡ true) (b : Bytes s) where
   module _ (k : Pubkey) where

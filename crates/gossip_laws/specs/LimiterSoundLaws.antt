@@ -48,7 +48,7 @@ use Rattle.gossip_limiter.specs.Limiter.{rowsOf, limitOf, limiterRecordSound, s
 use Rattle.gossip_limiter.specs.LimiterLaws.{limit-within, rows-within, within-sound, acquire-off, acquire-known, acquire-full, acquire-new}
 use Rattle.gossip_limiter.specs.Calls.{limiterAfter, carried, refuse, fresh, madeOutcome, MadeMeets, tryAcquireOutcome, TryAcquireMeets}
 
--- ---- a row stored ----
+-- ════ A row stored ════
 
 -- a side is 0 or 1
 side-small : (b : Bool) → sideByte b ≤ 1
@@ -86,7 +86,7 @@ unfolding limiterSound
 asked-sound c k b now side capacity level =
     both (le-leb (askedOf b now .entry .available) (c .burst) (omega (arith, asked-level b now level))) (le-leb (getD k 69 0) 1 side)
 
--- ---- what try_acquire makes of the rows ----
+-- ════ What try_acquire makes of the rows ════
 
 module _ (c : ChannelUpdateRateLimitConfig) (limit now : ℕ) (k : List ℕ) (rs : Limits) (h : RowsHold limiterLayout (limiterSound c) limit rs) where
   room-holds : RowsHold limiterLayout (limiterSound c) limit (roomFor limit c now rs)
@@ -123,7 +123,7 @@ module _ (c : ChannelUpdateRateLimitConfig) (limit now : ℕ) (k : List ℕ) (rs
     acquire-holds =
         by-test (channelUpdateDisabled c) (λ t. comes _ (acquire-off c limit k now rs t) tt) (λ t. acquire-by t (look k rs) refl)
 
--- ---- a change kept ----
+-- ════ A change kept ════
 
 -- what a call leaves of a limiter and its memory: soundness, the memory's length, bytes, and the settings
 pub record LimiterKept (l : ChannelUpdateLimiter) (s : List ℕ) (q : ChannelUpdateLimiter) (u : List ℕ) : Type 0 where
@@ -169,7 +169,7 @@ module _ (l : ChannelUpdateLimiter) (s : List ℕ) (h : sound l s ≡ true) (b :
         same-limit = refl;
       }
 
--- ---- making ----
+-- ════ Making ════
 
 module _ (c : ChannelUpdateRateLimitConfig) (limit : ℕ) (s u : List ℕ) where
   made-as : {r : MadeLimiter} {l : ChannelUpdateLimiter} (large long : Bool) → r ≡ MadeLimiter.Limiter l
@@ -194,7 +194,7 @@ module _ (c : ChannelUpdateRateLimitConfig) (limit : ℕ) (s u : List ℕ) where
       (record { few = omega arith; long = omega arith; rules = refl; order = refl }) in
       (subst (λ (q : ChannelUpdateLimiter). sound q u ≡ true) (sym (parts .0)) here, (same-length, parts .0))
 
--- ---- the call ----
+-- ════ The call ════
 
 module _ (l : ChannelUpdateLimiter) (s u : List ℕ) (now : ℕ) (h : sound l s ≡ true) (b : Bytes s) where
   pub try-acquire-kept : (k : ChannelUpdateLimiterKey) → Whole k → Bytes (k .peer .bytes) → Bytes (k .«channel_outpoint» .bytes) → (r : LimiterTold)

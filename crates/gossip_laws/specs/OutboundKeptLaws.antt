@@ -51,7 +51,7 @@ outbound-encodes =
     let num = of-numbers 33 65 outboundNumbers (omega arith) refl (λ e. refl) (λ e. refl) (λ s. refl) in
     record { key-fits = omega arith; length-encode = length-encode num; encode-bytes = encode-bytes num }
 
--- ---- a fresh state ----
+-- ════ A fresh state ════
 
 -- over any memory that is long enough
 pub fresh-sound : (g c : ByteRateLimitConfig) (s : List ℕ) → g .«burst_bytes» < 2 ^ 64 → 66560 ≤ length s → sound (fresh g c) s ≡ true
@@ -61,7 +61,7 @@ fresh-sound g c s fits long =
     (within-own (fresh g c) (omega arith) (byte-new-sound g fits))
     (record { few = omega arith; long = long; rules = refl; order = refl })
 
--- ---- a change kept ----
+-- ════ A change kept ════
 
 module _ (o : Outbound) (s : List ℕ) (k : Pubkey) (h : sound o s ≡ true) (given : Given o s (k .bytes)) where
   own : ownSound o ≡ true
@@ -96,7 +96,7 @@ module _ (o : Outbound) (s : List ℕ) (k : Pubkey) (h : sound o s ≡ true) (gi
   unchanged : (q : Outbound) (t : List ℕ) → q ≡ o → t ≡ s → Kept o s q t
   unchanged q t e m = changed q t (o .«global_outbound») same e (as-it-was refl) tt m
 
-  -- ---- a peer's bucket ----
+  -- ════ A peer's bucket ════
 
   -- what is found, or a fresh one, stands in a row
   peer-stands : Stands (o .«peer_outbound_config») (bucketOrFresh (o .«peer_outbound_config») (look (k .bytes) (rowsOf o s)))
@@ -128,7 +128,7 @@ module _ (o : Outbound) (s : List ℕ) (k : Pubkey) (h : sound o s ≡ true) (gi
   peer-left-fits : peer .config .«burst_bytes» < 2 ^ 64
   peer-left-fits = rw (peer-stands .settings) (given .peers-fit)
 
-  -- ---- allow ----
+  -- ════ Allow ════
 
   module _ (bytes now : ℕ) where
     -- both buckets as they were, or both charged
@@ -175,7 +175,7 @@ module _ (o : Outbound) (s : List ℕ) (k : Pubkey) (h : sound o s ≡ true) (gi
             (ap (λ (x : OutboundTold). x .outbound) (met .answers)) charge-global (written (both .peer) charge-peer e) (met .leaves)
         by false f e met = unchanged (r .outbound) t (ap (λ (x : OutboundTold). x .outbound) (met .answers)) (met .leaves)
 
-  -- ---- remove ----
+  -- ════ Remove ════
 
   pub remove-kept : (r : OutboundSettled) (t : List ℕ) → RemoveMeets o s k r t → Kept o s (r .outbound) t
   unfolding RemoveMeets removeOutcome
@@ -185,7 +185,7 @@ module _ (o : Outbound) (s : List ℕ) (k : Pubkey) (h : sound o s ≡ true) (gi
       (ap (λ (x : OutboundSettled). x .outbound) (met .answers)) (as-it-was refl)
       (sub-hold outboundLayout (outboundSound (o .«peer_outbound_config»)) 1024 (sub-erase (k .bytes) (rowsOf o s)) holding) (met .leaves)
 
-  -- ---- reserve ----
+  -- ════ Reserve ════
 
   module _ (bytes now : ℕ) where
     pub reserve-kept : (r : OutboundReserved) (t : List ℕ) → ReserveMeets o s k bytes now r t → Kept o s (r .outbound) t
@@ -211,7 +211,7 @@ module _ (o : Outbound) (s : List ℕ) (k : Pubkey) (h : sound o s ≡ true) (gi
             (reserve-left (o .«global_outbound») (given .global-fits) (own-global o own) bytes now)
             (written p (left-stands (o .«peer_outbound_config») peer-stands (reserve-left peer peer-left-fits (peer-stands .sound) bytes now)) e) (met .leaves)
 
-    -- ---- refund ----
+    -- ════ Refund ════
 
     pub refund-kept : (r : OutboundSettled) (t : List ℕ) → RefundMeets o s k bytes now r t → Kept o s (r .outbound) t
     unfolding RefundMeets refundOutcome

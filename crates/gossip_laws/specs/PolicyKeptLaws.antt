@@ -34,7 +34,7 @@ use Rattle.gossip_laws.specs.OutboundKept.{Given, Kept}
 use Rattle.gossip_laws.specs.OutboundKeptLaws.{allow-kept, remove-kept, reserve-kept, refund-kept}
 use Rattle.gossip_laws.specs.PolicyKept.{BansKept, OutboundKept}
 
--- ---- bans ----
+-- ════ Bans ════
 
 module _ (s : GossipPolicyState) (before after : List ℕ) (now : ℕ) (h : bans.sound (s .«ban_tracker») before ≡ true) (b : Bytes before) where
   with-tracker : (t : GossipBanTracker) → BanKept (s .«ban_tracker») before t after → BansKept s before (withTracker s t) after
@@ -62,7 +62,7 @@ module _ (s : GossipPolicyState) (before after : List ℕ) (now : ℕ) (h : bans
       subst (λ (x : GossipPruned). BansKept s before (x .state) after) (sym (m .answers))
       (with-tracker (a .tracker) (prune-expired-kept (s .«ban_tracker») before after now h b a (record { answers = refl; leaves = m .leaves })))
 
--- ---- outbound messages ----
+-- ════ Outbound messages ════
 
 module _ (s : GossipPolicyState) (before : List ℕ) (k : Pubkey) (h : outbound.sound (outboundOf s) before ≡ true) (given : Given (outboundOf s) before (k .bytes)) where
   -- the half that comes back has the settings that it had

@@ -37,7 +37,7 @@ use Rattle.gossip_limiter.specs.Calls.{limiterWith, limiterAfter, limite
 use Rattle.gossip_limiter.specs.Carry.{Known, Unknown}
 use Rattle.gossip_limiter.specs.LimiterLaws.{rows-within, acquire-off, acquire-known, acquire-full, acquire-new}
 
--- ---- what soundness gives ----
+-- ════ What soundness gives ════
 
 module _ (l : ChannelUpdateLimiter) (s : List ℕ) (h : sound l s ≡ true) where
   -- the rows are within the limit
@@ -52,7 +52,7 @@ module _ (l : ChannelUpdateLimiter) (s : List ℕ) (h : sound l s ≡ true) wher
   pub rows-inside : 94 * l .rows ≤ length s
   rows-inside = rows-fit limiterLayout (limiterSound (l .config)) (limiterRecordSound l) (limitOf (l .«max_entries»)) s (l .rows) h few-rows
 
--- ---- the ways out ----
+-- ════ The ways out ════
 
 module _ (l : ChannelUpdateLimiter) (s : List ℕ) (key : ChannelUpdateLimiterKey) (now : ℕ) where
   -- what the call comes to on the rows

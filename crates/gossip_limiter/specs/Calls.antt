@@ -24,7 +24,7 @@ use Rattle.gossip_limiter.specs.declared.answer.TrackedKeys.{TrackedKeys
 use Rattle.gossip_limiter.specs.declared.answer.TrackedKeys.the-variants as TrackedKeys
 use Rattle.gossip_limiter.specs.Limiter.{rowsOf, limitOf, limiterRecordSound, sound, turn, tryAcquire}
 
--- ════ What the answers say ════════════════════════════════════════════════════════════════════════
+-- ════ What the answers say ════
 
 abbrev pub madeSays : MadeLimiter → Said
 madeSays (MadeLimiter.Limiter l) = gives []
@@ -38,7 +38,7 @@ abbrev pub trackedSays : TrackedKeys → Said
 trackedSays (TrackedKeys.Keys n) = gives (n ∷ [])
 trackedSays (TrackedKeys.Refused n) = refused n
 
--- ════ What becomes of the limiter ═════════════════════════════════════════════════════════════════
+-- ════ What becomes of the limiter ════
 
 -- the limiter with so many rows
 abbrev pub limiterWith : ChannelUpdateLimiter → ℕ → ChannelUpdateLimiter
@@ -60,7 +60,7 @@ carried l o = turn (limiterTold (limiterAfter l (o .change)) (o .answer)) (o .ch
 abbrev pub refuse : {P : Type 0} → P → Outcome ChannelUpdateLimiterEntry P
 refuse answer = turn answer same
 
--- ════ The calls ═══════════════════════════════════════════════════════════════════════════════════
+-- ════ The calls ════
 
 -- a limiter without a row; the limit is kept as it is given
 abbrev pub fresh : ChannelUpdateRateLimitConfig → ℕ → ChannelUpdateLimiter

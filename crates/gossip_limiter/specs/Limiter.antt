@@ -30,7 +30,7 @@ rowsOf l s = rows limiterLayout s (l .rows)
 abbrev pub limitOf : ℕ → ℕ
 limitOf limit = max limit 1
 
--- ════ Soundness ═══════════════════════════════════════════════════════════════════════════════════
+-- ════ Soundness ════
 
 -- the record's own rules: the limit within 1,024, and the rows within the limit
 unfoldable pub limiterRecordSound : ChannelUpdateLimiter → Bool
@@ -44,7 +44,7 @@ sound l s = lentSound limiterLayout (limiterSound (l .config)) (limiterRecordSou
 abbrev pub soughtIn : ChannelUpdateLimiter → List ℕ → List ℕ → Seek
 soughtIn l s k = lentSought limiterLayout (limiterSound (l .config)) (limiterRecordSound l) (limitOf (l .«max_entries»)) s (l .rows) k
 
--- ════ try_acquire, on rows ════════════════════════════════════════════════════════════════════════
+-- ════ try_acquire, on rows ════
 
 -- what a call says, and what becomes of the rows
 abbrev pub turn : {R : Type 0} → R → Change ChannelUpdateLimiterEntry → Outcome ChannelUpdateLimiterEntry R

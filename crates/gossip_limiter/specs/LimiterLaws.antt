@@ -21,7 +21,7 @@ use Rattle.gossip_limiter_rows.specs.Prune.{roomFor}
 use Rattle.gossip_limiter.specs.declared.limiter.ChannelUpdateLimiter.{ChannelUpdateLimiter}
 use Rattle.gossip_limiter.specs.Limiter.{limitOf, limiterRecordSound, turn, acquireFrom, tryAcquire}
 
--- ---- the record ----
+-- ════ The record ════
 
 module _ (l : ChannelUpdateLimiter) where
   -- the limit is within 1,024
@@ -38,7 +38,7 @@ module _ (l : ChannelUpdateLimiter) where
   unfolding limiterRecordSound
   within-sound h k = both (le-leb _ _ h) (le-leb _ _ k)
 
--- ---- try_acquire ----
+-- ════ try_acquire ════
 
 module _ (c : ChannelUpdateRateLimitConfig) (limit : ℕ) (k : List ℕ) (now : ℕ) (rs : Limits) where
   -- the limit is off

@@ -31,7 +31,7 @@ use Rattle.gossip_outbound_state.specs.Carry.{fullAt, Placed, PeerBucket}
 use Rattle.gossip_outbound_state.specs.CarryLaws.{placed-full}
 use Rattle.gossip_outbound.specs.Calls.{allowOutcome, AllowMeets, reserveOutcome, ReserveMeets, refundOutcome, RefundMeets, removeOutcome, RemoveMeets, EstimateMeets, BypassMeets}
 
--- ---- an outcome met ----
+-- ════ An outcome met ════
 
 module _ {R : Type 0} (o : Outbound) (s : List ℕ) (outcome : Outcome OutboundEntry R) where
   -- nothing changed
@@ -48,7 +48,7 @@ module _ {R : Type 0} (o : Outbound) (s : List ℕ) (outcome : Outcome OutboundE
 
 module _ (o : Outbound) (s : List ℕ) (k : Pubkey) where
   module _ (bytes now : ℕ) where
-    -- ---- allow ----
+    -- ════ Allow ════
 
     -- an unsound state
     pub allow-unsound : sound o s ≡ false → AllowMeets o s k bytes now (outboundTold o (Told.Refused unsound)) s
@@ -87,7 +87,7 @@ module _ (o : Outbound) (s : List ℕ) (k : Pubkey) where
             (kept (k .bytes) (both .peer) (rowsOf o s)) t m
             (allow-by ∙ rw (gave, sym (placed-full o s (k .bytes) found p) ∙ h)) held
 
-    -- ---- reserve ----
+    -- ════ Reserve ════
 
     -- an unsound state
     pub reserve-unsound : sound o s ≡ false → ReserveMeets o s k bytes now (outboundReserved o (Delay.Refused unsound)) s
@@ -123,7 +123,7 @@ module _ (o : Outbound) (s : List ℕ) (k : Pubkey) where
           ∙ rw (sym (placed-full o s (k .bytes) found p) ∙ h))
           held
 
-    -- ---- refund ----
+    -- ════ Refund ════
 
     -- an unsound state
     pub refund-unsound : sound o s ≡ false → RefundMeets o s k bytes now (outboundSettled o (Settled.Refused unsound)) s
@@ -171,7 +171,7 @@ module _ (o : Outbound) (s : List ℕ) (k : Pubkey) where
             ∙ rw (on, sym (placed-full o s (k .bytes) found p) ∙ h))
             held
 
-  -- ---- remove ----
+  -- ════ Remove ════
 
   -- an unsound state
   pub remove-unsound : sound o s ≡ false → RemoveMeets o s k (outboundSettled o (Settled.Refused unsound)) s
@@ -187,7 +187,7 @@ module _ (o : Outbound) (s : List ℕ) (k : Pubkey) where
       (erase (k .bytes) (rowsOf o s)) t m (rw h) held
 
   module _ (bytes now : ℕ) where
-    -- ---- estimate ----
+    -- ════ Estimate ════
 
     -- an unsound state
     pub estimate-unsound : sound o s ≡ false → EstimateMeets o s k bytes now (Delay.Refused unsound)
@@ -201,7 +201,7 @@ module _ (o : Outbound) (s : List ℕ) (k : Pubkey) where
     unfolding EstimateMeets
     estimate-wait h g p r first second longer = rw h (ap Delay.Wait (longer ∙ ap (λ (n : ℕ). max n p) first ∙ ap (max _) second))
 
-    -- ---- bypass ----
+    -- ════ Bypass ════
 
     -- an unsound state
     pub bypass-unsound : sound o s ≡ false → BypassMeets o s k bytes now (Told.Refused unsound)

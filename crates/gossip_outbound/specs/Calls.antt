@@ -23,7 +23,7 @@ use Rattle.gossip_outbound.specs.declared.answer.Settled.the-variants as
 use Rattle.gossip_outbound_state.specs.State.{rowsOf, sound}
 use Rattle.gossip_outbound.specs.Outbound.{refuse, outboundTold, outboundReserved, outboundSettled, allow, reserve, refund, removed, estimate, bypasses}
 
--- ════ What the answers say ════════════════════════════════════════════════════════════════════════
+-- ════ What the answers say ════
 
 -- 1 for yes, 0 for no
 abbrev pub outboundToldSays : OutboundTold → Said
@@ -42,7 +42,7 @@ settledSays (Settled.Refused n) = refused n
 abbrev pub outboundSettledSays : OutboundSettled → Said
 outboundSettledSays r = settledSays (r .answer)
 
--- ════ The calls ═══════════════════════════════════════════════════════════════════════════════════
+-- ════ The calls ════
 
 -- allow_outbound_message
 unfoldable pub allowOutcome : Outbound → List ℕ → Pubkey → ℕ → ℕ → Outcome OutboundEntry OutboundTold

@@ -26,7 +26,7 @@ use Rattle.gossip_outbound.specs.declared.answer.Settled.{Settled}
 use Rattle.gossip_outbound.specs.declared.answer.Settled.the-variants as Settled
 use Rattle.gossip_outbound_state.specs.State.{bucketOrFresh, full, chargeBoth, promiseBoth, exceeds, peerDelay, peerDebt, outboundWith}
 
--- ════ What a call leaves ══════════════════════════════════════════════════════════════════════════
+-- ════ What a call leaves ════
 
 -- an answer, and what becomes of the rows
 abbrev pub turn : {R : Type 0} → R → Change OutboundEntry → Outcome OutboundEntry R
@@ -48,7 +48,7 @@ outboundReserved o answer = record { outbound = o; answer = answer }
 abbrev pub outboundSettled : Outbound → Settled → OutboundSettled
 outboundSettled o answer = record { outbound = o; answer = answer }
 
--- ════ The calls, on rows ══════════════════════════════════════════════════════════════════════════
+-- ════ The calls, on rows ════
 
 -- the rows with this bucket under a peer's key
 abbrev pub kept : List ℕ → ByteTokenBucket → Buckets → Buckets

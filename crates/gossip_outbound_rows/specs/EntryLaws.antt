@@ -22,7 +22,7 @@ use Rattle.bucket_bytes.specs.KeptLaws.{Left, as-it-was, level, byte-new-sound}
 use Rattle.gossip_outbound_rows.specs.declared.entry.OutboundEntry.{OutboundEntry}
 use Rattle.gossip_outbound_rows.specs.Entry.{amountFrom, bucketOf, signOf, entryOf, entrySound}
 
--- ---- numbers ----
+-- ════ Numbers ════
 
 joined-back : (n : ℕ) → n % 4294967296 + 4294967296 * (n / 4294967296) ≡ n
 joined-back n = omega arith
@@ -50,7 +50,7 @@ four-back (a ∷ b ∷ c ∷ []) h = absurd (omega arith)
 four-back (a ∷ b ∷ c ∷ d ∷ []) h = refl
 four-back (a ∷ b ∷ c ∷ d ∷ e ∷ xs) h = absurd (omega arith)
 
--- ---- there and back ----
+-- ════ There and back ════
 
 -- an entry's bucket has that entry
 pub entry-back : (c : ByteRateLimitConfig) (e : OutboundEntry) → e .sign ≤ 1 → entryOf (bucketOf c e) ≡ e
@@ -78,7 +78,7 @@ bucket-back b w =
     ap (λ (a : Amount). record { config = b .config; «available_bytes» = a; «last_refill_ms» = b .«last_refill_ms» })
     (amount-back (b .«available_bytes») w)
 
--- ---- one row ----
+-- ════ One row ════
 
 -- two halves make four limbs
 from-whole : (sign low high : ℕ) → low < 2 ^ 64 → high < 2 ^ 64 → Whole (amountFrom sign low high)
@@ -126,7 +126,7 @@ module _ (c : ByteRateLimitConfig) where
       ∙ ap (λ (n : ℕ). entryOf (record { config = c; «available_bytes» = bucketOf c e .«available_bytes»; «last_refill_ms» = n })) t
       ∙ entry-back c e (sign-within e se)
 
-  -- ---- buckets that stand in a row ----
+  -- ════ Buckets that stand in a row ════
 
   -- a sound bucket of the peers' settings, for which its entry stands
   pub record Stands (b : ByteTokenBucket) : Type 0 where

@@ -35,7 +35,7 @@ use Rattle.gossip_outbound_state.specs.declared.state.Outbound.{Outbound
 use Rattle.gossip_outbound_state.specs.State.{rowsOf, ownSound, sound, soughtIn, bucketOrFresh, full, isYes, isToldYes, charged, chargeBoth, peerDelay, peerDebt}
 use Rattle.gossip_outbound_state.specs.Carry.{isUnsound, fullAt, Placed, PeerBucket}
 
--- ---- two buckets asked ----
+-- ════ Two buckets asked ════
 
 -- a test as an answer, read back
 pub told-back : (t : Bool) → isToldYes (told t) ≡ t
@@ -69,7 +69,7 @@ module _ (g p : ByteTokenBucket) (bytes now : ℕ) (first : ByteConsumed) (asked
         (ap (λ (r : ByteConsumed). charged (r .bucket) (second .bucket) true) asked
         ∙ ap (λ (r : ByteConsumed). charged (byteTryConsume g bytes now .bucket) (r .bucket) true) then-asked)
 
--- ---- the record ----
+-- ════ The record ════
 
 module _ (o : Outbound) where
   -- rows within 1,024
@@ -86,7 +86,7 @@ module _ (o : Outbound) where
   unfolding ownSound
   within-own h k = both (le-leb (o .rows) 1024 h) k
 
--- ---- what the search says ----
+-- ════ What the search says ════
 
 module _ (o : Outbound) (s k : List ℕ) where
   -- all is unsound
@@ -130,7 +130,7 @@ module _ (o : Outbound) (s k : List ℕ) where
   pub not-unsound : Placed o s k Unsound → ⊥
   not-unsound p = place-is-sound 0 k (rowsOf o s) (p .place)
 
-  -- ---- a peer that has a row ----
+  -- ════ A peer that has a row ════
 
   module _ (i : ℕ) (p : Placed o s k (At i)) where
     known : lent.Known outboundLayout (outboundSound (o .«peer_outbound_config»)) (ownSound o) 1024 s (o .rows) k i
@@ -163,7 +163,7 @@ module _ (o : Outbound) (s k : List ℕ) where
           → byteHasDebt (bucketOf (o .«peer_outbound_config») e) now ≡ peerDebt (o .«peer_outbound_config») now (look k (rowsOf o s))
       known-debt now = ap (peerDebt (o .«peer_outbound_config») now) (sym found-there)
 
-  -- ---- a peer that has none ----
+  -- ════ A peer that has none ════
 
   module _ (i : ℕ) (p : Placed o s k (Gap i)) where
     unknown : lent.Unknown outboundLayout (outboundSound (o .«peer_outbound_config»)) (ownSound o) 1024 s (o .rows) k i
@@ -193,7 +193,7 @@ module _ (o : Outbound) (s k : List ℕ) where
     pub room-left : fullAt (o .rows) (Gap i) ≡ false → o .rows + 1 ≤ 1024
     room-left h = omega (arith, leb-false 1024 (o .rows) h)
 
-  -- ---- full ----
+  -- ════ Full ════
 
   -- by what was found, or by what is looked up
   pub placed-full : (found : Seek) → Placed o s k found → fullAt (o .rows) found ≡ full (o .rows) (look k (rowsOf o s))
@@ -203,7 +203,7 @@ module _ (o : Outbound) (s k : List ℕ) where
       ap (full (o .rows)) (sym (found-there i p e refl))
   placed-full (Gap i) p = ap (full (o .rows)) (sym (found-none i p))
 
-  -- ---- rows written and taken out ----
+  -- ════ Rows written and taken out ════
 
   module _ (t : List ℕ) where
     -- over the peer's row

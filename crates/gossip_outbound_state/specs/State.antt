@@ -29,7 +29,7 @@ use Rattle.gossip_outbound_state.specs.declared.charge.Promised.{Promise
 abbrev pub rowsOf : Outbound → List ℕ → Buckets
 rowsOf o s = rows outboundLayout s (o .rows)
 
--- ════ Soundness ═══════════════════════════════════════════════════════════════════════════════════
+-- ════ Soundness ════
 
 -- the record's own rules: rows within 1,024, and a global bucket that is sound
 unfoldable pub ownSound : Outbound → Bool
@@ -43,7 +43,7 @@ sound o s = lentSound outboundLayout (outboundSound (o .«peer_outbound_config»
 abbrev pub soughtIn : Outbound → List ℕ → List ℕ → Seek
 soughtIn o s k = lentSought outboundLayout (outboundSound (o .«peer_outbound_config»)) (ownSound o) 1024 s (o .rows) k
 
--- ════ A peer's bucket ═════════════════════════════════════════════════════════════════════════════
+-- ════ A peer's bucket ════
 
 -- unwrap_or_else, or_insert_with: what was found, or a new bucket
 abbrev pub bucketOrFresh : ByteRateLimitConfig → Option OutboundEntry → ByteTokenBucket
@@ -55,7 +55,7 @@ abbrev pub full : ℕ → Option OutboundEntry → Bool
 full n none = leb 1024 n
 full n (some e) = false
 
--- ════ Two buckets ═════════════════════════════════════════════════════════════════════════════════
+-- ════ Two buckets ════
 
 -- whether a bucket gave what was asked
 abbrev pub isYes : Consumed → Bool
@@ -104,7 +104,7 @@ exceedsBurst c bytes = not (byteDisabled c) && ltb (c .«burst_bytes») bytes
 abbrev pub exceeds : Outbound → ℕ → Bool
 exceeds o bytes = exceedsBurst (o .«global_outbound» .config) bytes || exceedsBurst (o .«peer_outbound_config») bytes
 
--- ════ What is asked of a peer's bucket ════════════════════════════════════════════════════════════
+-- ════ What is asked of a peer's bucket ════
 
 -- the delay of a peer's bucket, 0 where it has none
 abbrev pub peerDelay : ByteRateLimitConfig → ℕ → ℕ → Option OutboundEntry → ℕ
@@ -116,7 +116,7 @@ abbrev pub peerDebt : ByteRateLimitConfig → ℕ → Option OutboundEntry → B
 peerDebt c now none = false
 peerDebt c now (some e) = byteHasDebt (bucketOf c e) now
 
--- ════ The state after a call ═══════════════════════════════════════════════════════════════════════
+-- ════ The state after a call ════
 
 -- the state with this global bucket and so many rows
 abbrev pub outboundWith : Outbound → ByteTokenBucket → ℕ → Outbound

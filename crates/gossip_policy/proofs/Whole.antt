@@ -27,7 +27,7 @@ use Rattle.gossip_policy.specs.declared.state.GossipPolicyState.{GossipP
 use Rattle.gossip_policy.specs.State.{fresh, outboundOf}
 use Rattle.gossip_policy.specs.Calls.{over, banTold, banPruned, outboundTold, outboundReserved, outboundSettled, settled, bothLong, newOutcome, NewMeets, RecordViolationMeets, IsBannedMeets, PruneBansMeets, AllowMeets, RemoveMeets, ReserveMeets, RefundMeets}
 
--- ---- making ----
+-- ════ Making ════
 
 module _ (c : GossipPolicyConfig) (b o : List ℕ) where
   short : bothLong b o ≡ false → NewMeets c b o (settled (fresh c) (Settled.Refused tooShort)) b o
@@ -52,7 +52,7 @@ module _ (c : GossipPolicyConfig) (b o : List ℕ) where
         record { answers = refl; leaves = holds outbound-faithful o o' 1024 [] tt (q ∙ put-clear outbound-faithful o 1024) },
       )
 
--- ---- the calls ----
+-- ════ The calls ════
 
 -- what a half answers, told of the whole
 meets-over : {A : Type 0} {L : Layout A} {R P : Type 0} (f : R → P) {a : R} {before after : List ℕ} {n : ℕ} {o : Outcome A R}

@@ -33,7 +33,7 @@ use Rattle.gossip_policy.specs.declared.answer.DelayedByteCapacity.{Dela
 use Rattle.gossip_policy.specs.declared.answer.DelayedByteCapacity.the-variants.{Unlimited, Bytes}
 use Rattle.gossip_policy.specs.State.{fresh, outboundOf, withTracker, withOutbound}
 
--- ════ What the answers say ════════════════════════════════════════════════════════════════════════
+-- ════ What the answers say ════
 
 -- 1 for yes, 0 for no
 abbrev pub gossipToldSays : GossipTold → Said
@@ -54,7 +54,7 @@ abbrev pub capacitySays : DelayedByteCapacity → Said
 capacitySays Unlimited = gives []
 capacitySays (Bytes n) = gives (n ∷ [])
 
--- ════ The answer of a half as an answer of the whole ══════════════════════════════════════════════
+-- ════ The answer of a half as an answer of the whole ════
 
 -- a call on one half, whose answer is told of the whole state; what becomes of the rows is the half's
 abbrev pub over : {A R P : Type 0} → (R → P) → Outcome A R → Outcome A P
@@ -75,7 +75,7 @@ outboundReserved s a = record { state = withOutbound s (a .outbound); answer = a
 abbrev pub outboundSettled : GossipPolicyState → OutboundSettled → GossipSettled
 outboundSettled s a = record { state = withOutbound s (a .outbound); answer = a .answer }
 
--- ════ Making ══════════════════════════════════════════════════════════════════════════════════════
+-- ════ Making ════
 
 -- both tables have room for 1,024 rows
 abbrev pub bothLong : List ℕ → List ℕ → Bool
@@ -96,7 +96,7 @@ NewMeets c bans outbound r bans' outbound' =
     Meets banLayout r bans bans' 1024 (newOutcome c bans outbound)
     × Meets outboundLayout r outbound outbound' 1024 (newOutcome c bans outbound)
 
--- ════ Bans ════════════════════════════════════════════════════════════════════════════════════════
+-- ════ Bans ════
 
 unfoldable pub RecordViolationMeets : GossipPolicyState → List ℕ → Pubkey → GossipViolation → ℕ → GossipTold → List ℕ → Type 0
 RecordViolationMeets s before k v now r after =
@@ -113,7 +113,7 @@ PruneBansMeets s before now r after =
     Meets banLayout r before after (s .«ban_tracker» .rows)
     (over (banPruned s) (bans.pruneExpiredOutcome (s .«ban_tracker») before now))
 
--- ════ Outbound messages ═══════════════════════════════════════════════════════════════════════════
+-- ════ Outbound messages ════
 
 unfoldable pub AllowMeets : GossipPolicyState → List ℕ → Pubkey → ℕ → ℕ → GossipTold → List ℕ → Type 0
 AllowMeets s before k bytes now r after =

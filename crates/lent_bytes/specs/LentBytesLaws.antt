@@ -17,7 +17,7 @@ use lib.Seq.{length-take-le, drop-at, take-append-seam, take-append-le, take-tak
 use lib.Seq.{getD-take, getD-drop}
 use Rattle.lent_bytes.specs.LentBytes.{part, put, le, bytes, zeros, Bytes}
 
--- ---- lengths
+-- ════ Lengths ════
 
 -- a write that fits leaves the length as it was
 pub length-put : (s : List ℕ) (at : ℕ) (b : List ℕ) → at + length b ≤ length s → length (put s at b) ≡ length s
@@ -38,7 +38,7 @@ length-bytes (suc n) v = ap suc (length-bytes n (v / 256))
 pub length-zeros : (n : ℕ) → length (zeros n) ≡ n
 length-zeros n = length-replicate n 0
 
--- ---- what stands before, at and behind a written run
+-- ════ What stands before, at and behind a written run ════
 
 -- a part is what is left of a front: the other way round of writing it
 part-of-take : (s : List ℕ) (at n : ℕ) → part s at n ≡ drop at (take (at + n) s)
@@ -97,7 +97,7 @@ pub part-put-after : (s : List ℕ) (at : ℕ) (b : List ℕ) (i n : ℕ) → at
 unfolding part
 part-put-after s at b i n h k = ap (λ (l : List ℕ). take n l) (drop-put s at b i h k)
 
--- ---- two writes
+-- ════ Two writes ════
 
 -- a write, and one right behind it, are one write
 pub put-put : (s : List ℕ) (at : ℕ) (b c : List ℕ) → at ≤ length s → put (put s at b) (at + length b) c ≡ put s at (b ++ c)
@@ -151,7 +151,7 @@ put-part s at n h =
     ∙ ap (λ (l : List ℕ). take at s ++ (take n (drop at s) ++ l)) (sym (drop-drop n at s))
     ∙ ap (λ (l : List ℕ). take at s ++ l) (take-append-drop n (drop at s)) ∙ take-append-drop at s
 
--- ---- parts of parts
+-- ════ Parts of parts ════
 
 -- a part of no bytes is empty
 pub part-zero : (s : List ℕ) (at : ℕ) → part s at 0 ≡ []
@@ -211,7 +211,7 @@ part-put-around s at n i b h k =
     ∙ append-assoc (part x at i) (part x (at + i) (length b)) (part x (at + j) (n - j))
     ∙ (λ d. front d ++ (run d ++ rest d))
 
--- ---- one byte more: how the invariant of a loop that writes bytes grows
+-- ════ One byte more: how the invariant of a loop that writes bytes grows ════
 
 -- a part's first byte
 pub part-cons : (s : List ℕ) (at n : ℕ) → at < length s → part s at (suc n) ≡ getD s at 0 ∷ part s (suc at) n
@@ -257,7 +257,7 @@ put-cons s at b a h =
     set-put (put s (suc at) b) at a (rw (length-put s (suc at) b h) (omega arith))
     ∙ ap (λ (m : ℕ). put (put s m b) at (a ∷ [])) (sym (add-one at)) ∙ put-under s at (a ∷ []) b (omega arith)
 
--- ---- numbers and their bytes
+-- ════ Numbers and their bytes ════
 
 -- the number of a longer run is that of its front and, as many bytes higher, that of its rest
 pub le-append : (a b : List ℕ) → le (a ++ b) ≡ le a + 256 ^ length a * le b
@@ -357,7 +357,7 @@ bytes-zero (suc n) = ap (λ (l : List ℕ). 0 ∷ l) (bytes-zero n)
 pub zeros-append : (n m : ℕ) → zeros (n + m) ≡ zeros n ++ zeros m
 zeros-append n m = sym (replicate-append-replicate n m 0)
 
--- ---- bytes stay bytes
+-- ════ Bytes stay bytes ════
 
 -- no bytes are bytes
 pub Bytes-nil : Bytes []
@@ -405,7 +405,7 @@ pub Bytes-bytes : (n v : ℕ) → Bytes (bytes n v)
 Bytes-bytes zero v = Bytes-nil
 Bytes-bytes (suc n) v = Bytes-cons (v % 256) (bytes n (v / 256)) (omega arith) (Bytes-bytes n (v / 256))
 
--- ---- what is written reads back
+-- ════ What is written reads back ════
 
 -- a number that was written reads back
 pub written-reads-back : (s : List ℕ) (at n v : ℕ) → at + n ≤ length s → v < 256 ^ n → le (part (put s at (bytes n v)) at n) ≡ v

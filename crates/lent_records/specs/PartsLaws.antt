@@ -33,7 +33,7 @@ module _ (K : Lent) where
   pub none-said : (d : Kept K .D) (f : Last (Record K .exit yes) d) → left (Record K .exit yes) d f ≡ ftrue
   none-said = subst (λ (e : Exit (Kept K .D)). (d : Kept K .D) (f : Last e d) → left e d f ≡ ftrue) (sym same-at-exit) (λ d f. refl)
 
-  -- ---- a pair's parts
+  -- ════ A pair's parts ════
   pub pair-record : (t : K .Both) (v : Val) → Is (Handed K) t (v ∷ []) → Is (Record K) (K .kept t) (recordVal K (K .kept t) ∷ [])
   pair-record t v is = LL.owed (Pair K) (pair-laws K) t _ is .0
 
@@ -56,7 +56,7 @@ module _ (K : Lent) where
         (subst (λ (e : Said K .D). Is (Answer K) e (answerVal K e ∷ [])) (sym (K .both-said d a)) is-a, tt),
       ))
 
-  -- ---- under a model
+  -- ════ Under a model ════
   module _ {M : Type 1} (𝓤 : URA M) (H : Heap 𝓤) (A : Atoms 𝓤) (W : Given 𝓤 H A) where
     pub record-typed : (d : Kept K .D) → Is (Record K) d (recordVal K d ∷ []) → Holds (hasTy (recordTy K) (recordVal K d)) × WT (recordVal K d)
     record-typed d is = LL.lawful (Kept K) (K .record-type .laws) 𝓤 H A W .typed d _ is .0

@@ -108,7 +108,7 @@ use Rattle.peer_laws.specs.SoundLaws.{
   disconnected-holds,
 }
 
--- ════ No call on a sound policy is refused with 3 ═════════════════════════════════════════════════
+-- ════ No call on a sound policy is refused with 3 ════
 
 module _ (p : PeerMessagePolicy) (s : List ℕ) (h : sound p s ≡ true) (k : Pubkey) where
   pub admit-outcome : (size now : ℕ)
@@ -159,7 +159,7 @@ module _ (p : PeerMessagePolicy) (h : policySound p ≡ true) where
   unfolding InFlightMeets
   in-flight-answer m = m ∙ rw h
 
--- ════ Every call on a sound policy leaves a sound one ═════════════════════════════════════════════
+-- ════ Every call on a sound policy leaves a sound one ════
 
 -- what holds of the policy that a caller goes on with: the one in the answer, or his own after a refusal
 module _ (p : PeerMessagePolicy) (P : PeerMessagePolicy → Type 0) where
@@ -292,7 +292,7 @@ release-ingress-leaves p s size r h b m =
     (change-leaves p s s (ingressReleased (p .ingress) size) same holds b
     (released-sound (p .config) (p .ingress) size (holds .own .load)) tt refl)
 
--- ════ A fresh policy is sound ═════════════════════════════════════════════════════════════════════
+-- ════ A fresh policy is sound ════
 
 -- a policy is not a refusal
 made-is-not-refused : {p : PeerMessagePolicy} {n : ℕ} → Made.Policy p ≡ Made.Refused n → ⊥

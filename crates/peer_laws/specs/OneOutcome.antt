@@ -17,7 +17,7 @@ use Rattle.peer_message_policy.specs.declared.answer.InFlight.{InFlight}
 use Rattle.peer_message_policy.specs.declared.answer.HeldTime.{HeldTime}
 use Rattle.peer_message_policy.specs.Calls.{fresh, NewMeets, AdmitMeets, RecordInvalidMeets, IsBannedMeets, OnDisconnectedMeets, ReleaseIngressMeets, InFlightMeets, HeldTimeMeets}
 
--- ════ The calls that memory is lent to ════════════════════════════════════════════════════════════
+-- ════ The calls that memory is lent to ════
 
 module _ (before : List ℕ) {first second : List ℕ} where
   pub new-one : (c : PeerMessagePolicyConfig) {r q : Made} → NewMeets c before r first → NewMeets c before q second
@@ -46,7 +46,7 @@ module _ (before : List ℕ) {first second : List ℕ} where
     unfolding OnDisconnectedMeets
     on-disconnected-one now m n = one-meets m n
 
--- ════ The calls that change no memory ═════════════════════════════════════════════════════════════
+-- ════ The calls that change no memory ════
 
 pub fresh-one : (c : PeerMessagePolicyConfig) {r q : PeerMessagePolicy} → r ≡ fresh c → q ≡ fresh c → r ≡ q
 fresh-one c = one-outcome

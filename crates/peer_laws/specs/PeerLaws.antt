@@ -30,7 +30,7 @@ use Rattle.peer_verdict.specs.Verdict.{judgedInvalid, overflows}
 use Rattle.peer_message_policy.specs.Policy.{Change, become, Turn, unchanged, turnOf, carriedOut, notedDown, Update, banned, update, entryForUpdate, recordInvalid, isBannedChange, disconnectedChange}
 use Rattle.peer_message_policy.specs.Calls.{changedRows}
 
--- ════ Calls that do not judge the entry ═══════════════════════════════════════════════════════════
+-- ════ Calls that do not judge the entry ════
 
 -- what becomes of an entry: it stays, it goes, or its windows expire
 pub data Fate (found : Option PeerMessagePolicyEntry) : Option PeerMessagePolicyEntry → Type 0 where
@@ -71,7 +71,7 @@ module _ (j k : List ℕ) (rs : Peers) (order : ascending rs ≡ true) (now : �
       chosen (After j rs) (entryIsSpent e now) (λ u. sub-fate j (sub-erase k rs) order)
       (λ u. ⊎-elim own other keys))
 
--- ════ Turns of other peers ════════════════════════════════════════════════════════════════════════
+-- ════ Turns of other peers ════
 
 module _ (j k : List ℕ) (other : j ≡ k → ⊥) (rs : Peers) (order : ascending rs ≡ true) where
   abbrev UpdateFate : Update → Type 0
@@ -112,7 +112,7 @@ module _ (j k : List ℕ) (other : j ≡ k → ⊥) (rs : Peers) (order : ascend
       (λ e xs h. rw (look-store-other k (judgedInvalid c e now .entry) j other xs) h)
       (entryForUpdate c now rs k (look k rs)) (update-fate c now (look k rs))
 
--- ════ The peer's own turns ════════════════════════════════════════════════════════════════════════
+-- ════ The peer's own turns ════
 
 -- the entry that a call lands on: the one that is found, with no ban on it that is live or spent; or one that is made anew
 pub data Lands (c : PeerMessagePolicyConfig) (now : ℕ) (found : Option PeerMessagePolicyEntry) (e : PeerMessagePolicyEntry) : Type 0 where

@@ -58,7 +58,7 @@ use Rattle.peer_message_policy.specs.Policy.{
 use Rattle.peer_message_policy.specs.Calls.{Memory, changedRows, policyAfter}
 use Rattle.peer_message_policy.specs.UpdateLaws.{spent-in-place}
 
--- ════ Soundness, part by part ═════════════════════════════════════════════════════════════════════
+-- ════ Soundness, part by part ════
 
 -- the record's own rules
 pub record RecordHolds (p : PeerMessagePolicy) : Type 0 where
@@ -112,7 +112,7 @@ lent-part p s h = record { few = h .own .few; long = h .long; rules = h .rules; 
 pub rows-hold : (p : PeerMessagePolicy) (s : List ℕ) → PolicyHolds p s → Bytes s → RowsHold (p .config) (rowsOf p s)
 rows-hold p s h b = laws.rows-hold peerLayout (peerSound (p .config)) (limit (p .config)) s (p .rows) (omega arith) (lent-part p s h) b
 
--- ════ What a change of the rows must keep ═════════════════════════════════════════════════════════
+-- ════ What a change of the rows must keep ════
 
 -- what a call leaves of a policy and its memory: soundness, the memory's length, bytes, and the settings
 pub record Kept (p : PeerMessagePolicy) (s : List ℕ) (q : PeerMessagePolicy) (t : List ℕ) : Type 0 where
@@ -151,7 +151,7 @@ module _ (p : PeerMessagePolicy) (s t : List ℕ) (i : FiberIngressBudget) where
       → Memory s t (p .rows) change → Leaves p s change (policyAfter p i change) t
   change-leaves change h b load rs m = record { kept = change-kept change h b load rs m; rows = change-rows peerLayout s t (p .rows) change m }
 
--- ════ What each call's change keeps ═══════════════════════════════════════════════════════════════
+-- ════ What each call's change keeps ════
 
 module _ (c : PeerMessagePolicyConfig) where
   -- what admit and record_invalid find: a sound entry, and rows that any sound entry may be stored among
@@ -240,7 +240,7 @@ module _ (c : PeerMessagePolicyConfig) where
         chosen (ChangeHolds c) (entryIsSpent e now) (λ u. sub-hold peerLayout (peerSound c) (limit c) (sub-erase k rs) h)
         (λ u. store-hold peerLayout (peerSound c) (limit c) k x rs key y h (omega (arith, length-store-some k rs x l, h .few))))
 
--- ════ Refusal 4 ═══════════════════════════════════════════════════════════════════════════════════
+-- ════ Refusal 4 ════
 
 -- a turn that is undone, if it overflows
 abbrev Undone : FiberIngressBudget → Turn Cause → Type 0

@@ -59,7 +59,7 @@ module _ (p : PeerMessagePolicy) (s k : List ℕ) (i : ℕ) (h : Known p s k i) 
       let left = alone peer-faithful s (p .rows) b (rows-fit p s (h .is-sound)) again in
       record { policy = ap (policyWith p (p .ingress)) (left .1); memory = left .0 }
 
--- ════ Windows that expire ═════════════════════════════════════════════════════════════════════════
+-- ════ Windows that expire ════
 
 -- a window that keeps its count stays as it is
 expire-kept : (w : ViolationWindow) (now duration : ℕ) → windowExpire w now duration .count ≡ w .count → windowExpire w now duration ≡ w
@@ -89,7 +89,7 @@ left-unexpired p s k i h b e read now duration x v same =
     expire-same e now duration (ap (λ (y : PeerMessagePolicyEntry). sameCounts y e) (sym v) ∙ same) in
     left-alone p s k i h b (entryExpireWindows e now duration) (kept ∙ read)
 
--- ════ A row more ══════════════════════════════════════════════════════════════════════════════════
+-- ════ A row more ════
 
 module _ (p : PeerMessagePolicy) (s k : List ℕ) (i : ℕ) (h : Unknown p s k i) (now : ℕ) where
   -- the rows that are left when room was made
@@ -125,7 +125,7 @@ module _ (p : PeerMessagePolicy) (s k : List ℕ) (i : ℕ) (h : Unknown p s k i
       let stored = changed-again peer-faithful s (p .rows) (store k e) fit fewer first second in
       record { policy = ap (policyWith p load) (stored .1); memory = stored .0 }
 
--- ════ A policy made ═══════════════════════════════════════════════════════════════════════════════
+-- ════ A policy made ════
 
 module _ (c : PeerMessagePolicyConfig) (s : List ℕ) where
   pub new-large : 1024 < c .«max_tracked_peers» → NewMeets c s (Made.Refused limitTooLarge) s

@@ -30,7 +30,7 @@ use Rattle.peer_message_policy.specs.Policy.{rowsOf, policySound, sound}
 use Rattle.peer_message_policy.specs.Sought.{soughtIn}
 use Rattle.peer_message_policy.specs.Carry.{Known, Unknown}
 
--- ════ A policy and its memory as a lent table ═════════════════════════════════════════════════════
+-- ════ A policy and its memory as a lent table ════
 
 -- a record that keeps its rules has no more rows than its limit
 pub within-limit : (p : PeerMessagePolicy) → policySound p ≡ true → p .rows ≤ limit (p .config)
@@ -44,7 +44,7 @@ sound-lent : (p : PeerMessagePolicy) (s : List ℕ) → sound p s ≡ lentSound 
 unfolding sound lentSound
 sound-lent p s = refl
 
--- ════ What the walk answers ═══════════════════════════════════════════════════════════════════════
+-- ════ What the walk answers ════
 
 module _ (p : PeerMessagePolicy) (s k : List ℕ) where
   -- Unsound: the policy and its memory are unsound
@@ -67,7 +67,7 @@ module _ (p : PeerMessagePolicy) (s k : List ℕ) where
       let j = laws.sought-unknown peerLayout (peerSound (p .config)) (policySound p) (limit (p .config)) s (p .rows) k h in
       record { is-sound = sound-lent p s ∙ j .is-sound; place = j .place }
 
--- ════ What soundness says ═════════════════════════════════════════════════════════════════════════
+-- ════ What soundness says ════
 
 module _ (p : PeerMessagePolicy) (s : List ℕ) (h : sound p s ≡ true) where
   as-lent : lentSound peerLayout (peerSound (p .config)) (policySound p) (limit (p .config)) s (p .rows) ≡ true
@@ -94,7 +94,7 @@ module _ (p : PeerMessagePolicy) (s : List ℕ) (h : sound p s ≡ true) where
   pub in-order : ascending (rowsOf p s) ≡ true
   in-order = laws.order-kept peerLayout (peerSound (p .config)) (policySound p) (limit (p .config)) s (p .rows) as-lent
 
--- ════ A peer that has a row ═══════════════════════════════════════════════════════════════════════
+-- ════ A peer that has a row ════
 
 -- the entry of the row at an index
 abbrev pub entryAt : List ℕ → ℕ → PeerMessagePolicyEntry
@@ -124,12 +124,12 @@ module _ (p : PeerMessagePolicy) (s k : List ℕ) (i : ℕ) (h : Known p s k i) 
         ap (entrySound (p .config)) read
         ∙ laws.known-rule peerLayout (peerSound (p .config)) (policySound p) (limit (p .config)) s (p .rows) k i known-lent
 
--- ════ A peer that has none ════════════════════════════════════════════════════════════════════════
+-- ════ A peer that has none ════
 
 pub unknown-look : (p : PeerMessagePolicy) (s k : List ℕ) (i : ℕ) → Unknown p s k i → look k (rowsOf p s) ≡ none
 unknown-look p s k i h = gap-look k (rowsOf p s) (h .place)
 
--- ════ What is judged on ═══════════════════════════════════════════════════════════════════════════
+-- ════ What is judged on ════
 
 -- the entry that a message is judged on keeps its rules
 pub judged-on-sound : (c : PeerMessagePolicyConfig) (e : PeerMessagePolicyEntry) (now : ℕ) (x : PeerMessagePolicyEntry) → x ≡ entryToJudge c e now → entrySound c e ≡ true → entrySound c x ≡ true

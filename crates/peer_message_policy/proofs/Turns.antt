@@ -41,7 +41,7 @@ use Rattle.peer_message_policy.specs.Calls.{isBannedOutcome, IsBannedMee
 use Rattle.peer_message_policy.specs.Carry.{Left}
 use Rattle.peer_message_policy.specs.UpdateLaws.{spent-in-place}
 
--- ════ What is judged ══════════════════════════════════════════════════════════════════════════════
+-- ════ What is judged ════
 
 -- a call goes on with this entry, and what it stores is stored as among all rows
 pub record GoesOn (c : PeerMessagePolicyConfig) (now : ℕ) (rs : Peers) (k : List ℕ) (x : PeerMessagePolicyEntry) : Type 0 where
@@ -67,7 +67,7 @@ update-new c now rs k missing x v = rw (v, missing)
 pub left-same : {p q : PeerMessagePolicy} {i : FiberIngressBudget} {s t : List ℕ} {rs xs : Peers} → xs ≡ rs → Left p i s rs q t → Left p i s xs q t
 left-same {p} {q} {i} {s} {t} e h = subst (λ (l : Peers). Left p i s l q t) (sym e) h
 
--- ════ admit ═══════════════════════════════════════════════════════════════════════════════════════
+-- ════ Admit ════
 
 -- a call that a live ban, an unsound policy or refusal 4 ends changes nothing; any other carries its decision out
 module _ (p : PeerMessagePolicy) (s : List ℕ) (k : Pubkey) (size now : ℕ) where
@@ -91,7 +91,7 @@ module _ (p : PeerMessagePolicy) (s : List ℕ) (k : Pubkey) (size now : ℕ) wh
           rw (h, u, sym v, o)
           (record { answers = answer ∙ ap (λ (x : PeerMessagePolicy). admissionOf x (d .cause)) (left .policy); leaves = left .memory })
 
--- ════ record_invalid ══════════════════════════════════════════════════════════════════════════════
+-- ════ record_invalid ════
 
 module _ (p : PeerMessagePolicy) (s : List ℕ) (k : Pubkey) (now : ℕ) where
   pub invalid-unsound : sound p s ≡ false → RecordInvalidMeets p s k now (Invalid.Refused unsound) s
@@ -109,7 +109,7 @@ module _ (p : PeerMessagePolicy) (s : List ℕ) (k : Pubkey) (now : ℕ) where
         rw (h, u, sym v)
         (record { answers = answer ∙ ap (λ (x : PeerMessagePolicy). invalidOf x (d .cause)) (left .policy); leaves = left .memory })
 
--- ════ is_banned ═══════════════════════════════════════════════════════════════════════════════════
+-- ════ is_banned ════
 
 -- a live ban is not over
 live-unspent : (mark until now : ℕ) → (eqb mark 1 && ltb now until) ≡ true → (eqb mark 1 && leb until now) ≡ false
@@ -142,7 +142,7 @@ module _ (p : PeerMessagePolicy) (s : List ℕ) (k : Pubkey) (now : ℕ) where
       standing-dropped free spent q t left =
           rw (h, found, free, spent) (record { answers = ap Standing.Free (left .policy); leaves = left .memory })
 
--- ════ on_disconnected ═════════════════════════════════════════════════════════════════════════════
+-- ════ on_disconnected ════
 
 module _ (p : PeerMessagePolicy) (s : List ℕ) (k : Pubkey) (now : ℕ) where
   pub disconnected-unsound : sound p s ≡ false → OnDisconnectedMeets p s k now (Changed.Refused unsound) s
@@ -169,7 +169,7 @@ module _ (p : PeerMessagePolicy) (s : List ℕ) (k : Pubkey) (now : ℕ) where
       disconnected-expired free unspent q t left =
           rw (h, found, free, unspent) (record { answers = ap Changed.Policy (left .policy); leaves = left .memory })
 
--- ════ held_time ═══════════════════════════════════════════════════════════════════════════════════
+-- ════ held_time ════
 
 module _ (p : PeerMessagePolicy) (s : List ℕ) (k : Pubkey) (given : ℕ) where
   pub held-unsound : sound p s ≡ false → HeldTimeMeets p s k given (HeldTime.Refused unsound)

@@ -37,7 +37,7 @@ use Rattle.peer_state.specs.Ingress.{inFlight, ingressReleased}
 use Rattle.peer_rows.specs.Rows.{peerLayout}
 use Rattle.peer_message_policy.specs.Policy.{rowsOf, policySound, longEnough, sound, Change, same, become, Turn, admit, recordInvalid, isBanned, isBannedChange, disconnectedChange, heldTime}
 
--- ════ What the answers say ════════════════════════════════════════════════════════════════════════
+-- ════ What the answers say ════
 
 abbrev pub madeSays : Made → Said
 madeSays (Made.Policy p) = gives []
@@ -91,7 +91,7 @@ abbrev pub heldTimeSays : HeldTime → Said
 heldTimeSays (HeldTime.At t) = gives (t ∷ [])
 heldTimeSays (HeldTime.Refused n) = refused n
 
--- ════ Answers and memory ══════════════════════════════════════════════════════════════════════════
+-- ════ Answers and memory ════
 
 -- the policy with this load in flight and so many rows
 abbrev pub policyWith : PeerMessagePolicy → FiberIngressBudget → ℕ → PeerMessagePolicy
@@ -117,7 +117,7 @@ Meets answer before after n o = lent.Meets peerLayout answer before after n o
 abbrev pub refuse : {A : Type 0} → A → Outcome A
 refuse a = record { answer = a; change = same }
 
--- ════ The calls ═══════════════════════════════════════════════════════════════════════════════════
+-- ════ The calls ════
 
 -- a policy with no row and nothing in flight; the settings are kept as they are given
 abbrev pub fresh : PeerMessagePolicyConfig → PeerMessagePolicy

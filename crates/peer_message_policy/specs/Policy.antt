@@ -30,7 +30,7 @@ use Rattle.peer_message_policy.specs.declared.policy.PeerMessagePolicy.{
 abbrev pub rowsOf : PeerMessagePolicy → List ℕ → List (Row PeerMessagePolicyEntry)
 rowsOf p s = rows peerLayout s (p .rows)
 
--- ════ Soundness ═══════════════════════════════════════════════════════════════════════════════════
+-- ════ Soundness ════
 
 -- the record's own rules: the limit within 1,024, the rows within the limit, and the load within the ceiling
 unfoldable pub policySound : PeerMessagePolicy → Bool
@@ -50,7 +50,7 @@ rowsSound p s = every (peerSound (p .config)) (rowsOf p s) && ascending (rowsOf 
 unfoldable pub sound : PeerMessagePolicy → List ℕ → Bool
 sound p s = policySound p && (longEnough (p .config) s && rowsSound p s)
 
--- ════ The calls ═══════════════════════════════════════════════════════════════════════════════════
+-- ════ The calls ════
 
 -- what a call leaves of the rows: all as they were, or these
 abbrev pub Change : Type 0

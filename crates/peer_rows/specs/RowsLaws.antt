@@ -18,7 +18,7 @@ use Rattle.peer_state.specs.Entry.{level, window, entrySound, entryIsSpent}
 use Rattle.peer_rows.specs.Rows.{entryWords, entryOf, peerLayout, peerSound}
 use Rattle.peer_rows.specs.Peer.{peerRow, ban}
 
--- ---- entries and their bytes ----
+-- ════ Entries and their bytes ════
 
 -- the eleven numbers of an entry fit eight bytes each: any entry that a program holds does
 pub record EntryFits (e : PeerMessagePolicyEntry) : Type 0 where
@@ -83,7 +83,7 @@ entry-fits e f = omega (arith, f)
 pub peer-faithful : Faithful peerLayout EntryFits
 peer-faithful = numbers-faithful peer-numbers EntryFits numbers-fit entry-fits
 
--- ---- the numbers of a row by their places ----
+-- ════ The numbers of a row by their places ════
 
 -- the entry whose numbers stand behind the key of the row at a place
 abbrev pub entryPlaces : List ℕ → ℕ → PeerMessagePolicyEntry

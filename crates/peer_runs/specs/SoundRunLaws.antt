@@ -55,7 +55,7 @@ use Rattle.peer_runs.specs.Runs.{
   then,
 }
 
--- ════ One call ════════════════════════════════════════════════════════════════════════════════════
+-- ════ One call ════
 
 -- what holds of an answer's policy, or of the caller's own after a refusal, holds of the policy that he goes on with
 module _ (p : PeerMessagePolicy) (P : PeerMessagePolicy → Type 0) where
@@ -150,7 +150,7 @@ module _ {c : PeerMessagePolicyConfig} (s : State) (here : StateHolds c s) (said
   step-holds inFlight fits step = next-holds (same-left (step .3))
   step-holds (heldTime k given) fits step = next-holds (same-left (step .3))
 
--- ════ A run ═══════════════════════════════════════════════════════════════════════════════════════
+-- ════ A run ════
 
 -- every state of a run is sound, and has the run's settings
 pub run-holds : {c : PeerMessagePolicyConfig} {h : List Call} {s : State} → Run c h s → StateHolds c s

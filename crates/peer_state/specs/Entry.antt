@@ -8,7 +8,7 @@ use Rattle.peer_state.specs.declared.entry.ViolationWindow.{ViolationWin
 use Rattle.peer_state.specs.declared.entry.Ban.{Ban}
 use Rattle.peer_state.specs.declared.entry.PeerMessagePolicyEntry.{PeerMessagePolicyEntry}
 
--- ════ ViolationWindow ═════════════════════════════════════════════════════════════════════════════
+-- ════ ViolationWindow ════
 
 abbrev pub window : ℕ → ℕ → ViolationWindow
 window count start = record { count = count; «started_at_ms» = start }
@@ -27,7 +27,7 @@ windowCounted w now =
 abbrev pub windowRecord : ViolationWindow → ℕ → ℕ → ViolationWindow
 windowRecord w now duration = windowCounted (windowExpire w now duration) now
 
--- ════ PeerMessagePolicyEntry ══════════════════════════════════════════════════════════════════════
+-- ════ PeerMessagePolicyEntry ════
 
 abbrev pub level : ℕ → ℕ → Level
 level available last = record { available = available; «last_refill_ms» = last }
@@ -97,7 +97,7 @@ entrySound c e =
     && (leb (e .«invalid_messages» .count) 4294967295
     && (eqb (e .ban .mark) 1 || (eqb (e .ban .mark) 0 && eqb (e .ban .«until_ms») 0)))))
 
--- ════ As calls find it and leave it ════════════════════════════════════════════════════════════════
+-- ════ As calls find it and leave it ════
 
 -- the entry that a known peer's message is judged on: a spent ban drops it, and it is made anew
 abbrev pub entryToJudge : PeerMessagePolicyConfig → PeerMessagePolicyEntry → ℕ → PeerMessagePolicyEntry

@@ -17,7 +17,7 @@ pub chosen : {A : Type 0} (P : A → Type 0) (t : Bool) {x y : A} → (t ≡ tru
 chosen P true first second = first refl
 chosen P false first second = second refl
 
--- ════ Windows ═════════════════════════════════════════════════════════════════════════════════════
+-- ════ Windows ════
 
 -- a window's count only falls when it expires
 pub count-expire : (w : ViolationWindow) (now duration : ℕ) → windowExpire w now duration .count ≤ w .count
@@ -33,7 +33,7 @@ pub count-record : (w : ViolationWindow) (now duration : ℕ) → windowRecord w
 unfolding windowCounted
 count-record w now duration = min-le-right (windowExpire w now duration .count + 1) 4294967295
 
--- ════ Soundness, part by part ═════════════════════════════════════════════════════════════════════
+-- ════ Soundness, part by part ════
 
 abbrev pub banSound : Ban → Bool
 banSound b = eqb (b .mark) 1 || (eqb (b .mark) 0 && eqb (b .«until_ms») 0)
@@ -65,7 +65,7 @@ unfolding entrySound
 holds-sound h =
     rw (le-leb _ _ (h .messages), le-leb _ _ (h .bytes), le-leb _ _ (h .rate), le-leb _ _ (h .invalid)) (h .ban)
 
--- ════ What keeps it ═══════════════════════════════════════════════════════════════════════════════
+-- ════ What keeps it ════
 
 pub new-holds : (c : PeerMessagePolicyConfig) (now : ℕ) → EntryHolds c (entryNew c now)
 unfolding entryNew

@@ -22,13 +22,13 @@ use Rattle.peer_settings.specs.Config.{limit}
 use Rattle.peer_rows.specs.Rows.{Peers}
 use Rattle.peer_table.specs.Room.{unspent, pruneExpiredBans, ordinaryLru, bannedExpirations, evict, makeRoom}
 
--- ---- spent bans ----
+-- ════ Spent bans ════
 
 -- there are no more rows than before
 pub length-prune : (now : ℕ) (rs : Peers) → length (pruneExpiredBans now rs) ≤ length rs
 length-prune now rs = length-retain (unspent now) rs
 
--- ---- the row evicted ----
+-- ════ The row evicted ════
 
 module _ (rs : Peers) where
   -- an ordinary peer is found, and goes
@@ -74,7 +74,7 @@ sub-evict rs =
     (λ j n k. rw (evict-banned rs h k) (sub-removeAt j rs)))
     (λ j n h. rw (evict-ordinary rs h) (sub-removeAt j rs))
 
--- ---- making room ----
+-- ════ Making room ════
 
 module _ (c : PeerMessagePolicyConfig) (now : ℕ) (rs : Peers) where
   -- a table that is not full stays as it is

@@ -26,7 +26,7 @@ use Rattle.peer_settings.specs.Config.{messageLimitDisabled, bytesOf}
 use Rattle.peer_verdict.specs.Verdict.{passes, missing, messageBucket, takeMessage, takeBytes}
 use Rattle.peer_state.specs.EntryLaws.{chosen}
 
--- ════ The message bucket ══════════════════════════════════════════════════════════════════════════
+-- ════ The message bucket ════
 
 discrete-refill-bounded : (b : DiscreteTokenBucket) (now : ℕ) → b .available ≤ b .capacity → discreteRefill b now .available ≤ b .capacity
 unfolding discreteRefill
@@ -52,7 +52,7 @@ message-level c l now h =
     let refilled = discreteRefill (messageBucket c l) now in
     omega (arith, discrete-take-less refilled, discrete-refill-bounded (messageBucket c l) now h))
 
--- ════ The byte bucket ═════════════════════════════════════════════════════════════════════════════
+-- ════ The byte bucket ════
 
 digits-limbs-most : (k n : ℕ) → digits (limbs k n) ≤ n
 digits-limbs-most zero n = omega arith

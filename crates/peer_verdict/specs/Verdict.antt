@@ -28,7 +28,7 @@ use Rattle.peer_settings.specs.Config.{messageLimitDisabled, banDisabled, bytes
 use Rattle.peer_state.specs.Entry.{level, windowRecord, entryBan, entryUsed}
 use Rattle.peer_state.specs.Ingress.{tryReserve}
 
--- ════ The two buckets, on copies ══════════════════════════════════════════════════════════════════
+-- ════ The two buckets, on copies ════
 
 -- try_consume, as the Rust's bool: whether the bucket passes
 abbrev pub passes : Consumed → Bool
@@ -79,7 +79,7 @@ unfoldable pub takeBytes : PeerMessagePolicyConfig → Level → ℕ → ℕ →
 takeBytes c l size now =
     bytesTaken (byteTryConsume (byteLevel (bytesOf c) (pos (l .available)) (l .«last_refill_ms»)) size now)
 
--- ════ The decision ════════════════════════════════════════════════════════════════════════════════
+-- ════ The decision ════
 
 -- the entry with this rate window
 abbrev pub withRateWindow : PeerMessagePolicyEntry → ViolationWindow → PeerMessagePolicyEntry

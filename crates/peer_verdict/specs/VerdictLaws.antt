@@ -37,7 +37,7 @@ use Rattle.peer_state.specs.EntryLaws.{chosen, EntryHolds, sound-holds, holds-s
 use Rattle.peer_state.specs.IngressLaws.{RoomHolds, room-holds}
 use Rattle.peer_verdict.specs.TakeLaws.{message-level, bytes-level, bytes-missing}
 
--- ════ The ways it goes ════════════════════════════════════════════════════════════════════════════
+-- ════ The ways it goes ════
 
 -- the window of violations, and the window of invalid messages, with one more
 abbrev pub rateCounted : PeerMessagePolicyConfig → PeerMessagePolicyEntry → ℕ → ViolationWindow
@@ -89,7 +89,7 @@ pub noted-ways : (P : InvalidDecision → Type 0) (c : PeerMessagePolicyConfig) 
 unfolding noted
 noted-ways P c e now begun counted = chosen P (reachesBan c (invalidCounted c e now)) begun counted
 
--- ════ The entry stays sound ═══════════════════════════════════════════════════════════════════════
+-- ════ The entry stays sound ════
 
 rate-holds : {c : PeerMessagePolicyConfig} {e : PeerMessagePolicyEntry} {w : ViolationWindow} → EntryHolds c e → w .count ≤ 4294967295 → EntryHolds c (withRateWindow e w)
 rate-holds h k =
@@ -149,7 +149,7 @@ judged-invalid-sound c e now h =
     let used = entryUsed e now (c .«ban_duration_ms») in
     holds-sound (noted-holds c used now (used-holds now (c .«ban_duration_ms») (sound-holds h)))
 
--- ════ The causes, and what each leaves ════════════════════════════════════════════════════════════
+-- ════ The causes, and what each leaves ════
 
 -- which causes a verdict on a message names, and what each says of the settings
 abbrev pub CauseHolds : PeerMessagePolicyConfig → Cause → Type 0

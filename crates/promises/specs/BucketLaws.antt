@@ -13,7 +13,7 @@ use Rattle.table.specs.TableLaws.{by-test, both, both-parts}
 use Rattle.peer_settings.specs.declared.config.PeerMessagePolicyConfig.{PeerMessagePolicyConfig}
 use Rattle.promises.specs.Lives.{Allow, within, Allowance, FromEvery}
 
--- ---- logs, the newest Allow first ----
+-- ════ Logs, the newest Allow first ════
 
 -- the time of the newest Allow; a life without one has had its last at 0, when its buckets were last refilled
 abbrev pub newest : List Allow → ℕ
@@ -64,7 +64,7 @@ within-out from to z h =
     let ends = both-parts (leb from (z .time)) (leb (z .time) to) h in
     (leb-true from (z .time) (ends .0), leb-true (z .time) to (ends .1))
 
--- ---- the terms of a bucket ----
+-- ════ The terms of a bucket ════
 
 pub record Terms : Type 0 where
   -- the parts of one token
@@ -83,7 +83,7 @@ pub record Terms : Type 0 where
 abbrev pub topped : Terms → (left gain : ℕ) → ℕ
 topped b left gain = min (left + gain) (b .capacity)
 
--- ---- the upper half ----
+-- ════ The upper half ════
 
 -- what a bucket with `left` tokens, and `rest` parts that wait, says of the charges of its log, in parts
 pub record Bounded (b : Terms) (left rest : ℕ) (log : List Allow) : Type 0 where
@@ -144,7 +144,7 @@ module _ (b : Terms) (left rest : ℕ) (log : List Allow) (z : Allow) (rest′ g
   pub bounded-next : Bounded b (topped b left gain - b .charge z) rest′ (z ∷ log)
   bounded-next = record { within-capacity = omega arith; since = since-next; between = between-next }
 
--- ---- the lower half ----
+-- ════ The lower half ════
 
 -- counted from each Allow of the log, with n Allows and t tokens already counted, the charges are within a number of parts
 abbrev pub WithinParts : Terms → (most n t : ℕ) → List Allow → Type 0

@@ -23,7 +23,7 @@ use Rattle.peer_verdict.specs.Verdict.{takeBytes}
 use Rattle.promises.specs.Lives.{Allow, bytesAllowed}
 use Rattle.promises.specs.BucketLaws.{newest, InOrder, charged, Terms, Bounded, bounded-new, bounded-next, NotMore, NotLess, WithinParts, Backed, backed-next, backed-enough}
 
--- ---- what a take gives, where the limit is on ----
+-- ════ What a take gives, where the limit is on ════
 
 -- the bytes that the time since the last refill brings
 abbrev pub gained : PeerMessagePolicyConfig → Level → ℕ → ℕ
@@ -72,7 +72,7 @@ pub bytes-off : (c : PeerMessagePolicyConfig) (b : Level) (size now : ℕ) → b
 unfolding takeBytes byteTryConsume
 bytes-off c b size now off = rw off
 
--- ---- the bucket and its log ----
+-- ════ The bucket and its log ════
 
 abbrev pub byteTerms : PeerMessagePolicyConfig → Terms
 byteTerms c =

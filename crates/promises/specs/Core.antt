@@ -30,7 +30,7 @@ pub data CoreCall : Type 0 where
   isBanned : (peer : Pubkey) (now : ℕ) → CoreCall
   onDisconnected : (peer : Pubkey) (now : ℕ) → CoreCall
 
--- ════ One call ════════════════════════════════════════════════════════════════════════════════════
+-- ════ One call ════
 
 -- a decision carries the load in flight; where the room is given it does not look at it
 abbrev pub idle : FiberIngressBudget
@@ -63,7 +63,7 @@ saysIn c (recordInvalid k now) rs = invalidSays (invalidOf (fresh c) (invalidTur
 saysIn c (isBanned k now) rs = standingSays (standingOf (Policy.isBanned (look (k .bytes) rs) now) (fresh c))
 saysIn c (onDisconnected k now) rs = changedSays (Changed.Policy (fresh c))
 
--- ════ Lists of calls, the newest first ════════════════════════════════════════════════════════════
+-- ════ Lists of calls, the newest first ════
 
 -- the rows after calls, from none
 unfoldable pub after : PeerMessagePolicyConfig → List CoreCall → Peers

@@ -69,7 +69,7 @@ module _ {c : PeerMessagePolicyConfig} (fits : ConfigFits c) (k : Pubkey) where
   least h sized shield size now size-fits used free within room =
       least-here c fits size now size-fits room k (after c h) (logIn k (trailOf c h)) (fair h sized shield) used free within
 
--- ════ Times that never go back ════════════════════════════════════════════════════════════════════
+-- ════ Times that never go back ════
 
 module _ (c : PeerMessagePolicyConfig) (k : Pubkey) where
   -- no entry was last used after the newest call

@@ -33,7 +33,7 @@ use Rattle.promises.specs.Lives.{sameKey, lastUsed}
 use Rattle.promises.specs.DecisionLaws.{decided, judged-invalid-noted}
 use Rattle.promises.specs.CoreStepLaws.{gives-is-not-refused, overflow-either, same-key, leftIn, own-here, own-invalid-here, other-here, other-invalid-here, is-banned-here, disconnected-here}
 
--- ════ Keys ascend ═════════════════════════════════════════════════════════════════════════════════
+-- ════ Keys ascend ════
 
 module _ (c : PeerMessagePolicyConfig) (rs : Peers) (order : ascending rs ≡ true) where
   -- the rows that a change leaves ascend
@@ -95,7 +95,7 @@ unfolding after ascending
 after-ascends c [] = refl
 after-ascends c (call ∷ h) = step-ascends c (after c h) (after-ascends c h) call
 
--- ════ A refused call leaves the rows ══════════════════════════════════════════════════════════════
+-- ════ A refused call leaves the rows ════
 
 turn-undone : (k : List ℕ) (decide : PeerMessagePolicyEntry → Decision) (u : Update)
     → overflows (turnOf idle Cause.LiveBan (λ e xs. carriedOut idle k xs (decide e)) u .cause) ≡ true
@@ -127,7 +127,7 @@ refused-leaves c rs (recordInvalid k now) h = absurd (invalid-gives c (invalidTu
 refused-leaves c rs (isBanned k now) h = absurd (standing-gives c (Policy.isBanned (look (k .bytes) rs) now) h)
 refused-leaves c rs (onDisconnected k now) h = absurd (gives-is-not-refused h)
 
--- ════ A trail leads to the rows ═══════════════════════════════════════════════════════════════════
+-- ════ A trail leads to the rows ════
 
 -- one call more leads to the rows that it left
 pub seen-rows : (call : CoreCall) (said : Said) (rs : Peers) (es : List Event) → ((n : ℕ) → said ≡ refused n → rowsAt es ≡ rs)
@@ -142,7 +142,7 @@ trail-rows c (call ∷ h) =
     seen-rows call (saysIn c call (after c h)) (changedRows (after c h) (changeIn c call (after c h))) (trailOf c h)
     (λ n said. trail-rows c h ∙ sym (refused-leaves c (after c h) call said))
 
--- ════ The last use ════════════════════════════════════════════════════════════════════════════════
+-- ════ The last use ════
 
 -- a call that does not judge the entry is no use of it
 fate-used : {found left : Option PeerMessagePolicyEntry} (n : ℕ) → Fate found left → lastUsed found ≤ n → lastUsed left ≤ n

@@ -38,7 +38,7 @@ use Rattle.promises.specs.CoreRowLaws.{trail-rows}
 use Rattle.promises.specs.MirrorLaws.{Mirrors, MirrorsIf, mirrored-rows, mirrored-trail}
 use Rattle.peer_runs.specs.SoundRunLaws.{StateHolds, admit-left, record-invalid-left, is-banned-left, on-disconnected-left, release-ingress-left, run-holds}
 
--- ════ What an answer says ═════════════════════════════════════════════════════════════════════════
+-- ════ What an answer says ════
 
 module _ (p q : PeerMessagePolicy) where
   admission-says : (cause : Cause) → admissionSays (admissionOf p cause) ≡ admissionSays (admissionOf q cause)
@@ -60,7 +60,7 @@ module _ (p q : PeerMessagePolicy) where
   standing-says true = refl
   standing-says false = refl
 
--- ════ A turn, whatever load it carries ════════════════════════════════════════════════════════════
+-- ════ A turn, whatever load it carries ════
 
 -- the same cause and the same rows
 pub record SameTurn {C : Type 0} (a b : Turn C) : Type 0 where
@@ -99,7 +99,7 @@ module _ (c : PeerMessagePolicyConfig) (i : FiberIngressBudget) (rs : Peers) (k 
   unfolding Policy.recordInvalid
   invalid-core = noted-alike i idle (k .bytes) (λ e. judgedInvalid c e now) (entryForUpdate c now rs (k .bytes) (look (k .bytes) rs))
 
--- ════ One call ════════════════════════════════════════════════════════════════════════════════════
+-- ════ One call ════
 
 module _ (s : State) (said : Said) (t : State) where
   abbrev p : PeerMessagePolicy
@@ -179,7 +179,7 @@ step-core {c} s here call said t fits step =
     subst (λ x. MirrorsIf x (coreOf x s call) (rowsIn s) said (rowsIn t)) (here .settings)
     (own-mirrors s said t (subst (λ x. StateHolds x s) (sym (here .settings)) here) call fits step)
 
--- ════ Runs ════════════════════════════════════════════════════════════════════════════════════════
+-- ════ Runs ════
 
 -- a fresh policy has no row
 made-rows : (c : PeerMessagePolicyConfig) (before left : List ℕ) (q : PeerMessagePolicy) → NewMeets c before (Made.Policy q) left

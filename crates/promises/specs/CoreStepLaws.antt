@@ -34,7 +34,7 @@ use Rattle.promises.specs.Lives.{Allow, sameKey, partOf, OwnTime, logFor
 use Rattle.promises.specs.FairLaws.{NotAfter, Fair, fair-new, fair-allow, fair-least}
 use Rattle.promises.specs.DecisionLaws.{roomCause, decided, judged-invalid-noted}
 
--- ════ The invariant ═══════════════════════════════════════════════════════════════════════════════
+-- ════ The invariant ════
 
 -- an entry is fair to the log of its life, which does not pass its last use; without an entry there is no log
 abbrev pub EntryFair : PeerMessagePolicyConfig → Option PeerMessagePolicyEntry → List Allow → Type 0
@@ -50,7 +50,7 @@ not-after-later : (log : List Allow) (t u : ℕ) → NotAfter log t → t ≤ u 
 not-after-later [] t u h k = tt
 not-after-later (z ∷ log) t u h k = omega arith
 
--- ════ The entry that a call lands on ══════════════════════════════════════════════════════════════
+-- ════ The entry that a call lands on ════
 
 module _ (c : PeerMessagePolicyConfig) (fits : ConfigFits c) where
   -- it is ready for the call
@@ -64,7 +64,7 @@ module _ (c : PeerMessagePolicyConfig) (fits : ConfigFits c) where
   lands-ready now found e log (remade old q spent new) h used = rw (q, spent, new) (fair-new c fits, tt)
   lands-ready now found e log (absent q new) h used = rw (q, new) (fair-new c fits, tt)
 
--- ════ The lower bound ═════════════════════════════════════════════════════════════════════════════
+-- ════ The lower bound ════
 
 -- what admit says for a cause
 abbrev pub says : PeerMessagePolicyConfig → Cause → Said
@@ -102,7 +102,7 @@ module _ (c : PeerMessagePolicyConfig) (fits : ConfigFits c) (size now : ℕ) (s
       → saysIn c (admit k size now room) rs ≡ ceilingSays room
   least-here k rs log = own-least log (own-message (k .bytes) rs c idle (admits c size now room) now)
 
--- ════ What an own call leaves ═════════════════════════════════════════════════════════════════════
+-- ════ What an own call leaves ════
 
 pub gives-is-not-refused : {xs : List ℕ} {n : ℕ} → gives xs ≡ refused n → ⊥
 gives-is-not-refused h = let z : _≡_ {A = ℕ} 0 1 = cc in omega arith
@@ -178,7 +178,7 @@ module _ (c : PeerMessagePolicyConfig) (fits : ConfigFits c) where
       let n = judged-invalid-noted c e now in
       rw (now-entry, n .messages, n .bytes, n .used) (lands-ready c fits now found e log lands h used)
 
--- ════ What any call leaves ════════════════════════════════════════════════════════════════════════
+-- ════ What any call leaves ════
 
 -- keys that count as the same are
 pub same-key : (a b : Pubkey) → sameKey a b ≡ true → a ≡ b

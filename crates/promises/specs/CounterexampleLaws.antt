@@ -12,7 +12,7 @@ use Rattle.peer_state.specs.Entry.{level}
 use Rattle.peer_verdict.specs.Verdict.{takeMessage}
 use Rattle.promises.specs.Lives.{Allow, FromEvery}
 
--- ════ The gap between Allows, in intervals rounded down ═══════════════════════════════════════════
+-- ════ The gap between Allows, in intervals rounded down ════
 
 -- successive Allows, and the last one and the call, lie at most 4,294,967,295 whole intervals apart
 abbrev pub NearRounded : ℕ → ℕ → List Allow → Type 0

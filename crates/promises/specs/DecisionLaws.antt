@@ -19,7 +19,7 @@ use Rattle.peer_state.specs.Ingress.{tryReserve}
 use Rattle.peer_verdict.specs.Verdict.{takeMessage, takeBytes, reachesBan, violated, roomed, weighedIn, weighed, judged, judgedInvalid}
 use Rattle.peer_verdict.specs.VerdictLaws.{NotAllowed, rateCounted, violated-ways, noted-ways, weighed-in-ways}
 
--- ════ A message ═══════════════════════════════════════════════════════════════════════════════════
+-- ════ A message ════
 
 -- the cause that the ceiling gives
 abbrev pub roomCause : Room → Cause
@@ -99,7 +99,7 @@ decided c i e size now room =
       passed = d .passed;
     }
 
--- ════ An invalid message ══════════════════════════════════════════════════════════════════════════
+-- ════ An invalid message ════
 
 -- it charges no bucket, and is a use
 pub record Noted (e : PeerMessagePolicyEntry) (now : ℕ) (d : InvalidDecision) : Type 0 where
@@ -114,7 +114,7 @@ judged-invalid-noted c e now =
     (λ t. record { messages = refl; bytes = refl; used = refl })
     (λ t. record { messages = refl; bytes = refl; used = refl })
 
--- ════ The load plays no part ══════════════════════════════════════════════════════════════════════
+-- ════ The load plays no part ════
 
 -- two decisions that differ in the load at most
 pub record Alike (a b : Decision) : Type 0 where

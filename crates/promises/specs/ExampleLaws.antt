@@ -41,7 +41,7 @@ use Rattle.promises.specs.RunLives.{latest, Ordered, entryIn, trail, log
 use Rattle.promises.specs.Example.{oneASecond, peer, lent, first, second, Example}
 use Rattle.promises.specs.Promises as Promises
 
--- ════ What the machine gives ══════════════════════════════════════════════════════════════════════
+-- ════ What the machine gives ════
 
 bytes-of : (n b : ℕ) → b < 256 → Bytes (replicate n b)
 bytes-of zero b h = Bytes-nil
@@ -64,7 +64,7 @@ settings-fit =
       bytes = omega arith;
     }
 
--- ════ One admit ═══════════════════════════════════════════════════════════════════════════════════
+-- ════ One admit ════
 
 -- the state after an answer, with this memory
 abbrev afterwards : State → PeerMessageAdmission → List ℕ → State
@@ -130,7 +130,7 @@ row-fits bytes now h k = (
   tt,
 )
 
--- ════ A fresh policy ══════════════════════════════════════════════════════════════════════════════
+-- ════ A fresh policy ════
 
 abbrev memory₀ : List ℕ
 memory₀ = laid peerLayout lent 1 []
@@ -145,7 +145,7 @@ new-meets = record { answers = refl; leaves = holds peer-faithful lent memory₀
 run₀ : Run oneASecond [] state₀
 run₀ = made lent memory₀ (fresh oneASecond) (bytes-of 121 255 (omega arith)) new-meets
 
--- ════ The first message ═══════════════════════════════════════════════════════════════════════════
+-- ════ The first message ════
 
 abbrev memory₁ : List ℕ
 memory₁ = laid peerLayout memory₀ 0 (rowAt 7 5000 ∷ [])
@@ -171,7 +171,7 @@ run₁ =
 rows₁ : rowsIn state₁ ≡ rowAt 7 5000 ∷ []
 rows₁ = holds₁ .reads
 
--- ════ The second message ══════════════════════════════════════════════════════════════════════════
+-- ════ The second message ════
 
 -- three bytes allowed at a time
 abbrev three : ℕ → Allow

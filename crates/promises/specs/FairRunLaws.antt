@@ -25,7 +25,7 @@ use Rattle.peer_runs.specs.SoundRunLaws.{run-holds}
 use Rattle.promises.specs.CoreRunLaws.{step-core, runs-core, run-rows}
 use Rattle.promises.specs.MirrorLaws.{SizeFitsIf, seen-sized, trail-most, trail-least, timely-trail, timely-last}
 
--- ════ Sizes ═══════════════════════════════════════════════════════════════════════════════════════
+-- ════ Sizes ════
 
 call-sized : (c : PeerMessagePolicyConfig) (s : State) (call : Call) → Fits call → SizeFitsIf (coreOf c s call)
 call-sized c s (admit k size now) fits = fits .1
@@ -42,7 +42,7 @@ run-sized (made before left p b m) = tt
 run-sized {c} (then {h} {s} call said t run fits step) =
     seen-sized (coreOf c s call) said (rowsIn t) (trail run) (call-sized c s call fits) (run-sized run)
 
--- ════ A shielded peer ═════════════════════════════════════════════════════════════════════════════
+-- ════ A shielded peer ════
 
 module _ {c : PeerMessagePolicyConfig} (fits : ConfigFits c) (k : Pubkey) {h : List Call} {s : State} (run : Run c h s) (shield : Shielded k run) where
   -- a peer gets no more than the larger allowance
@@ -60,7 +60,7 @@ module _ {c : PeerMessagePolicyConfig} (fits : ConfigFits c) (k : Pubkey) {h : L
   pub shielded-both : Shield k run
   shielded-both = record { upper = shielded-most; lower = shielded-least }
 
--- ════ Times that never go back ════════════════════════════════════════════════════════════════════
+-- ════ Times that never go back ════
 
 -- a core call has the time of the call that came to it
 abbrev SameTime : Option CoreCall → Option ℕ → Type 0
@@ -119,7 +119,7 @@ module _ {c : PeerMessagePolicyConfig} (fits : ConfigFits c) {h : List Call} {s 
   ordered-least k size now order entitled said t step =
       shielded-least fits k run (ordered-shields run k (order .1)) size now (le-trans (ordered-used run k (order .1)) (order .0)) entitled said t step
 
--- ════ No ban ══════════════════════════════════════════════════════════════════════════════════════
+-- ════ No ban ════
 
 -- the ceiling bans nobody
 ceiling-never-bans : {said : Said} (r : Room) → said ≡ ceilingSays r → said ≡ ban → ⊥

@@ -27,7 +27,7 @@ use Rattle.peer_runs.specs.SoundRunLaws.{run-sound}
 use Rattle.promises.specs.CoreRunLaws.{run-rows}
 use Rattle.promises.specs.FairRunLaws.{shielded-most, shielded-least}
 
--- ════ The held time ═══════════════════════════════════════════════════════════════════════════════
+-- ════ The held time ════
 
 held-later : (given : ℕ) (found : Option PeerMessagePolicyEntry) → lastUsed found ≤ Policy.heldTime given found
 held-later given none = omega arith
@@ -43,7 +43,7 @@ held s k now h answered =
     let e : now ≡ Policy.heldTime given (entryIn s k) = cc in
     omega (arith, held-later given (entryIn s k))
 
--- ════ Runs ════════════════════════════════════════════════════════════════════════════════════════
+-- ════ Runs ════
 
 -- times of one kind are of another
 own-times : {Such Other : ℕ → Type 0} (part : Part) → ((now : ℕ) → Such now → Other now) → OwnTime Such part → OwnTime Other part

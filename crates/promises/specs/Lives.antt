@@ -21,7 +21,7 @@ use Rattle.peer_message_policy.specs.Calls.{isAllow, allow, disconnect}
 use Rattle.promises.specs.Core.{CoreCall, admit, recordInvalid, isBanned, onDisconnected}
 use Rattle.promises.specs.Trails.{Event, rowsAt}
 
--- ════ A peer's own calls ══════════════════════════════════════════════════════════════════════════
+-- ════ A peer's own calls ════
 
 -- whether two keys are the same
 abbrev pub sameKey : Pubkey → Pubkey → Bool
@@ -45,7 +45,7 @@ OwnTime Such (message size now) = Such now
 OwnTime Such (invalid now) = Such now
 OwnTime Such neither = Unit {0}
 
--- ════ A life and its log ══════════════════════════════════════════════════════════════════════════
+-- ════ A life and its log ════
 
 -- one Allow: when, and how many bytes
 pub record Allow : Type 0 where
@@ -93,7 +93,7 @@ unfoldable pub ShieldedIn : Pubkey → List Event → Type 0
 ShieldedIn k [] = Unit {0}
 ShieldedIn k (e ∷ es) = OwnTime (λ now. lastUsed (look (k .bytes) (rowsAt es)) ≤ now) (partOf k (e .call)) × ShieldedIn k es
 
--- ════ The upper bound ═════════════════════════════════════════════════════════════════════════════
+-- ════ The upper bound ════
 
 -- whether an Allow lies from one time to another, both included
 abbrev pub within : ℕ → ℕ → Allow → Bool
@@ -116,7 +116,7 @@ AtMost c log =
     → (messageLimitDisabled c ≡ false → allows from to log ≤ c .«peer_message_burst» + ((to - from) + (c .«peer_message_interval_ms» - 1)) / c .«peer_message_interval_ms»)
     × (byteDisabled (bytesOf c) ≡ false → bytesAllowed from to log ≤ c .«peer_message_burst_bytes» + c .«peer_message_rate_bytes_per_sec» * (to - from) / 1000)
 
--- ════ The smaller allowance ═══════════════════════════════════════════════════════════════════════
+-- ════ The smaller allowance ════
 
 -- n Allows with b bytes, from time s to now, are within it
 abbrev pub Allowance : PeerMessagePolicyConfig → ℕ → ℕ → ℕ → ℕ → Type 0

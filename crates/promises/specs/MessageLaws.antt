@@ -23,7 +23,7 @@ use Rattle.peer_laws.specs.TestLaws.{neither}
 use Rattle.promises.specs.Lives.{Allow, Near, allows}
 use Rattle.promises.specs.BucketLaws.{newest, InOrder, charged, Terms, Bounded, bounded-new, bounded-next, NotMore, NotLess, WithinParts, Backed, backed-next, backed-enough}
 
--- ---- what a take gives, where the limit is on ----
+-- ════ What a take gives, where the limit is on ════
 
 -- the intervals that have passed since the last refill, cut
 abbrev pub passed : PeerMessagePolicyConfig → Level → ℕ → ℕ
@@ -105,7 +105,7 @@ pub message-off : (c : PeerMessagePolicyConfig) (m : Level) (now : ℕ) → mess
 unfolding takeMessage
 message-off c m now off = rw off
 
--- ---- the phase ----
+-- ════ The phase ════
 
 -- the time of the newest Allow, from the last refill on: whole laps of 2^32 intervals, and less than an interval
 pub record Phase (interval last time laps rest : ℕ) : Type 0 where
@@ -167,7 +167,7 @@ module _ (interval last now : ℕ) (some : 0 < interval) where
     pub not-less : now ≤ time + 4294967295 * interval → rest + 1 * now ≤ interval * gained + restOf + 0 + 1 * time
     not-less near = let next = phase-next after-last in omega (arith, laps-same near, mul-comm interval gained)
 
--- ---- the bucket and its log ----
+-- ════ The bucket and its log ════
 
 abbrev pub messageTerms : PeerMessagePolicyConfig → Terms
 messageTerms c =

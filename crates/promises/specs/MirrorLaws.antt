@@ -21,7 +21,7 @@ use Rattle.promises.specs.Lives.{logFor, logIn, lastUsed, ShieldedIn, At
 use Rattle.promises.specs.CoreRowLaws.{refused-leaves, seen-rows, trail-rows}
 use Rattle.promises.specs.CoreLaws as CoreLaws
 
--- ════ One call more ═══════════════════════════════════════════════════════════════════════════════
+-- ════ One call more ════
 
 -- from rows to rows, a call says and leaves what the core call does
 pub record Mirrors (c : PeerMessagePolicyConfig) (call : CoreCall) (rs : Peers) (said : Said) (left : Peers) : Type 0 where
@@ -66,7 +66,7 @@ seen-sized none said rs es h k = k
 seen-sized (some call) (gives xs) rs es h k = (h, k)
 seen-sized (some call) (refused n) rs es h k = k
 
--- ════ Both promises ═══════════════════════════════════════════════════════════════════════════════
+-- ════ Both promises ════
 
 module _ {c : PeerMessagePolicyConfig} (fits : ConfigFits c) (k : Pubkey) (es : List Event) (core : es ≡ trailOf c (callsOf es)) (sized : Sized (callsOf es)) (shield : ShieldedIn k es) where
   core-shielded : ShieldedIn k (trailOf c (callsOf es))

@@ -61,7 +61,7 @@ pub shielded : {c : PeerMessagePolicyConfig} {h : List Call} {s : State} → Con
     → (Shielded k run → Shield k run) × (Held k run → Shielded k run) × (Held k run → HeldShield k run)
 shielded fits k run = (FairRunLaws.shielded-both fits k run, HeldRunLaws.held-shields k run, HeldRunLaws.held-both k fits run)
 
--- Samples A to J of document 01 hold of the definitions.
+-- The samples of docs/REFERENCE.md, A to J, hold of the definitions.
 pub samples : Agree samplesRun
 samples = SamplesLaws.samples-agree
 

@@ -18,7 +18,7 @@ use Rattle.promises.specs.Trails.{Event, seenIf, callsOf}
 use Rattle.promises.specs.Lives.{Allow, logIn, logFor, lastUsed, ShieldedIn, AtMost, Within, ceilingSays}
 use Rattle.peer_runs.specs.Runs.{Call, admit, recordInvalid, isBanned, onDisconnected, releaseIngress, inFlight, heldTime, State, rowsIn, Step, Fits, Run, made, then}
 
--- ════ The trail of a run ══════════════════════════════════════════════════════════════════════════
+-- ════ The trail of a run ════
 
 -- a peer's entry in a state, if it has one
 abbrev pub entryIn : State → Pubkey → Option PeerMessagePolicyEntry
@@ -52,7 +52,7 @@ module _ {c : PeerMessagePolicyConfig} where
   abbrev pub Shielded : Pubkey → {h : List Call} {s : State} → Run c h s → Type 0
   Shielded k run = ShieldedIn k (trail run)
 
--- ════ The order of times ══════════════════════════════════════════════════════════════════════════
+-- ════ The order of times ════
 
 -- the time of a call that has a place in the order
 abbrev pub timeOf : Call → Option ℕ
@@ -82,7 +82,7 @@ unfoldable pub Ordered : List Call → Type 0
 Ordered [] = Unit {0}
 Ordered (call ∷ h) = notBefore (timeOf call) (latest h) × Ordered h
 
--- ════ What a caller is promised ═══════════════════════════════════════════════════════════════════
+-- ════ What a caller is promised ════
 
 -- a call of this size now, by a peer that is not banned, is within the smaller allowance of the life that it lands in
 pub record Entitled {c : PeerMessagePolicyConfig} {h : List Call} {s : State} (run : Run c h s) (k : Pubkey) (size now : ℕ) : Type 0 where

@@ -1,5 +1,5 @@
--- Samples A to J of document 01, run on the definitions: what the steps of each say, and what the document says that
--- they say. Definitions only; that the two agree is `Promises.samples`.
+-- Samples A to J, run on the definitions: what the steps of each say, and what docs/REFERENCE.md says that they say.
+-- Definitions only; that the two agree is `Promises.samples`.
 use mathlib.Core.Path.{_≡_}
 use mathlib.Core.List.{List, [], _∷_}
 use Prim.Native.Nat.{ℕ}
@@ -39,7 +39,7 @@ abbrev pub Agree : List Sample → Type 0
 Agree [] = Unit {0}
 Agree (x ∷ xs) = (x .says ≡ x .document) × Agree xs
 
--- ════ Steps ═══════════════════════════════════════════════════════════════════════════════════════
+-- ════ Steps ════
 
 -- a time, with a number of bytes where one is needed
 pub record At : Type 0 where
@@ -114,7 +114,7 @@ acquired c limit rs (m ∷ ms) =
     toldSays (tryAcquire c limit (replicate 70 (m .peer)) (m .now) rs .answer)
     ∷ acquired c limit (table.changedRows rs (tryAcquire c limit (replicate 70 (m .peer)) (m .now) rs .change)) ms
 
--- ════ What the steps say ══════════════════════════════════════════════════════════════════════════
+-- ════ What the steps say ════
 
 abbrev yes : Said
 yes = gives (1 ∷ [])

@@ -16,7 +16,7 @@ use Rattle.pubkey.specs.OrderLaws.{then-assoc, numbers-less, numbers-equ
 use Rattle.pubkey.specs.declared.Ordering.{Ordering}
 use Rattle.pubkey.specs.declared.Ordering.the-variants.{Less, Greater}
 
--- ---- numbers of two digits ----
+-- ════ Numbers of two digits ════
 
 -- numbers that are ordered as two others compare as they do
 numbers-alike : (c d p q : ℕ) → (c < d → p < q) → (c ≡ d → p ≡ q) → (d < c → q < p) → compareNumbers c d ≡ compareNumbers p q
@@ -37,7 +37,7 @@ compare-digits x y c d fc fd =
     (λ h. ap lower (numbers-greater h) ∙ sym (numbers-greater {x = p} {y = q} (omega arith))))
     (numbers-cases x y)
 
--- ---- fronts ----
+-- ════ Fronts ════
 
 -- the fronts of two lists decide at a place, or what stands behind them does
 pub compare-fronts : (n : ℕ) (a b : List ℕ) (i : ℕ) → Bytes a → Bytes b → i + n ≤ length a → i + n ≤ length b
@@ -57,7 +57,7 @@ compare-fronts (suc n) a b i fa fb ha hb =
     ∙ ap (λ (o : Ordering). o then behind) (compare-digits x y c d (fa (i + n)) (fb (i + n)))
     ∙ ap (λ (j : ℕ). compareNumbers (256 * x + c) (256 * y + d) then compareBytes (drop j a) (drop j b)) (add-assoc i n 1 ∙ ap (λ (m : ℕ). i + m) (add-one n))
 
--- ---- one turn of a loop over both ----
+-- ════ One turn of a loop over both ════
 
 module _ (n : ℕ) (a b : List ℕ) (i : ℕ) (fa : Bytes a) (fb : Bytes b) (ha : i + n ≤ length a) (hb : i + n ≤ length b) where
   -- by an answer of the fronts
@@ -75,7 +75,7 @@ module _ (n : ℕ) (a b : List ℕ) (i : ℕ) (fa : Bytes a) (fb : Bytes b) (ha 
   pub fronts-equal : front n a i ≡ front n b i → compareBytes (drop i a) (drop i b) ≡ compareBytes (drop (i + n) a) (drop (i + n) b)
   fronts-equal h = by-fronts (numbers-equal h)
 
--- ---- parts of one width ----
+-- ════ Parts of one width ════
 
 module _ (n k : ℕ) (s : List ℕ) (i : ℕ) (t : List ℕ) (j : ℕ) (narrow : n ≤ k) (fs : Bytes s) (ft : Bytes t) (hs : i + k ≤ length s) (ht : j + k ≤ length t) where
   -- the part with the smaller front comes first

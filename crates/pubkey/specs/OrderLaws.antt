@@ -21,7 +21,7 @@ use Rattle.pubkey.specs.declared.Pubkey.{Pubkey}
 use Rattle.pubkey.specs.declared.OutPoint.{OutPoint}
 use Rattle.pubkey.specs.declared.ChannelUpdateLimiterKey.{ChannelUpdateLimiterKey}
 
--- ---- answers ----
+-- ════ Answers ════
 
 -- the answer where the two that are compared change places: the Rust's `Ordering::reverse`
 abbrev pub flip : Ordering → Ordering
@@ -54,7 +54,7 @@ less-is-not-greater h k = let z : _≡_ {A = ℕ} 0 1 = cc in omega arith
 pub equal-is-not-greater : {o : Ordering} → o ≡ Equal → o ≡ Greater → ⊥
 equal-is-not-greater h k = let z : _≡_ {A = ℕ} 0 1 = cc in omega arith
 
--- ---- numbers ----
+-- ════ Numbers ════
 
 pub numbers-less : {x y : ℕ} → x < y → compareNumbers x y ≡ Less
 numbers-less {x} {y} h = rw (lt-ltb x y h)
@@ -84,7 +84,7 @@ numbers-flip x y =
     (λ h. numbers-less h ∙ sym (ap flip (numbers-greater h))))
     (numbers-cases x y)
 
--- ---- lists by their first bytes ----
+-- ════ Lists by their first bytes ════
 
 module _ (x y : ℕ) (a b : List ℕ) where
   pub first-less : x < y → compareBytes (x ∷ a) (y ∷ b) ≡ Less
@@ -109,7 +109,7 @@ module _ (x y : ℕ) (a b : List ℕ) where
       (⊎-elim (λ h. (h, sym (first-equal h) ∙ equal)) (λ h. absurd (equal-is-not-greater equal (first-greater h))))
       (numbers-cases x y)
 
--- ---- lists at an index: one turn of a loop over both ----
+-- ════ Lists at an index: one turn of a loop over both ════
 
 module _ (a b : List ℕ) (i : ℕ) where
   -- both have a byte there: it decides, or what follows does
@@ -138,7 +138,7 @@ module _ (a b : List ℕ) (i : ℕ) where
   pub both-ended : length a ≤ i → length b ≤ i → compareBytes (drop i a) (drop i b) ≡ Equal
   both-ended h k = rw (drop-of-length-le a h, drop-of-length-le b k)
 
--- ---- the strict order ----
+-- ════ The strict order ════
 
 pub compare-self : (a : List ℕ) → compareBytes a a ≡ Equal
 compare-self [] = refl
@@ -212,7 +212,7 @@ pub trichotomy : (a b : List ℕ) → ExactlyOne (compareBytes a b ≡ Less) (a 
 trichotomy a b =
     exactly-one (compareBytes a b) (compareBytes b a) (compare-equal a b) (λ h. rw h (compare-self b)) (compare-flip a b)
 
--- ---- appended lists ----
+-- ════ Appended lists ════
 
 -- where the first parts are of one length, they decide, or the second parts do
 pub compare-append : (a b c d : List ℕ) → length a ≡ length b
@@ -224,7 +224,7 @@ compare-append (x ∷ a) (y ∷ b) c d h =
     ap (λ (o : Ordering). compareNumbers x y then o) (compare-append a b c d (omega arith))
     ∙ sym (then-assoc (compareNumbers x y) (compareBytes a b) (compareBytes c d))
 
--- ---- keys are equal where their bytes are ----
+-- ════ Keys are equal where their bytes are ════
 
 pub pubkey-fields : {a b : Pubkey} → a .bytes ≡ b .bytes → a ≡ b
 pubkey-fields h = ap {B = Pubkey} (λ (x : List ℕ). record { bytes = x }) h
@@ -247,7 +247,7 @@ pubkey-trichotomy a b =
     (λ h. rw h (compare-self (b .bytes)))
     (compare-flip (a .bytes) (b .bytes))
 
--- ---- limiter keys ----
+-- ════ Limiter keys ════
 
 -- the arrays of a limiter key have the lengths that their types say: 33 and 36 bytes
 pub record Whole (k : ChannelUpdateLimiterKey) : Type 0 where
@@ -335,7 +335,7 @@ limiter-trichotomy {a} {b} wa wb =
     (λ h. rw h (limiter-self b))
     (limiter-flip wa wb)
 
--- ---- at most one outcome ----
+-- ════ At most one outcome ════
 
 pub compare-bytes-outcome : (a b : List ℕ) {r s : Ordering} → r ≡ compareBytes a b → s ≡ compareBytes a b → r ≡ s
 compare-bytes-outcome a b = one-outcome

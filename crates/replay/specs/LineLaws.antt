@@ -18,7 +18,7 @@ use Rattle.lent_bytes.specs.LentBytesLaws.{take-put-end}
 use Rattle.replay.specs.declared.line.Line.{Line}
 use Rattle.replay.specs.Line.{written, extended}
 
--- ---- adding to a line
+-- ════ Adding to a line ════
 
 -- cutting a text before another is added changes nothing of what is kept
 take-again : (n : ℕ) (xs ys : List ℕ) → take n (take n xs ++ ys) ≡ take n (xs ++ ys)
@@ -65,7 +65,7 @@ text-step w s i h =
     extended-twice w (take i s) (getD s i 0 ∷ [])
     ∙ ap (extended w) (sym (take-suc s i 0 h) ∙ ap (λ (n : ℕ). take n s) (sym (add-one i)))
 
--- ---- the digits of a number
+-- ════ The digits of a number ════
 
 -- no number has more than 20 digits
 digits-few : (k n : ℕ) → length (digitsWithin k n) ≤ k

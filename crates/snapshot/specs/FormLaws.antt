@@ -12,7 +12,7 @@ use Rattle.snapshot_layout.specs.Layout.{Part, Slot, slots, slotsOf, bodiesSize
 use Rattle.snapshot_layout.specs.SlotLaws.{length-slots}
 use Rattle.snapshot.specs.Form.{rowSize, Form, first, parts, sizes, joined, pieces, total, lengthsOf, formSlots, rowsPlace, FormFits}
 
--- ---- kinds and lengths
+-- ════ Kinds and lengths ════
 
 -- the bodies take what the lengths come to
 size-slots : (ks ns : List ℕ) → length ns ≡ length ks → bodiesSize (slots ks ns) ≡ total ns
@@ -49,7 +49,7 @@ module _ (f : Form) (fits : FormFits f) where
         size = omega (arith, form-size n, form-size 1024, fits .numbers .size);
       }
 
--- ---- parts, bodies and bytes
+-- ════ Parts, bodies and bytes ════
 
 -- as many lengths as bodies
 length-sizes : (bs : List (List ℕ)) → length (sizes bs) ≡ length bs
@@ -92,7 +92,7 @@ pieces-joined z from (b ∷ bs) h =
     pieces-joined z (from + length b) bs (sym (drop-drop (length b) from z) ∙ ap (drop (length b)) h ∙ drop-append-seam b (joined bs)) in
     (λ d. body d ∷ others d)
 
--- ---- forms that fit
+-- ════ Forms that fit ════
 
 -- the first
 pub first-fits : FormFits first

@@ -31,7 +31,7 @@ use Rattle.snapshot.specs.FormLaws.{form-size}
 use Rattle.snapshot.specs.Snapshot.{settingsIn}
 use Rattle.snapshot.specs.Snapshot.{recordIn, loadIn, configIn, policyIn}
 
--- ---- lengths
+-- ════ Lengths ════
 
 -- a list to its end
 pub whole-tail : (a : ℕ) (z : List ℕ) → take (length z - a) (drop a z) ≡ drop a z
@@ -63,7 +63,7 @@ module _ (f : Form) where
       → length z ≡ rowsPlace f + rowSize * rowsIn f z + total (f .behind)
   laid-length fits z h = length-laid z (formSlots f (rowsIn f z)) h ∙ form-size f fits (rowsIn f z)
 
-  -- ---- settings that were read
+  -- ════ Settings that were read ════
 
   -- a wrong layout tells of no settings
   pub settings-refused : (z : List ℕ) → laidOut z (formSlots f (rowsIn f z)) ≡ false → settingsIn f z ≡ ReadSettings.OutOfRange
@@ -91,7 +91,7 @@ module _ (f : Form) where
     pub read-length : FormFits f → length z ≡ rowsPlace f + rowSize * rowsIn f z + total (f .behind)
     read-length fits = laid-length fits z read-laid
 
-  -- ---- a policy that was judged
+  -- ════ A policy that was judged ════
 
   module _ (z : List ℕ) (c : PeerMessagePolicyConfig) where
     -- a limit that is too large
@@ -127,7 +127,7 @@ module _ (f : Form) where
       pub record-taken : rowsSound p (drop (rowsPlace f) z) ≡ true → recordIn f z p ≡ Made.Policy p
       record-taken k = judged-by k
 
-  -- ---- a policy that was read
+  -- ════ A policy that was read ════
 
   -- the snapshot z describes the policy p, and is sound
   pub record Describes (z : List ℕ) (p : PeerMessagePolicy) : Type 0 where

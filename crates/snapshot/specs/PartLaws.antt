@@ -20,7 +20,7 @@ use Rattle.snapshot.specs.Snapshot.{settingsIn, placed, partOf}
 use Rattle.snapshot.specs.Snapshot.{kindPlace, partPlace}
 use Rattle.snapshot.specs.JudgeLaws.{read-laid}
 
--- ---- a part that was asked for
+-- ════ A part that was asked for ════
 
 placed-is : (x : Place) (a e : ℕ) → placed x ≡ PartPlace.At a e → x ≡ Place.At a e
 placed-is (Place.At b d) a e h = cc
@@ -42,7 +42,7 @@ module _ (f : Form) where
       let between = place-within kind slots a e (placed-is (placeOf kind slots) a e (is .1)) in
       (between .order, omega (arith, between .ends, length-laid z slots (is .0)))
 
-  -- ---- one outcome
+  -- ════ One outcome ════
 
   -- asking for a kind has one answer
   pub place-one : (z : List ℕ) (kind : ℕ) {r q : PartPlace} → r ≡ partPlace f z kind → q ≡ partPlace f z kind → r ≡ q

@@ -23,7 +23,7 @@ use Rattle.snapshot.specs.Form.{rowSize, Form, rowsPlace}
 use Rattle.snapshot.specs.Snapshot.{policyIn, readOutcome, ReadMeets}
 
 module _ (f : Form) where
-  -- ---- what reading leaves
+  -- ════ What reading leaves ════
 
   module _ (z before : List ℕ) where
     -- a snapshot that is refused by itself
@@ -45,7 +45,7 @@ module _ (f : Form) where
           rw (h, long-enough peerLayout (limit (p .config)) before (omega arith) l)
           (record { answers = refl; leaves = subst (λ (m : ℕ). Holds peerLayout before t m (rowsOf p (drop (rowsPlace f) z))) e held })
 
-  -- ---- the rows copied
+  -- ════ The rows copied ════
 
   -- so many rows copied, and zeros up to the limit
   pub copied-rows : (z s t : List ℕ) (n m : ℕ) → Bytes z → rowsPlace f + rowSize * n ≤ length z → n ≤ m
@@ -65,7 +65,7 @@ module _ (f : Form) where
       ∙ ap (λ (k : ℕ). put s 0 (tableBytes peerLayout (rows peerLayout w n) ++ zeros (rowSize * (m - k)))) (sym (length-rows peerLayout w n))
       ∙ sym (laid-put peer-faithful s m (rows peerLayout w n) fit))
 
-  -- ---- one outcome
+  -- ════ One outcome ════
 
   -- read has one answer and leaves one table
   pub read-one : (z before : List ℕ) {r q : Made} {x y : List ℕ} → ReadMeets f z before r x → ReadMeets f z before q y → (r ≡ q) × (x ≡ y)

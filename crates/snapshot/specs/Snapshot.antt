@@ -30,7 +30,7 @@ use Rattle.snapshot.specs.declared.answer.PartPlace.{PartPlace}
 use Rattle.snapshot.specs.declared.answer.PartPlace.the-variants as PartPlace
 use Rattle.snapshot.specs.Form.{rowSize, Form, first, parts, formSlots, settingsPlace, loadPlace, rowsPlace, rowsIn}
 
--- ════ What the answers say ════════════════════════════════════════════════════════════════════════
+-- ════ What the answers say ════
 
 -- write says how many bytes it wrote
 abbrev pub writtenSays : Written → Said
@@ -42,7 +42,7 @@ abbrev pub placeSays : PartPlace → Said
 placeSays (PartPlace.At a e) = gives (a ∷ e ∷ [])
 placeSays (PartPlace.Refused n) = refused n
 
--- ════ Written ═════════════════════════════════════════════════════════════════════════════════════
+-- ════ Written ════
 
 -- a policy and its rows as parts: the settings, the load in flight, the rows' bytes as they stand in the table, and the bodies that the
 -- form has behind them
@@ -77,7 +77,7 @@ pub record WriteMeets (p : PeerMessagePolicy) (s before : List ℕ) (r : Written
   pub answers : r ≡ writeOutcome p s before .answer
   pub leaves : after ≡ writeOutcome p s before .output
 
--- ════ Read ════════════════════════════════════════════════════════════════════════════════════════
+-- ════ Read ════
 
 -- whether settings were read
 abbrev pub wasRead : ReadSettings → Bool

@@ -24,7 +24,7 @@ use Rattle.snapshot.specs.Form.{rowSize, Form, first, sizes, formSlots, 
 use Rattle.snapshot.specs.FormLaws.{form-count, slots-of-parts}
 use Rattle.snapshot.specs.Snapshot.{policyParts, snapshotBytes, snapshotLength, writeOutcome, WriteMeets}
 
--- ---- what writing leaves
+-- ════ What writing leaves ════
 
 -- a sound policy has at most 1,024 rows, and they stand in its memory
 pub sound-rows : (p : PeerMessagePolicy) (s : List ℕ) → sound p s ≡ true → (p .rows ≤ 1024) × (rowSize * p .rows ≤ length s)
@@ -52,7 +52,7 @@ module _ (p : PeerMessagePolicy) (s out : List ℕ) where
         let long = le-leb (snapshotLength first p) (length out) l in
         record { answers = ap Written.Length m ∙ rw (h, long); leaves = e ∙ rw (h, long) }
 
--- ---- written
+-- ════ Written ════
 
 module _ (p : PeerMessagePolicy) (s : List ℕ) (inside : rowSize * p .rows ≤ length s) where
   -- the rows take their bytes
@@ -104,7 +104,7 @@ module _ (p : PeerMessagePolicy) (s : List ℕ) (inside : rowSize * p .rows ≤ 
       ∙ ap (λ (l : List Slot). put (put out 0 (contents l)) (contentsSize (length l)) (bodies ps)) (sym (slots-parts f behind e))
       ∙ put-snapshot out ps
 
--- ---- one outcome
+-- ════ One outcome ════
 
 -- write has one answer and leaves one output
 pub write-one : (p : PeerMessagePolicy) (s before : List ℕ) {r q : Written} {x y : List ℕ} → WriteMeets p s before r x → WriteMeets p s before q y

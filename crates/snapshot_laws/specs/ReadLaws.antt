@@ -36,7 +36,7 @@ use Rattle.snapshot.specs.FormLaws.{form-count, cut-slots}
 use Rattle.snapshot.specs.Snapshot.{policyParts, snapshotBytes, limitOf, policyIn, restored, readOutcome, ReadMeets}
 use Rattle.snapshot.specs.JudgeLaws.{read-laid, read-settings, Describes, policy-describes, describes-length}
 
--- ---- a read that was not refused
+-- ════ A read that was not refused ════
 
 module _ (f : Form) where
   -- the snapshot describes the policy, and the table that had room for its limit holds its rows
@@ -75,7 +75,7 @@ module _ (f : Form) where
           ap (rows peerLayout after) (sym (length-rows peerLayout (drop (rowsPlace f) z) (q .rows))) ∙ r .held .reads
 
 module _ (f : Form) (fits : FormFits f) where
-  -- ---- bytes that describe a policy
+  -- ════ Bytes that describe a policy ════
 
   module _ (z : List ℕ) (q : PeerMessagePolicy) (s : List ℕ) (b : Bytes z) (d : Describes f z q) (front : take (rowSize * q .rows) s ≡ part z (rowsPlace f) (rowSize * q .rows)) where
     laid-here : laidOut z (formSlots f (q .rows)) ≡ true
@@ -100,7 +100,7 @@ module _ (f : Form) (fits : FormFits f) where
     unfolding snapshotBytes
     describes-bytes = ap snapshotOf parts-again ∙ sym (accepted-is z (formSlots f (q .rows)) b laid-here)
 
-  -- ---- what a read leaves
+  -- ════ What a read leaves ════
 
   module _ (z before : List ℕ) (q : PeerMessagePolicy) (after : List ℕ) (r : Restored f z before q after) where
     rows-inside : rowSize * q .rows ≤ length (drop (rowsPlace f) z)

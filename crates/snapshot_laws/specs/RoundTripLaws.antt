@@ -35,7 +35,7 @@ chosen : (p : PeerMessagePolicy) (b : Bool) (change : Change)
 chosen p true change = refl
 chosen p false change = refl
 
--- ---- a snapshot, in any form, and what is read from it
+-- ════ A snapshot, in any form, and what is read from it ════
 
 module _ (f : Form) (fits : FormFits f) (p : PeerMessagePolicy) (s : List ℕ) (h : sound p s ≡ true) (behind : List (List ℕ)) (e : sizes behind ≡ f .behind)
     (numbers : PolicyFits p) (before after : List ℕ) where
@@ -71,7 +71,7 @@ module _ (f : Form) (fits : FormFits f) (p : PeerMessagePolicy) (s : List ℕ) (
       ∙ ap (λ (x : Made). restored f z before x .answer) (written-policy f fits p s h behind e numbers)
       ∙ chosen p (longEnough (p .config) before) (become (rowsOf p (drop (rowsPlace f) z)))
 
--- ---- a write that was not refused
+-- ════ A write that was not refused ════
 
 -- it wrote the snapshot of a sound policy
 pub record Wrote (p : PeerMessagePolicy) (s out : List ℕ) (n : ℕ) (after : List ℕ) : Type 0 where
@@ -116,7 +116,7 @@ module _ (p : PeerMessagePolicy) (s out : List ℕ) (n : ℕ) (out' : List ℕ) 
       ap (take n) (wrote .output)
       ∙ part-put-at out 0 (snapshotBytes first p s []) n (written-length first first-fits p s (wrote .is-sound) [] refl ∙ sym (wrote .size)) (omega arith)
 
-  -- ---- written and read
+  -- ════ Written and read ════
 
   module _ (fits : PolicyFits p) (before after : List ℕ) where
     -- what was written and is read is the same policy
@@ -133,7 +133,7 @@ module _ (p : PeerMessagePolicy) (s out : List ℕ) (n : ℕ) (out' : List ℕ) 
         snapshot-answers first first-fits p s (wrote .is-sound) [] refl fits before after r
         (subst (λ (z : List ℕ). ReadMeets first z before r after) front-is read)
 
--- ---- read and written
+-- ════ Read and written ════
 
 -- what was read and is written is the same bytes, and every further byte of the output stays
 pub read-writes : (z before after : List ℕ) (q : PeerMessagePolicy) → Bytes z → ReadMeets first z before (Made.Policy q) after

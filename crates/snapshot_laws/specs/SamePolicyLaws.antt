@@ -30,7 +30,7 @@ use Rattle.snapshot.specs.WriteLaws.{sound-rows}
 use Rattle.snapshot_laws.specs.Alike.{Alike, Calls, done, next, WrittenAlike, SamePolicy}
 use Rattle.snapshot_laws.specs.RoundTripLaws.{wrote, front-is, written-reads}
 
--- ---- calls
+-- ════ Calls ════
 
 -- a call says the same on both and leaves them alike
 pub step-alike : (s t : State) → Alike s t → (call : Call) → Fits call → (said other : Said) (u v : State) → Step s call said u → Step t call other v
@@ -59,7 +59,7 @@ calls-alike {s} {t} a (next call said m fits step rest) (next call₂ other n fi
     let later = calls-alike (now .1) rest rest₂ in
     ((λ d. now .0 d ∷ later .0 d), later .1)
 
--- ---- snapshots
+-- ════ Snapshots ════
 
 module _ (s t : State) (a : Alike s t) where
   -- equal rows are equal bytes
@@ -105,7 +105,7 @@ module _ (s t : State) (a : Alike s t) where
             );
       }
 
--- ---- the same policy
+-- ════ The same policy ════
 
 -- states that are alike are the same policy
 pub alike-same : (s t : State) → Alike s t → SamePolicy s t

@@ -56,7 +56,7 @@ module _ (f : Form) (fits : FormFits f) (p : PeerMessagePolicy) (s : List ℕ) (
       ∙ ap (laidOut z) (sym slots-here)
       ∙ laid-out (policyParts f p s behind) (subst SlotsFit (sym slots-here) (form-slots-fit f fits (p .rows) (sound-rows p s h .0)))
 
-  -- ---- the bodies
+  -- ════ The bodies ════
 
   -- all of them stand behind the contents
   written-bodies : drop (settingsPlace f) z ≡ settingsBytes (p .config) ++ (loadBytes (p .ingress) ++ (take (rowSize * p .rows) s ++ joined behind))
@@ -110,7 +110,7 @@ module _ (f : Form) (fits : FormFits f) (p : PeerMessagePolicy) (s : List ℕ) (
       ∙ ap (drop (rowSize * p .rows)) written-tail
       ∙ drop-at (take (rowSize * p .rows) s) (joined behind) (rowSize * p .rows) rows-here)
 
-  -- ---- the policy
+  -- ════ The policy ════
 
   module _ (numbers : PolicyFits p) where
     -- the snapshot describes the policy

@@ -11,7 +11,7 @@ use Rattle.lent_bytes.specs.LentBytes.{part, le, bytes}
 use Rattle.snapshot_layout.specs.declared.place.Place.{Place}
 use Rattle.snapshot_layout.specs.declared.place.Place.the-variants as Place
 
--- ---- sizes, in bytes
+-- ════ Sizes, in bytes ════
 
 -- of the count of the parts
 abbrev pub countSize : ℕ
@@ -33,7 +33,7 @@ slotSize = 10
 abbrev pub contentsSize : ℕ → ℕ
 contentsSize n = countSize + slotSize * n
 
--- ---- parts and what the contents tell of them
+-- ════ Parts and what the contents tell of them ════
 
 -- a part: its kind and its bytes
 pub record Part : Type 0 where
@@ -65,7 +65,7 @@ bodiesSize (q ∷ qs) = q .size + bodiesSize qs
 abbrev pub snapshotSize : List Slot → ℕ
 snapshotSize qs = contentsSize (length qs) + bodiesSize qs
 
--- ---- written
+-- ════ Written ════
 
 -- what the contents tell of one part whose body begins at a place
 unfoldable pub slotBytes : ℕ → Slot → List ℕ
@@ -89,7 +89,7 @@ bodies (p ∷ ps) = p .body ++ bodies ps
 unfoldable pub snapshotOf : List Part → List ℕ
 snapshotOf ps = contents (slotsOf ps) ++ bodies ps
 
--- ---- read
+-- ════ Read ════
 
 -- whether the bytes at `at` tell of a part that its body begins at `from`. Numbers are compared, so nothing wraps
 unfoldable pub slotSays : List ℕ → ℕ → ℕ → Slot → Bool
@@ -135,7 +135,7 @@ pub record Between (low a e high : ℕ) : Type 0 where
   pub ends : e ≤ high
   pub order : a ≤ e
 
--- ---- what the fields can tell
+-- ════ What the fields can tell ════
 
 -- every kind is within its field
 abbrev pub KindsFit : List Slot → Type 0

@@ -16,7 +16,7 @@ use Rattle.snapshot_layout.specs.Layout.{countSize, slotSize, contentsSi
 use Rattle.snapshot_layout.specs.Layout.{contentsFrom, contents, bodies, snapshotOf, slotSays, saysFrom, laidOut, cutFrom, cut, SlotsFit}
 use Rattle.snapshot_layout.specs.SlotLaws.{both, past-end, length-contentsFrom, length-contents, says-end, written-says-all, says-written-all, spelt, one-slot}
 
--- ---- lengths
+-- ════ Lengths ════
 
 -- the bodies take what their slots say
 pub length-bodies : (ps : List Part) → length (bodies ps) ≡ bodiesSize (slotsOf ps)
@@ -53,7 +53,7 @@ pub right-count : (s : List ℕ) (qs : List Slot) → le (part s 0 countSize) �
 unfolding laidOut
 right-count s qs h = ap (λ (b : Bool). b && saysFrom s countSize (contentsSize (length qs)) qs) (eq-eqb _ _ h)
 
--- ---- a snapshot and its parts
+-- ════ A snapshot and its parts ════
 
 -- parts are cut out of their bodies again
 cut-bodies : (a : List ℕ) (ps : List Part) → cutFrom (a ++ bodies ps) (length a) (slotsOf ps) ≡ ps
@@ -86,7 +86,7 @@ laid-out ps fit =
     right-count (snapshotOf ps) qs (le-bytes-2 n (fit .count))
     ∙ written-says-all (snapshotOf ps) countSize (contentsSize n) qs (fit .kinds) (fit .size) (length-snapshot ps) front
 
--- ---- bytes and the snapshot of their parts
+-- ════ Bytes and the snapshot of their parts ════
 
 -- the parts that were cut out have the kinds and lengths that were asked for
 slots-cut-from : (s : List ℕ) (from : ℕ) (qs : List Slot) → from + bodiesSize qs ≤ length s → slotsOf (cutFrom s from qs) ≡ qs
@@ -126,7 +126,7 @@ accepted-is s qs b h =
     ∙ ap (λ (l : List ℕ). l ++ drop from s) (front ∙ sym kept)
     ∙ ap (λ (l : List ℕ). contents (slotsOf (cut s qs)) ++ l) (sym (bodies-cut-from s from qs end))
 
--- ---- one layout
+-- ════ One layout ════
 
 -- the same bytes tell of one list of slots, where the number of slots is the same
 one-from : (s : List ℕ) (at from : ℕ) (qs rs : List Slot) → length qs ≡ length rs → saysFrom s at from qs ≡ true → saysFrom s at from rs ≡ true → qs ≡ rs
@@ -153,7 +153,7 @@ one-layout s qs rs f g =
     one-from s countSize (contentsSize (length qs)) qs rs n (left .1)
     (ap (λ (m : ℕ). saysFrom s countSize (contentsSize m) rs) n ∙ right .1)
 
--- ---- written
+-- ════ Written ════
 
 -- the contents, and the bodies written behind them, are the snapshot
 pub put-snapshot : (s : List ℕ) (ps : List Part) → put (put s 0 (contents (slotsOf ps))) (contentsSize (length (slotsOf ps))) (bodies ps) ≡ put s 0 (snapshotOf ps)

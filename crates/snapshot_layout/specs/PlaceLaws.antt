@@ -59,7 +59,7 @@ place-body s kind qs a e h = body-from s kind (contentsSize (length qs)) qs a e 
 pub place-snapshot : (kind : ℕ) (ps : List Part) (a e : ℕ) → placeOf kind (slotsOf ps) ≡ Place.At a e → part (snapshotOf ps) a (e - a) ≡ bodyOf kind ps
 place-snapshot kind ps a e h = place-body (snapshotOf ps) kind (slotsOf ps) a e h ∙ ap (bodyOf kind) (cut-snapshot ps)
 
--- ---- the forms of the peers' snapshot: a further kind is a further element
+-- ════ The forms of the peers' snapshot: a further kind is a further element ════
 
 -- the first: kinds 1, 2 and 3, the rows last
 pub first-form : (n : ℕ) → placeOf 3 (slots (1 ∷ 2 ∷ 3 ∷ []) (72 ∷ 16 ∷ n ∷ [])) ≡ Place.At 120 (120 + n)

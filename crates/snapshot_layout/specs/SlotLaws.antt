@@ -14,14 +14,14 @@ use Rattle.lent_bytes.specs.LentBytesLaws.{length-part, part-part, part-append,
 use Rattle.snapshot_layout.specs.Layout.{kindSize, numberSize, slotSize, contentsSize, Slot, slots, bodiesSize}
 use Rattle.snapshot_layout.specs.Layout.{slotBytes, contentsFrom, contents, slotSays, saysFrom, KindsFit}
 
--- ---- tests
+-- ════ Tests ════
 
 -- both halves of a test that holds
 pub both : (a b : Bool) → (a && b) ≡ true → (a ≡ true) × (b ≡ true)
 both true b h = (refl, h)
 both false b h = let z : false ≡ true = h in (z, cc)
 
--- ---- lengths
+-- ════ Lengths ════
 
 -- what the contents tell of one part
 pub length-slotBytes : (from : ℕ) (q : Slot) → length (slotBytes from q) ≡ slotSize
@@ -41,7 +41,7 @@ pub length-contents : (qs : List Slot) → length (contents qs) ≡ contentsSize
 unfolding contents
 length-contents qs = omega (arith, length-contentsFrom (contentsSize (length qs)) qs)
 
--- ---- one slot
+-- ════ One slot ════
 
 -- the bytes of a slot tell what was written, where the numbers are within their fields
 pub written-says : (s : List ℕ) (at from : ℕ) (q : Slot) → part s at slotSize ≡ slotBytes from q → q .kind < 2 ^ 16 → from < 2 ^ 32 → q .size < 2 ^ 32
@@ -92,7 +92,7 @@ one-slot s at from q r f g =
     ∙ eqb-true _ _ (both (eqb (le (part s (at + kindSize) numberSize)) from) _ (right .1) .1) in
     (λ d. record { kind = kind d; size = size d })
 
--- ---- many slots
+-- ════ Many slots ════
 
 -- the first slot's bytes, and those of the others
 pub contents-head : (s : List ℕ) (at from : ℕ) (q : Slot) (qs : List Slot) → part s at (slotSize * suc (length qs)) ≡ contentsFrom from (q ∷ qs)
@@ -143,7 +143,7 @@ says-written-all s at from (q ∷ qs) b h e =
     says-written-all s (at + slotSize) (from + q .size) qs b (omega arith) (halves .1) in
     ap (part s at) n ∙ part-append s at slotSize (slotSize * length qs) ∙ (λ d. first d ++ others d)
 
--- ---- slots from the lists of kinds and lengths
+-- ════ Slots from the lists of kinds and lengths ════
 
 -- as many as kinds, where there are as many lengths
 pub length-slots : (ks ns : List ℕ) → length ns ≡ length ks → length (slots ks ns) ≡ length ks

@@ -36,7 +36,7 @@ put-all s b h =
     let end : length s ≤ 0 + length b = omega arith in
     ap (λ (l : List ℕ). b ++ l) (drop-of-length-le s end) ∙ append-nil b
 
--- ---- the layout
+-- ════ The layout ════
 
 -- the rows have a place just where the layout is right
 place-read : (z : List ℕ) (x : ReadSettings) → (a e : ℕ) → kindPlace first z 3 x ≡ PartPlace.At a e → wasRead x ≡ true
@@ -60,7 +60,7 @@ right-length : (z : List ℕ) (x : ReadSettings) → settingsIn first z ≡ x �
 right-length z ReadSettings.OutOfRange s h = let no : _≡_ {A = ℕ} 0 1 = cc in absurd (omega arith)
 right-length z (ReadSettings.Read c) s h = omega (arith, read-length first z c s first-fits)
 
--- ---- the place
+-- ════ The place ════
 
 module _ (z : List ℕ) (at : ℕ) where
   -- the layout is wrong
@@ -97,7 +97,7 @@ module _ (z : List ℕ) (at : ℕ) where
       let size : length z ≡ rowsPlace first + rowSize * rowsIn first z = right-length z (settingsIn first z) refl (right .0) in
       omega arith
 
-  -- ---- the step
+  -- ════ The step ════
 
   pub step-refused : stands z at ≡ false → stepAt z at ≡ ended wrongLayout at
   unfolding stepAt
@@ -111,7 +111,7 @@ module _ (z : List ℕ) (at : ℕ) where
   unfolding stepAt
   step-given h e = rw (h, ne-eqb at (length z) e)
 
--- ---- the walk
+-- ════ The walk ════
 
 -- the place of the k-th row
 abbrev pub placeOfRow : ℕ → ℕ

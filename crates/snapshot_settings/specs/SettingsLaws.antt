@@ -49,7 +49,7 @@ unfolding settingsOf
 settings-places s at =
     settings-same (λ i. wordOf (part s at settingsSize) i) (wordAt s at) (λ i h. word-place s at settingsSize i (omega arith))
 
--- ---- written and read
+-- ════ Written and read ════
 
 -- the numbers of settings fit eight bytes each
 settings-words : (c : PeerMessagePolicyConfig) → ConfigFits c → Words (settingsWords c)
@@ -70,7 +70,7 @@ settings-read-back c f =
       le-leb (c .«max_in_flight_messages») 4294967295 (omega arith),
     )
 
--- ---- read and written
+-- ════ Read and written ════
 
 -- both halves of a test that holds
 both : (a b : Bool) → (a && b) ≡ true → (a ≡ true) × (b ≡ true)

@@ -19,7 +19,7 @@ use Rattle.snapshot_text.specs.declared.scan.Scan.{Scan}
 use Rattle.snapshot_text.specs.declared.scan.Handed.{Handed}
 use Rattle.snapshot_text.specs.Shown.{lineOf, fieldLine, headText, rowText, longestSnapshot}
 
--- ---- open
+-- ════ Open ════
 
 -- a scan at its first line
 abbrev pub begun : Made → Scan
@@ -33,7 +33,7 @@ OpenBy false z before r after = (made : Made) × (r ≡ begun made) × ReadMeets
 unfoldable pub OpenMeets : List ℕ → List ℕ → Scan → List ℕ → Type 0
 OpenMeets z before r after = OpenBy (ltb longestSnapshot (length z)) z before r after
 
--- ---- next
+-- ════ Next ════
 
 -- a line before the rows, and the scan behind it
 abbrev pub following : Made → ℕ → ℕ → Line → Handed
@@ -81,7 +81,7 @@ nextBy (Made.Refused n) scan z = refusedNext scan n
 unfoldable pub nextOf : Scan → List ℕ → Handed
 nextOf scan z = nextBy (scan .made) scan z
 
--- ---- what a caller of `next` gets
+-- ════ What a caller of `next` gets ════
 
 -- the text of a line
 abbrev pub textOf : Line → List ℕ

@@ -44,7 +44,7 @@ use Rattle.snapshot_text.specs.Words.{
   lastUsedHead,
 }
 
--- ---- a named number
+-- ════ A named number ════
 
 pub record Field : Type 0 where
   pub name : List ℕ
@@ -81,7 +81,7 @@ fieldTextOf f = fieldText (f .name) (f .number)
 abbrev pub fieldLine : PeerMessagePolicy → ℕ → List ℕ
 fieldLine p index = fieldTextOf (getD (fieldsOf p) index (field [] 0))
 
--- ---- the rows
+-- ════ The rows ════
 
 -- the head of a number's column: as the numbers, a blank and 13 places
 abbrev pub columnHead : List ℕ → List ℕ
@@ -118,7 +118,7 @@ abbrev pub rowsShown : Peers → List (List ℕ)
 rowsShown [] = []
 rowsShown (r ∷ rs) = headText ∷ map rowLine (r ∷ rs)
 
--- ---- the whole
+-- ════ The whole ════
 
 -- a policy with its rows
 abbrev pub policyShown : PeerMessagePolicy → Peers → List (List ℕ)
@@ -145,7 +145,7 @@ shownLines z = madeShown z (madeOf z)
 unfoldable pub shownText : List ℕ → List ℕ
 shownText z = flatten (shownLines z)
 
--- ---- lines
+-- ════ Lines ════
 
 -- a text as a line of 300 bytes, the unused ones zero
 abbrev pub lineOf : List ℕ → Line

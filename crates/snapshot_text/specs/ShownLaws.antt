@@ -63,7 +63,7 @@ use Rattle.snapshot_text.specs.Scan.{
 }
 use Rattle.snapshot_text.specs.LineLaws.{text-of-line}
 
--- ---- one run
+-- ════ One run ════
 
 module _ (z : List ℕ) where
   -- what is handed out from a scan on is determined
@@ -85,7 +85,7 @@ module _ (z : List ℕ) where
   ends-here : {scan : Scan} → nextOf scan z ≡ ended scan → HandsOut z scan []
   ends-here e = ends (sym e) refl
 
-  -- ---- a refusal
+  -- ════ A refusal ════
 
   refused-shown : (n : ℕ) → HandsOut z (begun (Made.Refused n)) (refusalText n ∷ [])
   unfolding nextOf refusedNext
@@ -93,7 +93,7 @@ module _ (z : List ℕ) where
       let behind : Scan = record { made = Made.Refused n; line = 1; at = rowsPlace first } in
       hands-next {behind = behind} {text = refusalText n} refl (ends-here {scan = behind} refl)
 
-  -- ---- a policy's numbers
+  -- ════ A policy's numbers ════
 
   module _ (p : PeerMessagePolicy) where
     -- the scan before this line, and at this row
@@ -116,7 +116,7 @@ module _ (z : List ℕ) where
         (number-shown 4 (omega arith) (number-shown 5 (omega arith) (number-shown 6 (omega arith) (number-shown 7 (omega arith)
         (number-shown 8 (omega arith) (number-shown 9 (omega arith) (number-shown 10 (omega arith) (number-shown 11 (omega arith) w)))))))))))
 
-    -- ---- its rows
+    -- ════ Its rows ════
 
     module _ (right : layoutRight first z ≡ true) where
       -- the step of a row hands out its line, and behind the last row there is none
@@ -146,7 +146,7 @@ module _ (z : List ℕ) where
     policy-shown : Describes first z p → HandsOut z (begun (Made.Policy p)) (policyShown p (rowsOf p (drop (rowsPlace first) z)))
     policy-shown d = numbers-shown (table-shown (ap wasRead (d .settings)) (p .rows) refl (d .count))
 
-  -- ---- an input
+  -- ════ An input ════
 
   judged : (b : Bool) (n : ℕ) (x : Made) {p : PeerMessagePolicy} → cond b (Made.Refused n) x ≡ Made.Policy p → x ≡ Made.Policy p
   judged true n x h = cc
@@ -162,7 +162,7 @@ module _ (z : List ℕ) where
   unfolding shownLines
   input-shown = made-shown (madeOf z) refl
 
--- ---- what was opened
+-- ════ What was opened ════
 
 module _ (z before : List ℕ) (long : 123904 ≤ length before) where
   -- in a table with room for every limit, reading answers what the snapshot was judged to be
@@ -181,7 +181,7 @@ module _ (z before : List ℕ) (long : 123904 ≤ length before) where
       go true h = h .0
       go false (made, e, reads) = e ∙ ap begun (reads .answers ∙ read-judged (policyIn first z) refl)
 
-  -- ---- the theorems
+  -- ════ The theorems ════
 
   module _ (r : Scan) (after : List ℕ) (opened : OpenMeets z before r after) where
     -- `next` comes to an end, and has then handed out what `shownLines` gives

@@ -2,7 +2,7 @@
 use mathlib.Core.List.{List, [], _∷_}
 use Prim.Native.Nat.{ℕ}
 
--- ---- the names of the numbers: nine settings, the load in flight, the rows
+-- ════ The names of the numbers: nine settings, the load in flight, the rows ════
 
 -- `peer_message_interval_ms`
 abbrev pub intervalName : List ℕ
@@ -52,7 +52,7 @@ loadBytesName = 105 ∷ 110 ∷ 95 ∷ 102 ∷ 108 ∷ 105 ∷ 103 ∷ 104 ∷ 1
 abbrev pub rowsName : List ℕ
 rowsName = 114 ∷ 111 ∷ 119 ∷ 115 ∷ []
 
--- ---- the heads of the rows' columns
+-- ════ The heads of the rows' columns ════
 
 -- `key`
 abbrev pub keyHead : List ℕ

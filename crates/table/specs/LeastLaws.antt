@@ -15,7 +15,7 @@ use Rattle.table.specs.Table.{Row, Best, nothing, best, better, leastFro
 use Rattle.table.specs.TableLaws.{by-test}
 use Rattle.table.specs.LookLaws.{some-is-not-none}
 
--- ---- measures at indexes ----
+-- ════ Measures at indexes ════
 
 -- the measure at j is n, it is least among those before the index i, and those before j are greater
 pub record LeastBefore (f : ℕ → Option ℕ) (i j n : ℕ) : Type 0 where
@@ -70,7 +70,7 @@ module _ (f : ℕ → Option ℕ) (i : ℕ) where
   right-better b = right-better-by b (f i) refl
 
 module _ {A : Type 0} (measure : Row A → Option ℕ) where
-  -- ---- the search as a loop, whose invariant says that what is found is that of b and the rows from the i-th on ----
+  -- ════ The search as a loop, whose invariant says that what is found is that of b and the rows from the i-th on ════
 
   -- a first row is taken in
   least-cons : (b : Best) (i : ℕ) (r : Row A) (rs : List (Row A))
@@ -95,7 +95,7 @@ module _ {A : Type 0} (measure : Row A → Option ℕ) where
       least-goes-on from = from ∙ least-from
 
   module _ (rs : List (Row A)) (d : Row A) where
-    -- ---- what is found ----
+    -- ════ What is found ════
 
     -- the measure of the row at an index
     abbrev pub measureAt : ℕ → Option ℕ

@@ -19,7 +19,7 @@ module _ {A : Type 0} where
   pub some-is-not-none : {o : Option A} {e : A} → o ≡ some e → o ≡ none → ⊥
   some-is-not-none h k = let z : _≡_ {A = ℕ} 0 1 = cc in omega arith
 
-  -- ---- by the first row ----
+  -- ════ By the first row ════
 
   module _ (k : List ℕ) (r : Row A) (rs : List (Row A)) where
     -- a key that comes before the first row is not found
@@ -59,7 +59,7 @@ module _ {A : Type 0} where
   look-below k [] h = refl
   look-below k (r ∷ rs) h = look-before k r rs (below-less k r rs h)
 
-  -- ---- after a store ----
+  -- ════ After a store ════
 
   module _ (k : List ℕ) (e : A) where
     -- what is stored is found
@@ -87,7 +87,7 @@ module _ {A : Type 0} where
         rw o (look-past other stored rs ne ∙ rw same (sym (look-past other r rs (λ q. ne (q ∙ sym same))))))
         (λ o. rw o (look-same-first other r (store k e rs) rs rest))
 
-  -- ---- after an erase ----
+  -- ════ After an erase ════
 
   module _ (k : List ℕ) where
     -- what is erased is not found
@@ -113,7 +113,7 @@ module _ {A : Type 0} where
         (λ p. look-below other rs (before-below r rs other order p)))))
         (λ o. rw o (look-same-first other r (erase k rs) rs rest))
 
-  -- ---- what rule it keeps ----
+  -- ════ What rule it keeps ════
 
   -- what is found keeps what rule all rows keep
   pub look-rule : (rule : Row A → Bool) (k : List ℕ) (rs : List (Row A)) {e : A} → every rule rs ≡ true → look k rs ≡ some e
@@ -126,7 +126,7 @@ module _ {A : Type 0} where
       (λ o. let z : r .entry ≡ e = cc (look-first k r rs o) in rw (compare-equal k (r .key) o, ← z) (parts .0))
       (λ o. look-rule rule k rs (parts .1) (sym (look-later k r rs o) ∙ found))
 
-  -- ---- after rows are taken out ----
+  -- ════ After rows are taken out ════
 
   -- what is found after rows are taken out of ascending rows is what was found, or nothing
   pub sub-look : {xs ys : List (Row A)} → Sub xs ys → ascending ys ≡ true → (k : List ℕ) → (look k xs ≡ look k ys) ⊎ (look k xs ≡ none)

@@ -21,7 +21,7 @@ use Rattle.table.specs.TableLaws.{Sub, done, keep, leave, sub-erase, sub
 use Rattle.table.specs.Memory.{Layout, wordBytes, wordOf, words, rowBytes, tableBytes, rowOf, rows, laid, Holds}
 use Rattle.table.specs.PutLaws.{put-earlier, put-later, put-front, put-whole, drop-take, zeros-append, drop-zeros}
 
--- ---- numbers and their eight bytes
+-- ════ Numbers and their eight bytes ════
 
 -- every number fits eight bytes: this is what a slice of 64-bit numbers offers of the list that stands in it
 abbrev pub Words : List ℕ → Type 0
@@ -103,7 +103,7 @@ wordOf-lt s i f h =
     let n : length (part s (8 * i) 8) ≡ 8 = length-part s (8 * i) 8 (omega arith) in
     subst (λ (m : ℕ). wordOf s i < 256 ^ m) n (le-lt (part s (8 * i) 8) (Bytes-part s (8 * i) 8 f))
 
--- ---- what a layout must satisfy
+-- ════ What a layout must satisfy ════
 
 -- the key fits the row, an entry takes the rest of it, and entries and their bytes are read back from one another. `Good` says
 -- which entries a row can hold
@@ -116,7 +116,7 @@ pub record Faithful {A : Type 0} (L : Layout A) (Good : A → Type 0) : Type 0 w
   pub decode-encode : (e : A) → Good e → L .decode (L .encode e) ≡ e
   pub encode-bytes : (e : A) → Good e → Bytes (L .encode e)
 
--- ---- rows
+-- ════ Rows ════
 
 module _ {A : Type 0} (L : Layout A) where
   -- one row more is one width more
@@ -208,7 +208,7 @@ bytes-used w n r =
     let e : max n r ≡ n + (r - n) = omega arith in
     ap (λ (m : ℕ). w * m) e ∙ mul-add w n (r - n)
 
--- ---- rows that fit their layout
+-- ════ Rows that fit their layout ════
 
 module _ {A : Type 0} (L : Layout A) (Good : A → Type 0) where
   -- a row that can stand in a table: its key has the key's width and is bytes, and its entry is one that a row can hold
@@ -271,7 +271,7 @@ module _ {A : Type 0} {L : Layout A} {Good : A → Type 0} (ok : Faithful L Good
   pub fit-erase : (k : List ℕ) (rs : List (Row A)) → AllFit L Good rs → AllFit L Good (erase k rs)
   fit-erase k rs = sub-fit (sub-erase k rs)
 
-  -- ---- the bytes of rows
+  -- ════ The bytes of rows ════
 
   -- a row takes its width
   pub length-rowBytes : (r : Row A) → Fit L Good r → length (rowBytes L r) ≡ L .width
@@ -371,7 +371,7 @@ module _ {A : Type 0} {L : Layout A} {Good : A → Type 0} (ok : Faithful L Good
       let rest : w * n ≤ length (drop w s) = rw length-drop (omega arith) in
       (fit-rowOf (take w s) (Bytes-take w s f) (length-take-le w s (omega arith)), fit-rows (drop w s) n (Bytes-drop w s f) rest)
 
-  -- ---- memory after a call
+  -- ════ Memory after a call ════
 
   -- memory with these rows is one write: their bytes, and zeros in the places freed
   pub laid-put : (s : List ℕ) (n : ℕ) (rs : List (Row A)) → AllFit L Good rs → laid L s n rs ≡ put s 0 (tableBytes L rs ++ zeros (L .width * (n - length rs)))
@@ -464,7 +464,7 @@ module _ {A : Type 0} {L : Layout A} {Good : A → Type 0} (ok : Faithful L Good
       ∙ ap (λ (l : List ℕ). l ++ drop (w * max n q) s) (zeros-append (w * (r - q)) (w * ((n - r) - (q - r)))
       ∙ ap zeros zeroed))
 
-  -- ---- from a write to memory after a call
+  -- ════ From a write to memory after a call ════
 
   -- a write that leaves these rows' bytes, and zeros in the places freed
   put-laid : (s : List ℕ) (n at : ℕ) (b : List ℕ) (rs : List (Row A)) → AllFit L Good rs → at ≤ length s

@@ -20,7 +20,7 @@ use Rattle.table.specs.Table.{Row, ascending, every, placeFrom, seek, lo
 use Rattle.table.specs.TableLaws.{by-answer, by-test, both-parts, ascending-parts, below-each, removeAt-first, removeAt-later}
 use Rattle.table.specs.LookLaws.{some-is-not-none, look-below, look-before, look-first, look-later, look-erase-same, look-erase-other}
 
--- ---- answers ----
+-- ════ Answers ════
 
 -- a key does not both stand at a place and miss
 pub at-is-not-gap : {s : Seek} {i j : ℕ} → s ≡ At i → s ≡ Gap j → ⊥
@@ -35,7 +35,7 @@ pub gap-is-not-unsound : {s : Seek} {i : ℕ} → s ≡ Gap i → s ≡ Unsound 
 gap-is-not-unsound h k = let z : _≡_ {A = ℕ} 0 1 = cc in omega arith
 
 module _ {A : Type 0} where
-  -- ---- the first row ----
+  -- ════ The first row ════
 
   module _ (i : ℕ) (k : List ℕ) (r : Row A) (rs : List (Row A)) where
     -- a key that comes before the first row misses there
@@ -53,7 +53,7 @@ module _ {A : Type 0} where
     unfolding placeFrom
     place-later h = rw h
 
-  -- ---- a key's place, as a derivation ----
+  -- ════ A key's place, as a derivation ════
 
   -- the key is that of the j-th row, and comes after those before it
   pub data Stands (k : List ℕ) : ℕ → List (Row A) → Type 0 where
@@ -121,7 +121,7 @@ module _ {A : Type 0} where
       let e : s .0 ≡ j = omega (arith, s .1) in
       rw e at (s .2)
 
-  -- ---- what follows from a derivation; the public laws, of `At` and of `Gap`, are below ----
+  -- ════ What follows from a derivation; the public laws, of `At` and of `Gap`, are below ════
 
   module _ {k : List ℕ} where
     stands-inside : {j : ℕ} {rs : List (Row A)} → Stands k j rs → j < length rs
@@ -174,7 +174,7 @@ module _ {A : Type 0} where
     fits-erase (before h) = rw h
     fits-erase (after h s) = rw (h, fits-erase s)
 
-  -- ---- lengths, with a row taken out or put in ----
+  -- ════ Lengths, with a row taken out or put in ════
 
   -- n rows fewer, when n neighbouring rows are taken out
   pub length-removeRun : (i n : ℕ) (rs : List (Row A)) → i + n ≤ length rs → length (removeRun i n rs) + n ≡ length rs
@@ -191,7 +191,7 @@ module _ {A : Type 0} where
   unfolding insertAt
   length-insertAt j r rs inside = simp (length-append, length-take, length-drop) (omega arith)
 
-  -- ---- the key stands at a place: `At` ----
+  -- ════ The key stands at a place: `At` ════
 
   module _ (k : List ℕ) (rs : List (Row A)) {j : ℕ} (found : placeFrom 0 k rs ≡ At j) where
     -- the place is that of a row
@@ -226,7 +226,7 @@ module _ {A : Type 0} where
     pub at-length-erase : length (erase k rs) + 1 ≡ length rs
     at-length-erase = rw at-erase (length-removeAt j rs at-inside)
 
-  -- ---- the key would stand at a gap: `Gap` ----
+  -- ════ The key would stand at a gap: `Gap` ════
 
   module _ (k : List ℕ) (rs : List (Row A)) {j : ℕ} (gap : placeFrom 0 k rs ≡ Gap j) where
     -- the gap is before a row or behind the last
@@ -253,7 +253,7 @@ module _ {A : Type 0} where
     pub gap-length-erase : length (erase k rs) ≡ length rs
     gap-length-erase = rw gap-erase
 
-  -- ---- judging and searching ----
+  -- ════ Judging and searching ════
 
   -- the rows are sound, and the search answered this
   pub record Sought (rule : Row A → Bool) (k : List ℕ) (rs : List (Row A)) (answer : Seek) : Type 0 where
@@ -291,7 +291,7 @@ module _ {A : Type 0} where
     pub seek-gap : {j : ℕ} → seek rule k rs ≡ Gap j → Sought rule k rs (Gap j)
     seek-gap h = seek-sought h (gap-is-not-unsound refl)
 
-  -- ---- the row at an index ----
+  -- ════ The row at an index ════
 
   -- the key of a row of ascending rows stands at that row
   stands-row : (rs : List (Row A)) (j : ℕ) (d : Row A) → ascending rs ≡ true → j < length rs → Stands (getD rs j d .key) j rs
@@ -324,7 +324,7 @@ module _ {A : Type 0} where
     pub look-removeAt-other : (other : List ℕ) → (other ≡ getD rs j d .key → ⊥) → look other (removeAt j rs) ≡ look other rs
     look-removeAt-other other ne = rw removeAt-erase (look-erase-other (getD rs j d .key) other ne rs order)
 
-  -- ---- found or not ----
+  -- ════ Found or not ════
 
   module _ (k : List ℕ) (rs : List (Row A)) where
     -- what is found stands at a place

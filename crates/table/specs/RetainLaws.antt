@@ -19,7 +19,7 @@ use Rattle.table.specs.TableLaws.{every-parts, every-cons, every-fails, 
 use Rattle.table.specs.LookLaws.{look-below, look-before, look-first, look-later}
 
 module _ {A : Type 0} (test : Row A → Bool) where
-  -- ---- the first row ----
+  -- ════ The first row ════
 
   -- a first row that passes is retained
   pub retain-pass : (r : Row A) (rs : List (Row A)) → test r ≡ true → retain test (r ∷ rs) ≡ r ∷ retain test rs
@@ -31,7 +31,7 @@ module _ {A : Type 0} (test : Row A → Bool) where
   unfolding retain
   retain-fail r rs h = rw h
 
-  -- ---- what is found ----
+  -- ════ What is found ════
 
   -- what was found for a key, if its row passes the test
   abbrev pub passing : List ℕ → Option A → Option A
@@ -72,7 +72,7 @@ module _ {A : Type 0} (test : Row A → Bool) where
     pub look-retain-none : look k rs ≡ none → look k (retain test rs) ≡ none
     look-retain-none h = look-retain k rs order ∙ rw h
 
-  -- ---- a retain as a loop ----
+  -- ════ A retain as a loop ════
 
   -- a retain goes through rows one part after the other
   pub retain-append : (xs ys : List (Row A)) → retain test (xs ++ ys) ≡ retain test xs ++ retain test ys
@@ -110,7 +110,7 @@ module _ {A : Type 0} (test : Row A → Bool) where
   pub length-retain-tried : (rs : List (Row A)) (i : ℕ) → length (retain test (take i rs)) ≤ i
   length-retain-tried rs i = omega (arith, sub-length (sub-retain test (take i rs)), length-take i rs)
 
-  -- ---- how many are left ----
+  -- ════ How many are left ════
 
   -- no more rows are left than there were
   pub length-retain : (rs : List (Row A)) → length (retain test rs) ≤ length rs

@@ -15,7 +15,7 @@ use Rattle.pubkey.specs.Order.{compareBytes}
 use Rattle.pubkey.specs.OrderLaws.{compare-equal, transitive, greater-flip}
 use Rattle.table.specs.Table.{Row, rowUnder, below, ascending, every, store, erase, retain, removeRun, removeAt}
 
--- ---- tests ----
+-- ════ Tests ════
 
 -- a fact by the three answers of a comparison, each with the equation that says it
 pub by-answer {ℓ} : {B : Type ℓ} (o : Ordering) → (o ≡ Less → B) → (o ≡ Equal → B) → (o ≡ Greater → B) → B
@@ -54,7 +54,7 @@ regroup true false false d = refl
 regroup false b c d = refl
 
 module _ {A : Type 0} where
-  -- ---- the first row ----
+  -- ════ The first row ════
 
   module _ (k : List ℕ) (r : Row A) (rs : List (Row A)) where
     -- a key below the rows comes before that of the first
@@ -109,7 +109,7 @@ module _ {A : Type 0} where
     unfolding every ascending
     sound-cons = regroup (rule r) (every rule rs) (below (r .key) rs) (ascending rs)
 
-  -- ---- the row at an index ----
+  -- ════ The row at an index ════
 
   -- a key below ascending rows comes before the key of each
   pub below-each : (k : List ℕ) (rs : List (Row A)) (i : ℕ) (d : Row A) → below k rs ≡ true → ascending rs ≡ true → i < length rs
@@ -132,7 +132,7 @@ module _ {A : Type 0} where
   every-fails rule rs i d inside h =
       by-test (every rule rs) (λ e. absurd (true-is-not-false (every-at rule rs i d e inside) h)) (λ e. e)
 
-  -- ---- rows taken out ----
+  -- ════ Rows taken out ════
 
   -- the first rows are the second with some taken out, in the same order
   pub data Sub : List (Row A) → List (Row A) → Type 0 where
@@ -228,7 +228,7 @@ module _ {A : Type 0} where
   sub-trans (leave s) (keep t) = leave (sub-trans s t)
   sub-trans s (leave t) = leave (sub-trans s t)
 
-  -- ---- soundness kept ----
+  -- ════ Soundness kept ════
 
   -- rows that keep a rule keep it after an erase
   pub every-erase : (rule : Row A → Bool) (k : List ℕ) (rs : List (Row A)) → every rule rs ≡ true → every rule (erase k rs) ≡ true

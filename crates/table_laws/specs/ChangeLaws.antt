@@ -31,7 +31,7 @@ over L s n i e =
     take i (rows L s n) ++ (rowUnder (part s (L .width * i) (L .keyWidth)) e ∷ drop (i + 1) (rows L s n))
 
 module _ {A : Type 0} {L : Layout A} {Good : A → Type 0} (ok : Faithful L Good) where
-  -- ---- writes ----
+  -- ════ Writes ════
 
   module _ (s t : List ℕ) (n : ℕ) (b : Bytes s) (h : L .width * n ≤ length s) where
     all-fit : AllFit L Good (rows L s n)
@@ -83,7 +83,7 @@ module _ {A : Type 0} {L : Layout A} {Good : A → Type 0} (ok : Faithful L Good
     pub unchanged : t ≡ s → Holds L s t n (rows L s n)
     unchanged e = holds ok s t n (rows L s n) all-fit (e ∙ sym (laid-rows ok s n b h))
 
--- ---- places ----
+-- ════ Places ════
 
 module _ {A : Type 0} (L : Layout A) (s : List ℕ) (n : ℕ) (k : List ℕ) (j : ℕ) where
   -- where the key stands is the index of a row
@@ -94,7 +94,7 @@ module _ {A : Type 0} (L : Layout A) (s : List ℕ) (n : ℕ) (k : List ℕ) (j 
   pub gap-within : placeFrom 0 k (rows L s n) ≡ Gap j → j ≤ n
   gap-within h = omega (arith, gap-inside k (rows L s n) h, length-rows L s n)
 
--- ---- stored and erased by key ----
+-- ════ Stored and erased by key ════
 
 module _ {A : Type 0} {L : Layout A} {Good : A → Type 0} (ok : Faithful L Good) (s t : List ℕ) (n : ℕ) (k : List ℕ) (j : ℕ) where
   -- the key that stands at its place
@@ -142,7 +142,7 @@ module _ {A : Type 0} {L : Layout A} {Good : A → Type 0} (ok : Faithful L Good
       ∙ ap (λ (l : List (Row A)). take j (rows L s n) ++ l) (sym (rows-cons L s n j (place-inside L s n k j h)))
       ∙ take-append-drop j (rows L s n)
 
--- ---- two changes are one ----
+-- ════ Two changes are one ════
 
 -- of two changes the second decides, where it wipes or covers what the first wrote behind the n rows
 pub holds-holds : {A : Type 0} {L : Layout A} {Good : A → Type 0} → Faithful L Good → (s t u : List ℕ) (n : ℕ) (rs qs : List (Row A))
@@ -153,7 +153,7 @@ holds-holds {L = L} ok s t u n rs qs f h first second =
       reads = second .reads;
     }
 
--- ---- from raw rows to those of any layout ----
+-- ════ From raw rows to those of any layout ════
 
 -- a store leaves at most one row more
 pub length-store-most : {A : Type 0} (k : List ℕ) (e : A) (rs : List (Row A)) → length (store k e rs) ≤ length rs + 1

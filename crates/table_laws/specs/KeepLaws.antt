@@ -20,7 +20,7 @@ use Rattle.table_laws.specs.Raw.{mapRow, mapEntries}
 use Rattle.table_laws.specs.RawLaws.{length-map}
 use Rattle.table_laws.specs.WalkLaws.{row-in}
 
--- ---- the walk over any rows ----
+-- ════ The walk over any rows ════
 
 -- of the first i rows those that pass stand at the front of the memory, and this is their number
 pub record KeptSo {A : Type 0} (L : Layout A) (test : Row A → Bool) (s : List ℕ) (qs : List (Row A)) (i : ℕ) (t : List ℕ) (k : ℕ) : Type 0 where
@@ -105,7 +105,7 @@ module _ {A : Type 0} {L : Layout A} {Good : A → Type 0} (ok : Faithful L Good
       ∙ ap (λ (x : List ℕ). put x (L .width * length left) (zeros (L .width * (n - length left)))) before
       ∙ put-retained ok s n left left-fit)
 
--- ---- the walk that rewrites entries on the way ----
+-- ════ The walk that rewrites entries on the way ════
 
 -- the row at an index, with another entry
 getD-map : {A B : Type 0} (f : A → B) (rs : List (Row A)) (i : ℕ) (d : Row A) → getD (mapEntries f rs) i (mapRow f d) ≡ mapRow f (getD rs i d)
@@ -144,7 +144,7 @@ module _ {A : Type 0} {L : Layout A} {Good : A → Type 0} (ok : Faithful L Good
         ap (λ (x : List ℕ). rule (rowOf L x)) (kept-place ok test s (mapEntries f (rows L s n)) fit so)
         ∙ ap rule (sym (getD-rows L s n i row inside)) ∙ every-at rule (rows L s n) i row h (omega (arith, length-rows L s n))
 
--- ---- the plain walk: no entry is rewritten ----
+-- ════ The plain walk: no entry is rewritten ════
 
 module _ {A : Type 0} {L : Layout A} {Good : A → Type 0} (ok : Faithful L Good) (test : Row A → Bool) (s : List ℕ) (n : ℕ) (b : Bytes s) (h : L .width * n ≤ length s) where
   -- one step: the row at the i-th place moves behind those kept, if it passes

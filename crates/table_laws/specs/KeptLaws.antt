@@ -24,7 +24,7 @@ use Rattle.table_laws.specs.Lent.{lentSound}
 use Rattle.table_laws.specs.LentLaws.{limit-fits, rules-kept, order-kept}
 use Rattle.table_laws.specs.Kept.{Key, Keyed, Encodes, RowsHold, ChangeHolds, LentHolds, LentKept}
 
--- ---- keys ----
+-- ════ Keys ════
 
 module _ {A : Type 0} (L : Layout A) where
   -- rows that stand in memory
@@ -53,7 +53,7 @@ module _ {A : Type 0} (L : Layout A) where
       let rest : Keyed L (store k e rs) = keyed-store k e rs key (keys .1) in
       by-answer (compareBytes k (r .key)) (λ o. rw o (key, keys)) (λ o. rw o (key, keys .1)) (λ o. rw o (keys .0, rest))
 
--- ---- the bytes of keyed rows, whatever their entries are ----
+-- ════ The bytes of keyed rows, whatever their entries are ════
 
 -- entries that are numbers
 pub numbers-encode : {A : Type 0} {L : Layout A} {N : Numbers A} → OfNumbers L N → Encodes L
@@ -112,7 +112,7 @@ module _ {A : Type 0} {L : Layout A} (enc : Encodes L) where
         Bytes-append (tableBytes L rs) (freed ++ behind) (bytes-keyed rs keys)
         (Bytes-append freed behind (Bytes-zeros (w * (n - length rs))) (Bytes-drop (w * max n (length rs)) s b))
 
--- ---- rows that hold ----
+-- ════ Rows that hold ════
 
 module _ {A : Type 0} (L : Layout A) (rule : Row A → Bool) (limit : ℕ) where
   -- rows left
@@ -136,7 +136,7 @@ module _ {A : Type 0} (L : Layout A) (rule : Row A → Bool) (limit : ℕ) where
         keyed = keyed-store L k e rs key (h .keyed);
       }
 
-  -- ---- memory that holds ----
+  -- ════ Memory that holds ════
 
   module _ (s : List ℕ) (n : ℕ) where
     -- sound memory holds its rows as it should, where they are no more than the limit
@@ -164,7 +164,7 @@ module _ {A : Type 0} (L : Layout A) (rule : Row A → Bool) (limit : ℕ) where
           keyed = keyed-rows L narrow s n b (omega (arith, mul-le-mul-left (L .width) (h .few), h .long));
         }
 
--- ---- a change kept ----
+-- ════ A change kept ════
 
 module _ {A : Type 0} {L : Layout A} (enc : Encodes L) (rule : Row A → Bool) (limit : ℕ) (s t : List ℕ) (n : ℕ) where
   -- memory after a change to rows that hold

@@ -34,7 +34,7 @@ module _ {A : Type 0} (L : Layout A) (measure : Row A → Option ℕ) (s : List 
   pub found-inside : {j m : ℕ} → leastFrom measure nothing 0 (rows L s n) ≡ best j m → j < n
   found-inside h = omega (arith, least-found measure (rows L s n) (rowOf L []) h .inside, length-rows L s n)
 
--- ---- a search that carries the index alone, where every row has a measure ----
+-- ════ A search that carries the index alone, where every row has a measure ════
 
 module _ {A : Type 0} (L : Layout A) (measure : Row A → ℕ) (s : List ℕ) (n : ℕ) where
   -- what the row at the i-th place is measured by

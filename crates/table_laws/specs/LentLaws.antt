@@ -22,7 +22,7 @@ use Rattle.table_laws.specs.ChangeLaws.{place-inside, gap-within}
 use Rattle.table_laws.specs.WalkLaws.{row-in}
 use Rattle.table_laws.specs.Lent.{longEnough, rowsSound, lentSound, lentSought, Known, Unknown}
 
--- ---- the memory's length, by whole rows ----
+-- ════ The memory's length, by whole rows ════
 
 module _ {A : Type 0} (L : Layout A) (limit : ℕ) (s : List ℕ) (wide : 0 < L .width) where
   -- the limit's rows go into it
@@ -33,7 +33,7 @@ module _ {A : Type 0} (L : Layout A) (limit : ℕ) (s : List ℕ) (wide : 0 < L 
   pub too-short : length s / L .width < limit → longEnough L limit s ≡ false
   too-short h = lt-leb (L .width * limit) (length s) (omega (arith, div-lt-iff-lt-mul wide .0 h, mul-comm limit (L .width)))
 
--- ---- what the walk answers ----
+-- ════ What the walk answers ════
 
 refused-by : (own long sound : Bool) (found : Seek) → (found ≡ Unsound → sound ≡ false) → cond (own && long) found Unsound ≡ Unsound
     → (own && (long && sound)) ≡ false
@@ -101,7 +101,7 @@ module _ {A : Type 0} (L : Layout A) (rule : Row A → Bool) (own : Bool) (limit
         let j = judged-by (gap-is-not-unsound refl) h in
         record { is-sound = j .is-sound; place = j .sought .place }
 
-  -- ---- what soundness says ----
+  -- ════ What soundness says ════
 
   module _ (h : lentSound L rule own limit s n ≡ true) where
     -- the record keeps its own rules
@@ -132,7 +132,7 @@ module _ {A : Type 0} (L : Layout A) (rule : Row A → Bool) (own : Bool) (limit
     pub rows-fit : n ≤ limit → L .width * n ≤ length s
     rows-fit few = omega (arith, mul-le-mul-left (L .width) few, limit-fits)
 
-  -- ---- a key that has a row ----
+  -- ════ A key that has a row ════
 
   module _ (k : List ℕ) (i : ℕ) (h : Known L rule own limit s n k i) where
     -- its row is one of the n
@@ -157,7 +157,7 @@ module _ {A : Type 0} (L : Layout A) (rule : Row A → Bool) (own : Bool) (limit
         at-look k (rows L s n) (h .place) row ∙ ap (λ (r : Row A). some (r .entry)) (getD-rows L s n i row known-inside)
         ∙ ap some (sym read)
 
-  -- ---- a key that has none ----
+  -- ════ A key that has none ════
 
   module _ (k : List ℕ) (i : ℕ) (h : Unknown L rule own limit s n k i) where
     -- it would stand before a row or behind the last

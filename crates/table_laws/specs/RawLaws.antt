@@ -18,7 +18,7 @@ use Rattle.table.specs.TableLaws.{by-answer}
 use Rattle.table.specs.MemoryLaws.{Faithful, AllFit, fit-rows}
 use Rattle.table_laws.specs.Raw.{rawLayout, mapEntries, anyRow}
 
--- ---- other entries under the same keys ----
+-- ════ Other entries under the same keys ════
 
 module _ {A B : Type 0} (f : A → B) where
   -- as many rows
@@ -68,7 +68,7 @@ module _ {A B : Type 0} (f : A → B) where
       let rest : erase k (mapEntries f rs) ≡ mapEntries f (erase k rs) = erase-map k rs in
       by-answer (compareBytes k (r .key)) (λ o. rw o) (λ o. rw o) (λ o. rw (o, rest))
 
--- ---- the raw layout ----
+-- ════ The raw layout ════
 
 -- the bytes that an entry of a raw row can be: as many as stand behind the key
 pub record RawFits (k w : ℕ) (b : List ℕ) : Type 0 where
@@ -93,7 +93,7 @@ module _ (k w : ℕ) where
         encode-bytes = λ b g. subst Bytes (sym (raw-encode b (g .size))) (g .bytes);
       }
 
--- ---- from raw rows to those of any layout ----
+-- ════ From raw rows to those of any layout ════
 
 -- any rows keep the rule of any row
 pub every-any : {A : Type 0} (rs : List (Row A)) → every anyRow rs ≡ true

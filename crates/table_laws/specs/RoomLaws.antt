@@ -18,7 +18,7 @@ use Rattle.table.specs.MemoryLaws.{Faithful, AllFit, length-rows, fit-rows, sub
 use Rattle.table_laws.specs.ChangeLaws.{unchanged, holds-holds}
 use Rattle.table_laws.specs.Room.{removeFound, roomMade}
 
--- ---- what a search found ----
+-- ════ What a search found ════
 
 -- a fact by the two answers of a search, each with the equation that says it
 pub by-best : {B : Type 0} (b : Best) → (b ≡ nothing → B) → ((j n : ℕ) → b ≡ best j n → B) → B
@@ -31,7 +31,7 @@ sub-removeFound nothing rs = sub-all rs
 sub-removeFound (best j n) rs = sub-removeAt j rs
 
 module _ {A : Type 0} (limit : ℕ) (test : Row A → Bool) (evict : List (Row A) → List (Row A)) (rs : List (Row A)) where
-  -- ---- the three ways ----
+  -- ════ The three ways ════
 
   -- a table that is not full stays as it is
   pub room-free : length rs < limit → roomMade limit test evict rs ≡ rs
@@ -64,7 +64,7 @@ module _ {A : Type 0} (limit : ℕ) (test : Row A → Bool) (evict : List (Row A
       (λ u. let k = ltb-false (length (retain test rs)) limit u in
       subst B (sym (room-evicted h k)) (evicted h k)))
 
-  -- ---- rows left ----
+  -- ════ Rows left ════
 
   -- rows are taken out, and no more
   pub sub-room : ((qs : List (Row A)) → Sub (evict qs) qs) → Sub (roomMade limit test evict rs) rs
@@ -79,7 +79,7 @@ module _ {A : Type 0} (limit : ℕ) (test : Row A → Bool) (evict : List (Row A
       by-room (λ (qs : List (Row A)). length qs + 1 ≤ limit) (λ h. omega arith) (λ h k. omega arith)
       (λ h k. omega (arith, length-retain test rs, one-goes (retain test rs) (omega arith)))
 
--- ---- memory ----
+-- ════ Memory ════
 
 -- memory that held n rows holds these, and this is their number
 abbrev pub Left : {A : Type 0} → Layout A → List ℕ → List ℕ → ℕ → ℕ → List (Row A) → Type 0

@@ -27,7 +27,7 @@ use Rattle.table.specs.PlaceLaws.{place-before, place-first, place-later, seek-
 use Rattle.table.specs.MemoryLaws.{length-rows, getD-rows, rows-cons}
 use Rattle.table_laws.specs.Walk.{rises, rowAt, follows, soundFrom, Walkable, Walking}
 
--- ---- places ----
+-- ════ Places ════
 
 -- a row lies in memory that n rows fit
 pub row-in : (w i n m : ℕ) → i < n → w * n ≤ m → w * i + w ≤ m
@@ -40,7 +40,7 @@ row-before w (suc i) h =
     let back : suc i - 1 ≡ i = omega arith in
     omega (arith, ap (λ (j : ℕ). w * j) back, mul-suc w i)
 
--- ---- keys ----
+-- ════ Keys ════
 
 -- a row but the first rises by its key and that of the one before it
 pub rises-later : (w k : ℕ) (s : List ℕ) (i : ℕ) → 0 < i
@@ -67,7 +67,7 @@ module _ {A : Type 0} (L : Layout A) where
   unfolding rowOf part
   key-at fits s i = take-take (L .keyWidth) (L .width) (drop (L .width * i) s) fits
 
-  -- ---- judging ----
+  -- ════ Judging ════
 
   module _ (fits : L .keyWidth ≤ L .width) (s : List ℕ) (n : ℕ) where
     -- the rows from the i-th on come after the one before them where the i-th rises
@@ -124,7 +124,7 @@ module _ {A : Type 0} (L : Layout A) where
             → soundFrom L rule s n i ≡ soundFrom L rule s n (i + 1)
         sound-goes-on h k = sound-step ∙ rw (k, h)
 
-  -- ---- the rule alone: the invariant says that every row keeps it just where those from the i-th on do ----
+  -- ════ The rule alone: the invariant says that every row keeps it just where those from the i-th on do ════
 
   module _ (rule : Row A → Bool) (s : List ℕ) (n i : ℕ) (from : every rule (rows L s n) ≡ every rule (drop i (rows L s n))) where
     -- no row is left
@@ -151,7 +151,7 @@ module _ {A : Type 0} (L : Layout A) where
   pub rules-fail : (rule : Row A → Bool) (s : List ℕ) (n : ℕ) (k : List ℕ) → every rule (rows L s n) ≡ false → Unsound ≡ seek rule k (rows L s n)
   rules-fail rule s n k h = sym (seek-unsound rule k (rows L s n) .1 (rw h))
 
-  -- ---- finding from a row on: the invariant says that the answer is the key's place among the rows from the i-th on ----
+  -- ════ Finding from a row on: the invariant says that the answer is the key's place among the rows from the i-th on ════
 
   module _ (fits : L .keyWidth ≤ L .width) (k s : List ℕ) (n : ℕ) (answer : Seek) (i : ℕ)
       (from : answer ≡ placeFrom i k (drop i (rows L s n))) where
@@ -180,7 +180,7 @@ module _ {A : Type 0} (L : Layout A) where
           → answer ≡ placeFrom (i + 1) k (drop (i + 1) (rows L s n))
       find-goes-on h = from-row ∙ place-later i k (rowAt L s i) (drop (i + 1) (rows L s n)) (rw (key-at fits s i) h)
 
--- ---- rows skipped ----
+-- ════ Rows skipped ════
 
 -- what comes after a key comes after those before that key
 after-earlier : (k a b : List ℕ) → compareBytes a b ≡ Less → compareBytes k b ≡ Greater → compareBytes k a ≡ Greater
@@ -200,7 +200,7 @@ module _ {A : Type 0} where
       place-later i k r rs first ∙ place-skips (i + 1) p k rs d (parts .1) within after
       ∙ ap (λ (j : ℕ). placeFrom j k (drop (suc p) rs)) (omega arith)
 
--- ---- the walk that judges and finds ----
+-- ════ The walk that judges and finds ════
 
 module _ {A : Type 0} (L : Layout A) (rule : Row A → Bool) (m : ℕ) (s : List ℕ) (n : ℕ) (k : List ℕ) where
   -- before the first row nothing is known

@@ -12,7 +12,7 @@ use Rattle.table.specs.Memory.{Layout, wordBytes, wordOf, words}
 use Rattle.table.specs.MemoryLaws.{Words, Faithful, length-wordBytes, Bytes-wordBytes, wordOf-wordBytes, wordBytes-all, wordOf-lt}
 use Rattle.table_laws.specs.Words.{Numbers, wordLayout, EachFits, NumbersFit}
 
--- ---- numbers that fit
+-- ════ Numbers that fit ════
 
 -- each of them is below the limit, at any index
 pub each-fits : (vs : List ℕ) → EachFits vs → Words vs
@@ -35,7 +35,7 @@ words-back vs i (suc k) f h =
     ap (λ (v : ℕ). v ∷ words (suc i) k (wordBytes vs)) (wordOf-wordBytes vs i f inside)
     ∙ ap (λ (l : List ℕ). getD vs i 0 ∷ l) (words-back vs (suc i) k f (omega arith)) ∙ sym (drop-cons vs i 0 inside)
 
--- ---- layouts of numbers
+-- ════ Layouts of numbers ════
 
 -- what makes a layout one of an entry's numbers: the widths add up, what stands behind the key are the numbers, and they and the entry
 -- make one another
@@ -110,7 +110,7 @@ pub words-faithful : {A : Type 0} (k w : ℕ) (N : Numbers A) → 0 < w → k + 
 words-faithful k w N wide widths count back forth =
     numbers-faithful (of-numbers k w N wide widths count back forth) (NumbersFit N) (λ e f. f) (λ e f. f)
 
--- ---- the numbers of a row by their places
+-- ════ The numbers of a row by their places ════
 
 -- the i-th number behind a key of k bytes, in the row of w bytes at a place
 pub word-place : (s : List ℕ) (at k w i p : ℕ) → k + (8 * i + 8) ≤ w → at + k + 8 * i ≡ p

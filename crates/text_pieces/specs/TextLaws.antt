@@ -14,7 +14,7 @@ use Rattle.lent_bytes.specs.LentBytesLaws.{length-zeros, length-put, put-put, p
 use Rattle.decimal.specs.Decimal.{digitsWithin, digitsOf}
 use Rattle.text_pieces.specs.Text.{blanks, numberText, columnText, columnsText, hexChar, hexText, refusalWord, refusalText, Wrote}
 
--- ---- lengths
+-- ════ Lengths ════
 
 -- room for so many digits makes no more of them
 digits-within : (k n : ℕ) → length (digitsWithin k n) ≤ k
@@ -57,7 +57,7 @@ unfolding refusalText
 refusal-fits n =
     omega (arith, length-append refusalWord (numberText n ++ (10 ∷ [])), length-append (numberText n) (10 ∷ []), few-digits n)
 
--- ---- one more
+-- ════ One more ════
 
 columns-append : (width : ℕ) (xs ys : List ℕ) → columnsText width (xs ++ ys) ≡ columnsText width xs ++ columnsText width ys
 unfolding columnsText
@@ -94,7 +94,7 @@ hex-more bs i h =
 pub blanks-more : (n : ℕ) → blanks (n + 1) ≡ blanks n ++ (32 ∷ [])
 blanks-more n = sym (replicate-append-replicate {A = ℕ} n 1 32)
 
--- ---- writing
+-- ════ Writing ════
 
 module _ {s t : List ℕ} {at place : ℕ} {text : List ℕ} (w : Wrote s at text place t) where
   -- what is written keeps the length
@@ -144,7 +144,7 @@ hex-written {s} {t} {at} {place} bs i h front room w {high} {low} e f =
     let told = wrote-as text both in
     record { behind = omega (arith, told .behind); leaves = told .leaves }
 
--- ---- a line over zeros
+-- ════ A line over zeros ════
 
 drop-zeros : (k n : ℕ) → k ≤ n → drop k (zeros n) ≡ zeros (n - k)
 drop-zeros k n h =

@@ -21,7 +21,7 @@ use Rattle.bucket_bytes.specs.ByteBucket.{ByteRefillMeets, ByteTryConsumeMeets,
 use Rattle.bucket_bytes.specs.ByteBucketLaws.{byte-refill-outcome, byte-try-consume-outcome, byte-reserve-outcome, byte-refund-outcome}
 use Rattle.bucket_bytes.specs.ByteBucketLaws.{byte-refill-refused, byte-try-consume-refused, byte-reserve-refused, byte-refund-refused}
 
--- ════ At most one outcome ═════════════════════════════════════════════════════════════════════════
+-- ════ At most one outcome ════
 
 pub lent-discrete-refill-outcome : (b : DiscreteTokenBucket) (now : ℕ) {after other : DiscreteTokenBucket} {r q : Refilled}
     → DiscreteRefillMeets b now (record { bucket = after; answer = r }) → DiscreteRefillMeets b now (record { bucket = other; answer = q })
@@ -65,7 +65,7 @@ lent-byte-refund-outcome b bytes now h k =
     let same = byte-refund-outcome b bytes now h k in
     (ap (λ (t : ByteRefilled). t .bucket) same, ap (λ (t : ByteRefilled). t .answer) same)
 
--- ════ A refusal leaves the record ═════════════════════════════════════════════════════════════════
+-- ════ A refusal leaves the record ════
 
 pub lent-discrete-refill-refused : (b : DiscreteTokenBucket) (now n : ℕ) {after : DiscreteTokenBucket} → DiscreteRefillMeets b now (record { bucket = after; answer = Refilled.Refused n }) → after ≡ b
 lent-discrete-refill-refused b now n h = discrete-refill-refused b now h refl

@@ -36,7 +36,7 @@ use Rattle.trace.specs.Step.{mapped, admissionSpoken, invalidSpoken, sta
 use Rattle.trace.specs.Step.{eventOutcome, answeredOutcome, AnsweredMeets, stepOf, stepOutcome, StepMeets}
 use Rattle.trace.specs.Scan.{madeSettled, SettleMeets}
 
--- ════ An answer in other words ════════════════════════════════════════════════════════════════════
+-- ════ An answer in other words ════
 
 pub meets-mapped : {A B : Type 0} (f : A → B) {a : A} {b : B} {before after : List ℕ} {n : ℕ} {o : Outcome A}
     → Meets a before after n o → b ≡ f a → Meets b before after n (mapped f o)
@@ -55,7 +55,7 @@ release-tested : (t : Bool) (q : PeerMessagePolicy) (s : List ℕ) (n : ℕ) {a 
 release-tested true q s n h e = record { answers = e ∙ ap (changedSpoken Released) h; leaves = refl }
 release-tested false q s n h e = record { answers = e ∙ ap (changedSpoken Released) h; leaves = refl }
 
--- ════ An event, by its kind ═══════════════════════════════════════════════════════════════════════
+-- ════ An event, by its kind ════
 
 module _ (p : PeerMessagePolicy) (e : Event) (before : List ℕ) where
   module _ (after : List ℕ) {b : Answered} where
@@ -109,7 +109,7 @@ module _ (p : PeerMessagePolicy) (e : Event) (before : List ℕ) where
   unfolding AnsweredMeets StepMeets stepOutcome
   stepped after number a h w = meets-mapped (stepOf p number) h w
 
--- ════ The settings ════════════════════════════════════════════════════════════════════════════════
+-- ════ The settings ════
 
 module _ (line before : List ℕ) where
   pub settled-bad : settingsOf line ≡ Settings.Bad → SettleMeets line before Settled.Bad before

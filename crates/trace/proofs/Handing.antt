@@ -25,7 +25,7 @@ abbrev pub between : List ℕ → ℕ → ℕ → List ℕ
 between s at end = take (end - at) (drop at s)
 
 module _ (scan : Scan) (input before : List ℕ) where
-  -- ════ The event's line ══════════════════════════════════════════════════════════════════════════
+  -- ════ The event's line ════
 
   pub events-ended : {r : Handed} → length input ≤ scan .at → r ≡ ended scan → EventsMeets scan input before r before
   unfolding EventsMeets eventsOutcome
@@ -46,7 +46,7 @@ module _ (scan : Scan) (input before : List ℕ) where
       let f = found input (scan .at) end k in
       rw (lt-leb (length input) (scan .at) h, f .first, f .behind) (meets-mapped (moved scan (end + 1)) (rw read at step) w)
 
-  -- ════ The settings line ═════════════════════════════════════════════════════════════════════════
+  -- ════ The settings line ════
 
   pub settings-unended : {r : Handed} → lineEndOf input (scan .at) ≡ Missing → r ≡ last scan (lineOf (badLineText (scan .number)))
       → SettingsMeets scan input before r before
@@ -70,7 +70,7 @@ module _ (scan : Scan) (input before : List ℕ) where
         let f = found input (scan .at) end k in
         rw (f .first) (Settled.Policy p, middle, rw e at settled, rw (f .behind) next)
 
--- ════ The next line, by the phase ═════════════════════════════════════════════════════════════════
+-- ════ The next line, by the phase ════
 
 pub next-in : (scan : Scan) (input before : List ℕ) (r : Handed) (after : List ℕ) {phase : Phase} → scan .phase ≡ phase
     → NextIn phase scan input before r after → NextMeets scan input before r after

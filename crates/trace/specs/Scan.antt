@@ -27,7 +27,7 @@ use Rattle.trace.specs.declared.scan.Handed.{Handed}
 use Rattle.trace.specs.declared.step.Stepped.{Stepped}
 use Rattle.trace.specs.Step.{mapped, stepOutcome}
 
--- ════ Lines of an input ═══════════════════════════════════════════════════════════════════════════
+-- ════ Lines of an input ════
 
 abbrev pub joined : ℕ → Option (List ℕ) → Option (List ℕ)
 joined b none = none
@@ -50,7 +50,7 @@ lineEndOf input at = endFrom at (firstLine (drop at input))
 unfoldable pub following : ℕ → ℕ
 following number = cond (eqb number largest64) number (number + 1)
 
--- ════ What a call hands out ═══════════════════════════════════════════════════════════════════════
+-- ════ What a call hands out ════
 
 -- a line behind which nothing more is read
 abbrev pub last : Scan → Line → Handed
@@ -73,7 +73,7 @@ moved scan at step =
       scan = record { at = at; number = following (scan .number); policy = step .policy; phase = phaseBehind (step .«goes_on») };
     }
 
--- ════ The event's line ════════════════════════════════════════════════════════════════════════════
+-- ════ The event's line ════
 
 abbrev pub lineOutcome : Scan → Option (List ℕ) → List ℕ → Outcome Handed
 lineOutcome scan none s = refuse (last scan (lineOf (badLineText (scan .number))))
@@ -87,7 +87,7 @@ eventsOutcome scan input s =
 unfoldable pub EventsMeets : Scan → List ℕ → List ℕ → Handed → List ℕ → Type 0
 EventsMeets scan input before r after = Meets r before after (scan .policy .rows) (eventsOutcome scan input before)
 
--- ════ The settings line ═══════════════════════════════════════════════════════════════════════════
+-- ════ The settings line ════
 
 abbrev pub madeSettled : Made → Settled
 madeSettled (Made.Policy p) = Settled.Policy p
@@ -124,7 +124,7 @@ SettingsBy scan (some line) input before r after =
 unfoldable pub SettingsMeets : Scan → List ℕ → List ℕ → Handed → List ℕ → Type 0
 SettingsMeets scan input before r after = SettingsBy scan (firstLine (drop (scan .at) input)) input before r after
 
--- ════ open and next ═══════════════════════════════════════════════════════════════════════════════
+-- ════ Open and next ════
 
 -- the longest input that is read
 abbrev pub longestInput : ℕ
@@ -147,7 +147,7 @@ NextIn Phase.Done scan input before r after = (r ≡ ended scan) × (after ≡ b
 unfoldable pub NextMeets : Scan → List ℕ → List ℕ → Handed → List ℕ → Type 0
 NextMeets scan input before r after = NextIn (scan .phase) scan input before r after
 
--- ════ What the answers say ════════════════════════════════════════════════════════════════════════
+-- ════ What the answers say ════
 
 abbrev pub settledSays : Settled → Said
 settledSays (Settled.Policy p) = gives []

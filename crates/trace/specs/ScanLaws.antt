@@ -15,7 +15,7 @@ use lib.Seq.{drop-cons}
 use Rattle.trace.specs.declared.newline.LineEnd.the-variants.{At, Missing}
 use Rattle.trace.specs.Scan.{joined, firstLine, endFrom, lineEndOf}
 
--- ════ One byte of the search ══════════════════════════════════════════════════════════════════════
+-- ════ One byte of the search ════
 
 end-joined : (b i : ℕ) (o : Option (List ℕ)) → endFrom i (joined b o) ≡ endFrom (suc i) o
 end-joined b i none = refl
@@ -38,7 +38,7 @@ module _ (s : List ℕ) (i : ℕ) where
   unfolding lineEndOf firstLine
   end-missing h = rw (drop-of-length-le s h)
 
--- ════ The line that was found ═════════════════════════════════════════════════════════════════════
+-- ════ The line that was found ════
 
 -- a first line is a front of the text, and its newline stands behind it
 abbrev pub Front : List ℕ → Option (List ℕ) → Type 0

@@ -27,7 +27,7 @@ use Rattle.trace.specs.declared.step.Answered.{Answered}
 use Rattle.trace.specs.declared.step.Answered.the-variants.{Says, Refused, NoEvent}
 use Rattle.trace.specs.declared.step.Stepped.{Stepped}
 
--- ════ The words for the answers ═══════════════════════════════════════════════════════════════════
+-- ════ The words for the answers ════
 
 abbrev pub admissionSpoken : PeerMessageAdmission → Answered
 admissionSpoken (Admission.Allow q) = Says Allow q
@@ -49,7 +49,7 @@ abbrev pub changedSpoken : Word → Changed → Answered
 changedSpoken w (Changed.Policy q) = Says w q
 changedSpoken w (Changed.Refused n) = Refused n
 
--- ════ What an event does ══════════════════════════════════════════════════════════════════════════
+-- ════ What an event does ════
 
 -- the outcome with its answer put in other words
 abbrev pub mapped : {A B : Type 0} → (A → B) → Outcome A → Outcome B
@@ -84,7 +84,7 @@ answeredOutcome p s e = cond (soundFor (e .kind) p s) (eventOutcome p (rowsOf p 
 unfoldable pub AnsweredMeets : PeerMessagePolicy → List ℕ → Event → Answered → List ℕ → Type 0
 AnsweredMeets p before e r after = Meets r before after (p .rows) (answeredOutcome p before e)
 
--- ════ The line for it ═════════════════════════════════════════════════════════════════════════════
+-- ════ The line for it ════
 
 -- the line for an answer to the line with this number: the numbers are those after the call
 abbrev pub spokenText : ℕ → Answered → List ℕ
@@ -113,7 +113,7 @@ stepOutcome p s e number = mapped (stepOf p number) (answeredOutcome p s e)
 unfoldable pub StepMeets : PeerMessagePolicy → List ℕ → Event → ℕ → Stepped → List ℕ → Type 0
 StepMeets p before e number r after = Meets r before after (p .rows) (stepOutcome p before e number)
 
--- ════ What the answers say ════════════════════════════════════════════════════════════════════════
+-- ════ What the answers say ════
 
 -- the number of a word
 abbrev pub wordNumber : Word → ℕ

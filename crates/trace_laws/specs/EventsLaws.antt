@@ -32,7 +32,7 @@ use Rattle.trace_laws.specs.KeyLaws.{event-key}
 use Rattle.trace_laws.specs.StepLaws.{Stepping, stepping}
 use Rattle.trace_laws.specs.FitsLaws.{event-fits}
 
--- ════ The events' lines ═══════════════════════════════════════════════════════════════════════════
+-- ════ The events' lines ════
 
 module _ (number : ℕ) (p : PeerMessagePolicy) (rs : Peers) where
   events-none : eventsOf number p rs [] ≡ []
@@ -49,7 +49,7 @@ module _ (number : ℕ) (p : PeerMessagePolicy) (rs : Peers) where
   unfolding eventsOf
   events-whole line behind = refl
 
--- ════ A line that is handed out ═══════════════════════════════════════════════════════════════════
+-- ════ A line that is handed out ════
 
 -- a text that is written as a line is the line's
 pub text-of-line : (text : List ℕ) → textOf (lineOf text) ≡ text
@@ -109,7 +109,7 @@ module _ (scan : Scan) (input s t : List ℕ) (here : Reading scan input s) (lin
   hands-by q qs text is-sound fits lent same-rows false =
       more refl (ap (λ x. x ∷ []) (sym (text-of-line text))) (record { fits = after-fits q false fits; lent = lent; here = tt })
 
--- ════ A call at an event's line ═══════════════════════════════════════════════════════════════════
+-- ════ A call at an event's line ════
 
 -- a sound policy that keeps its settings keeps within its numbers, if the load does
 kept-fits : (p : PeerMessagePolicy) (s : List ℕ) → PolicyFits p → (q : PeerMessagePolicy) (t : List ℕ) → Kept p s q t → LoadFits (q .ingress)

@@ -58,7 +58,7 @@ use Rattle.trace.specs.Step.{kindOutcome, eventOutcome, policyNext}
 use Rattle.trace_laws.specs.Fits.{LoadFits}
 use Rattle.trace_laws.specs.StepLaws.{spoken-admission, spoken-invalid, spoken-standing}
 
--- ════ Settings ════════════════════════════════════════════════════════════════════════════════════
+-- ════ Settings ════
 
 abbrev pub SettingsFit : Settings → Type 0
 SettingsFit Settings.Bad = Unit {0}
@@ -83,7 +83,7 @@ settings-fit line =
     })
     (λ h. tt)
 
--- ════ The load in flight ══════════════════════════════════════════════════════════════════════════
+-- ════ The load in flight ════
 
 module _ (c : PeerMessagePolicyConfig) (config : ConfigFits c) (i : FiberIngressBudget) (load : LoadFits i) where
   abbrev RoomFits : Room → Type 0
@@ -154,7 +154,7 @@ module _ (c : PeerMessagePolicyConfig) (config : ConfigFits c) (i : FiberIngress
       by banned = load
       by (update e xs) = load
 
--- ════ An event ════════════════════════════════════════════════════════════════════════════════════
+-- ════ An event ════
 
 module _ (p : PeerMessagePolicy) (config : ConfigFits (p .config)) (load : LoadFits (p .ingress)) (rs : Peers) where
   abbrev InFlightFits : PeerMessagePolicy → Type 0

@@ -31,7 +31,7 @@ use Rattle.trace_lines.specs.Lines.{
   eventOf,
 }
 
--- ════ A key that is spelled ═══════════════════════════════════════════════════════════════════════
+-- ════ A key that is spelled ════
 
 length-spelled : (line : List ℕ) (at step n : ℕ) → length (hexBytes line at step n) ≡ n
 unfolding hexBytes
@@ -63,7 +63,7 @@ key-of : (line : List ℕ) → FieldKey (keyOf line)
 unfolding keyOf
 key-of line = chosen FieldKey (eqb (getD line 1 0) 32) (λ h. key-spelled line (stepOf line)) (λ h. key-of-none)
 
--- ════ An event's key ══════════════════════════════════════════════════════════════════════════════
+-- ════ An event's key ════
 
 abbrev pub EventKey : Event → Type 0
 EventKey e = Key (e .key .bytes)

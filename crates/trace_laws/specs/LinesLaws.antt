@@ -14,7 +14,7 @@ use Rattle.trace.specs.Scan.{joined, firstLine}
 use Rattle.trace.specs.ScanLaws.{Front, front}
 use Rattle.trace_laws.specs.Trace.{InputLine, whole, unended, before, linesOf}
 
--- ════ A text ══════════════════════════════════════════════════════════════════════════════════════
+-- ════ A text ════
 
 -- the lines of a text that is not empty, by its first line
 abbrev pub linesBy : List ℕ → Option (List ℕ) → List InputLine
@@ -63,7 +63,7 @@ lines-whole (b ∷ more) line first = lines-by b more ∙ ap (linesBy (b ∷ mor
 pub first-within : (text line : List ℕ) → firstLine text ≡ some line → length line < length text
 first-within text line first = subst (Front text) first (front text) .1
 
--- ════ A place of an input ═════════════════════════════════════════════════════════════════════════
+-- ════ A place of an input ════
 
 module _ (input : List ℕ) (at : ℕ) where
   -- at the end there are no lines

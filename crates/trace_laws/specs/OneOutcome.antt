@@ -28,7 +28,7 @@ unchanged-one : {before first second : List ℕ} {outcome r q : Handed} → (r �
     → (q ≡ outcome) × (second ≡ before) → Both r q first second
 unchanged-one h k = (one-outcome (h .0) (k .0), one-outcome (h .1) (k .1))
 
--- ════ open and step ═══════════════════════════════════════════════════════════════════════════════
+-- ════ Open and step ════
 
 pub open-one : (input : List ℕ) {r q : Scan} → r ≡ openOf input → q ≡ openOf input → r ≡ q
 open-one input = one-outcome
@@ -38,7 +38,7 @@ pub step-one : (p : PeerMessagePolicy) (before : List ℕ) (e : Event) (number :
 unfolding StepMeets
 step-one p before e number h k = one-meets h k
 
--- ════ next ════════════════════════════════════════════════════════════════════════════════════════
+-- ════ Next ════
 
 settle-one : (line before : List ℕ) {first second : List ℕ} {a b : Settled} → SettleMeets line before a first
     → SettleMeets line before b second → (a ≡ b) × (first ≡ second)

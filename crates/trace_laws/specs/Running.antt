@@ -16,7 +16,7 @@ use Rattle.trace.specs.Scan.{textOf, longestInput}
 use Rattle.trace_laws.specs.Trace.{linesOf, eventsOf, linesTrace}
 use Rattle.trace_laws.specs.Fits.{ScanFits}
 
--- ════ The lines that are still to come ════════════════════════════════════════════════════════════
+-- ════ The lines that are still to come ════
 
 abbrev pub restIn : Phase → Scan → List ℕ → List ℕ → List (List ℕ)
 restIn Phase.TooLong scan input s = badLineText 1 ∷ []
@@ -29,7 +29,7 @@ restIn Phase.Done scan input s = []
 unfoldable pub traceFrom : Scan → List ℕ → List ℕ → List (List ℕ)
 traceFrom scan input s = restIn (scan .phase) scan input s
 
--- ════ What holds of a scan ════════════════════════════════════════════════════════════════════════
+-- ════ What holds of a scan ════
 
 -- the memory lent to it: bytes for 256 rows
 pub record Lent (s : List ℕ) : Type 0 where
@@ -60,7 +60,7 @@ pub record Running (scan : Scan) (input s : List ℕ) : Type 0 where
   pub lent : Lent s
   pub here : RunningIn (scan .phase) scan input s
 
--- ════ What a call leaves ══════════════════════════════════════════════════════════════════════════
+-- ════ What a call leaves ════
 
 -- of the lines that were still to come it handed out the first, and left a scan at which the others are; or it is done, and there were none
 pub data Handing (input : List ℕ) (lines : List (List ℕ)) (r : Handed) (t : List ℕ) : Type 0 where

@@ -49,7 +49,7 @@ use Rattle.trace_laws.specs.FitsLaws.{SettingsFit, settings-fit}
 use Rattle.trace_laws.specs.LinesLaws.{lines-at-end, lines-at-unended, lines-at-whole, behind-within}
 use Rattle.trace_laws.specs.EventsLaws.{hands-last, following-more, hands-event}
 
--- ════ The settings line is missing ════════════════════════════════════════════════════════════════
+-- ════ The settings line is missing ════
 
 -- an input with no newline is bad at line 1, be it empty or not
 trace-unended : (input : List ℕ) (at : ℕ) → firstLine (drop at input) ≡ none
@@ -59,7 +59,7 @@ trace-unended input at first =
     (λ ends. ap linesTrace (lines-at-end input at (leb-true (length input) at ends)))
     (λ goes. ap linesTrace (lines-at-unended input at (leb-false (length input) at goes) first))
 
--- ════ A fresh policy ══════════════════════════════════════════════════════════════════════════════
+-- ════ A fresh policy ════
 
 -- it has no rows
 fresh-rows : (c : PeerMessagePolicyConfig) (s : List ℕ) → rowsOf (fresh c) s ≡ []
@@ -81,7 +81,7 @@ new-in-block : (c : PeerMessagePolicyConfig) (s : List ℕ) → length s ≡ 309
 unfolding newOutcome
 new-in-block c s block = rw (block-fits c s block)
 
--- ════ A call at the settings line ═════════════════════════════════════════════════════════════════
+-- ════ A call at the settings line ════
 
 module _ (scan : Scan) (input s : List ℕ) (fits : ScanFits scan) (lent : Lent s) (here : Starting scan input) (r : Handed) (t : List ℕ) where
   hands-bad : r ≡ last scan (lineOf (badLineText (scan .number))) → t ≡ s → Handing input (badLineText 1 ∷ []) r t

@@ -65,7 +65,7 @@ use Rattle.trace.specs.Step.{
 }
 use Rattle.trace_laws.specs.KeyLaws.{EventKey}
 
--- ════ The policy in an answer ═════════════════════════════════════════════════════════════════════
+-- ════ The policy in an answer ════
 
 -- what holds of an answer's policy, or of the policy before it after a refusal, holds of the one to go on with
 module _ (p : PeerMessagePolicy) (P : PeerMessagePolicy → Type 0) where
@@ -85,7 +85,7 @@ module _ (p : PeerMessagePolicy) (P : PeerMessagePolicy → Type 0) where
   spoken-standing (Standing.Free q) h = h
   spoken-standing (Standing.Refused n) h = h
 
--- ════ What each kind of event leaves ══════════════════════════════════════════════════════════════
+-- ════ What each kind of event leaves ════
 
 -- memory that a change left meets the outcome with that change
 meets-outcome : {A : Type 0} {s t : List ℕ} {n : ℕ} {o e : Outcome A} → o ≡ e → Memory s t n (e .change) → Meets (e .answer) s t n o
@@ -144,7 +144,7 @@ module _ (p : PeerMessagePolicy) (s : List ℕ) (h : sound p s ≡ true) (b : By
         (released-sound (p .config) (p .ingress) size (holds .own .load)) tt m
     kind-left size now kind.Bad = λ m. change-leaves p s t (p .ingress) same holds b (holds .own .load) tt m
 
-  -- ════ One step ══════════════════════════════════════════════════════════════════════════════════
+  -- ════ One step ════
 
   -- no event on a sound policy is refused with 3
   sound-for : (which : EventKind) → soundFor which p s ≡ true

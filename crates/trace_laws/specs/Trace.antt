@@ -1,4 +1,4 @@
--- What the trace program writes for an input, from document 01's "Trace program": the whole of it, line by line. Definitions only.
+-- What the trace program writes for an input, as docs/REFERENCE.md has it under "Trace program": the whole of it, line by line. Definitions only.
 use mathlib.Core.Path.{_≡_}
 use mathlib.Core.Bool.{true, false, cond}
 use mathlib.Core.List.{List, [], _∷_}
@@ -19,7 +19,7 @@ use Rattle.trace.specs.declared.scan.Handed.{Handed}
 use Rattle.trace.specs.Step.{eventOutcome, spokenText, goesOn, policyNext}
 use Rattle.trace.specs.Scan.{longestInput, textOf, NextMeets}
 
--- ════ The lines of an input ═══════════════════════════════════════════════════════════════════════
+-- ════ The lines of an input ════
 
 -- a line without its newline; a last one that has none is bad whatever it says
 pub data InputLine : Type 0 where
@@ -35,7 +35,7 @@ unfoldable pub linesOf : List ℕ → List InputLine
 linesOf [] = []
 linesOf (b ∷ more) = cond (eqb b 10) (whole [] ∷ linesOf more) (before b (linesOf more))
 
--- ════ The output ══════════════════════════════════════════════════════════════════════════════════
+-- ════ The output ════
 
 -- the line for what an event came to; where the trace goes on, so does the rest, with the policy and the rows after the event
 abbrev pub told : ℕ → PeerMessagePolicy → Peers → Outcome Answered → (PeerMessagePolicy → Peers → List (List ℕ)) → List (List ℕ)
@@ -70,7 +70,7 @@ linesTrace (whole line ∷ more) = settledOf (settingsOf line) more
 unfoldable pub traceOf : List ℕ → List (List ℕ)
 traceOf input = cond (ltb longestInput (length input)) (badLineText 1 ∷ []) (linesTrace (linesOf input))
 
--- ════ What a caller of `next` gets ════════════════════════════════════════════════════════════════
+-- ════ What a caller of `next` gets ════
 
 -- `next` called again and again on an input, each call with the scan and the memory that the one before it left, hands out these
 -- lines and is then done

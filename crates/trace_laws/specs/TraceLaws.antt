@@ -23,7 +23,7 @@ use Rattle.trace_laws.specs.Fits.{ScanFits}
 use Rattle.trace_laws.specs.EventsLaws.{hands-last, hands-event}
 use Rattle.trace_laws.specs.SettingsLaws.{hands-settings}
 
--- ════ A call ══════════════════════════════════════════════════════════════════════════════════════
+-- ════ A call ════
 
 module _ (input : List ℕ) (scan : Scan) (s : List ℕ) (r : Handed) (t : List ℕ) where
   next-in : (phase : Phase) → ScanFits scan → Lent s → RunningIn phase scan input s → NextIn phase scan input s r t → Handing input (restIn phase scan input s) r t
@@ -37,7 +37,7 @@ module _ (input : List ℕ) (scan : Scan) (s : List ℕ) (r : Handed) (t : List 
   unfolding NextMeets traceFrom
   next-hands running m = next-in (scan .phase) (running .fits) (running .lent) (running .here) m
 
--- ════ The first scan ══════════════════════════════════════════════════════════════════════════════
+-- ════ The first scan ════
 
 module _ (input s : List ℕ) where
   opens-fit : ScanFits (openOf input)
@@ -88,7 +88,7 @@ module _ (input s : List ℕ) where
       go true = refl
       go false = refl
 
--- ════ All calls ═══════════════════════════════════════════════════════════════════════════════════
+-- ════ All calls ════
 
 module _ (input : List ℕ) where
   -- what was handed out is what was still to come
@@ -138,7 +138,7 @@ module _ (input : List ℕ) where
           let tail : traceFrom (r .scan) input t ≡ xs = cc parts in
           subst (λ y. HandsOut input scan s (y ∷ xs)) head (hands scan s r t xs m goes (from next tail))
 
--- ════ The theorems ════════════════════════════════════════════════════════════════════════════════
+-- ════ The theorems ════
 
 -- over any 30,976 bytes, what is handed out from the first scan on is what `traceOf` gives
 pub hands-out : (input s : List ℕ) (lines : List (List ℕ)) → Bytes s → length s ≡ 30976 → HandsOut input (openOf input) s lines

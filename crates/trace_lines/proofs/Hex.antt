@@ -12,7 +12,7 @@ use Rattle.decimal.specs.declared.Scanned.the-variants.{Number, Bad}
 use Rattle.trace_lines.specs.Lines.{hexDigit, hexByte, hexBytes, allSpelled, keySpelled, keyField, noKey}
 use Rattle.trace_lines.proofs.Written.{put-head, put-all}
 
--- ---- a digit
+-- ════ A digit ════
 
 module _ (b : ℕ) where
   pub hex-decimal : 48 ≤ b → b ≤ 57 → hexDigit b ≡ b - 48
@@ -37,7 +37,7 @@ module _ (b : ℕ) where
       let r : 97 ≤ b = omega arith in
       rw (le-leb 48 b p, lt-leb b 57 q, le-leb 97 b r, lt-leb b 102 h)
 
--- ---- a key's bytes
+-- ════ A key's bytes ════
 
 module _ (line : List ℕ) (step : ℕ) where
   -- the bytes from the i-th on

@@ -34,7 +34,7 @@ pub line-ends : {text bytes : List ℕ} {place : ℕ} → Wrote (zeros 64) 0 tex
     → _≡_ {A = Line} (record { bytes = set bytes place 10; length = place + 1 }) (lineOf (text ++ (10 ∷ [])))
 line-ends {text} w h = line-is (byte-over 64 w 10 h) (omega (arith, length-append text (10 ∷ [])))
 
--- ---- an answer
+-- ════ An answer ════
 
 -- no word is longer than `Disconnect`
 pub word-length : (w : Word) → length (wordText w) ≤ 10

@@ -23,7 +23,7 @@ use Rattle.trace_lines.specs.declared.line.Line.{Line}
 use Rattle.trace_lines.specs.declared.line.Word.{Word}
 use Rattle.trace_lines.specs.declared.line.Word.the-variants.{Allow, Disconnect, Ban, Banned, Noted, Free, Closed, Released}
 
--- ---- fields of a line
+-- ════ Fields of a line ════
 
 -- the largest numbers of 32 and 64 bits: what a field holds
 abbrev pub largest32 : ℕ
@@ -51,7 +51,7 @@ abbrev pub endsLine : List ℕ → Scanned → Bool
 endsLine line (Number v at) = eqb at (length line)
 endsLine line Bad = false
 
--- ---- the settings line: nine numbers in the settings' order, each within its field's width
+-- ════ The settings line: nine numbers in the settings' order, each within its field's width ════
 
 abbrev pub interval : List ℕ → Scanned
 interval line = scanOf line 0 largest64
@@ -102,7 +102,7 @@ settingsOf line =
     (banDuration line) (maxTracked line) (maxMessages line) (maxBytes line)))
     settings.Bad
 
--- ---- a key: 66 hex digits, or 2 for 33 equal bytes, from the third byte of a line on
+-- ════ A key: 66 hex digits, or 2 for 33 equal bytes, from the third byte of a line on ════
 
 -- the value of a hex digit, lower case; 16 for any other byte
 abbrev pub hexDigit : ℕ → ℕ
@@ -148,7 +148,7 @@ stepOf line = cond (eqb (getD line 4 0) 32) 0 2
 unfoldable pub keyOf : List ℕ → KeyField
 keyOf line = cond (eqb (getD line 1 0) 32) (keySpelled line (stepOf line)) (record { key = noKey; end = Bad })
 
--- ---- an event's line
+-- ════ An event's line ════
 
 abbrev pub event : EventKind → Pubkey → ℕ → ℕ → Event
 event k key bytes now = record { kind = k; key = key; bytes = bytes; «now_ms» = now }
@@ -191,7 +191,7 @@ eventBy letter line =
 unfoldable pub eventOf : List ℕ → Event
 eventOf line = eventBy (getD line 0 0) line
 
--- ---- lines that are written
+-- ════ Lines that are written ════
 
 -- a text as a line of 64 bytes, the unused ones zero
 abbrev pub lineOf : List ℕ → Line
@@ -217,7 +217,7 @@ answerText word messages bytes rows =
 unfoldable pub badLineText : ℕ → List ℕ
 badLineText k = (98 ∷ 97 ∷ 100 ∷ 32 ∷ 108 ∷ 105 ∷ 110 ∷ 101 ∷ []) ++ (numberText k ++ (10 ∷ []))
 
--- ---- what the answers say
+-- ════ What the answers say ════
 
 -- the nine numbers in the settings' order; a bad line gives nothing
 abbrev pub settingsSays : Settings → Said

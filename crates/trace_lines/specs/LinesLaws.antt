@@ -20,7 +20,7 @@ use Rattle.trace_lines.specs.declared.settings.Settings.{Settings}
 use Rattle.trace_lines.specs.declared.line.Line.{Line}
 use Rattle.trace_lines.specs.declared.line.Word.{Word}
 
--- ---- bounds of fields
+-- ════ Bounds of fields ════
 
 -- a number that was read is within its field's width
 pub scan-bound : (line : List ℕ) (at most : ℕ) → most < 10 ^ 20 → valueOf (scanOf line at most) ≤ most
@@ -49,14 +49,14 @@ pub ends-told : (line : List ℕ) {last known : Scanned} {told answer : Bool} �
     → endsLine line known ≡ answer
 ends-told line e h k = ap (λ (s : Scanned). endsLine line s) (sym e) ∙ sym h ∙ k
 
--- ---- letters
+-- ════ Letters ════
 
 -- a line that begins with none of the five letters is bad
 pub other-letter : (k : ℕ) (line : List ℕ) → (k ≡ 97 → ⊥) → (k ≡ 105 → ⊥) → (k ≡ 98 → ⊥) → (k ≡ 100 → ⊥) → (k ≡ 114 → ⊥)
     → eventBy k line ≡ badEvent
 other-letter k line a i b d r = rw (ne-eqb k 97 a, ne-eqb k 105 i, ne-eqb k 98 b, ne-eqb k 100 d, ne-eqb k 114 r)
 
--- ---- at most one outcome
+-- ════ At most one outcome ════
 
 pub settings-outcome : (line : List ℕ) {r s : Settings} → r ≡ settingsOf line → s ≡ settingsOf line → r ≡ s
 settings-outcome line = one-outcome

@@ -28,7 +28,7 @@ use Rattle.trace_lines.specs.declared.event.EventKind.the-variants as ki
 use Rattle.trace_lines.specs.declared.settings.Settings.{Settings}
 use Rattle.trace_lines.specs.declared.settings.Settings.the-variants as settings
 
--- ---- what stands before and behind a field
+-- ════ What stands before and behind a field ════
 
 abbrev pub isNumber : Scanned → Bool
 isNumber (Number v at) = true
@@ -90,7 +90,7 @@ pub ends-spelling : (line : List ℕ) (last : Scanned) → endsLine line last �
 ends-spelling line (Number v at) h = (refl, rw (eqb-true at (length line) h) (drop-length line))
 ends-spelling line Bad h = absurd (false-is-not-true h)
 
--- ---- the settings line
+-- ════ The settings line ════
 
 abbrev configIn : PeerMessagePolicyConfig → Settings → PeerMessagePolicyConfig
 configIn other (settings.Good c) = c
@@ -125,7 +125,7 @@ settings-spelling line config h = go (endsLine line (maxBytes line)) refl h
     go true p q = nine-fields line p ∙ ap (λ (s : Settings). settingsText (configIn config s)) q
     go false p q = let z : _≡_ {A = ℕ} 0 1 = cc in absurd (omega arith)
 
--- ---- a key
+-- ════ A key ════
 
 range-told : (low high b : ℕ) → leb low b && leb b high ≡ true → (low ≤ b) × (b ≤ high)
 range-told low high b h = go (leb low b) (leb b high) refl refl h
@@ -218,7 +218,7 @@ unfolding allSpelled hexBytes
 first-spelled line at step n h =
     ltb-true (hexByte line at) 256 (both-told (ltb (hexByte line at) 256) (allSpelled (hexBytes line (at + step) step n)) h .0)
 
--- ---- a letter, a blank and a key
+-- ════ A letter, a blank and a key ════
 
 module _ (line : List ℕ) (letter : ℕ) (first : getD line 0 0 ≡ letter) (above : 0 < letter) where
   -- the line by what stands behind the blank
@@ -288,7 +288,7 @@ module _ (line : List ℕ) (letter : ℕ) (first : getD line 0 0 ≡ letter) (ab
         whole = s .whole ∙ ap (λ (l : List ℕ). letter ∷ 32 ∷ (s .key-text ++ l)) e;
       }
 
--- ---- events
+-- ════ Events ════
 
 -- one of two events, by a test
 by-test : (P : Event → Type 0) (b : Bool) (x y : Event) → (b ≡ true → P x) → P y → P (cond b x y)
