@@ -41,11 +41,16 @@ returns-2 c =
 returns-3 : tie.Need-returns-3
 unfolding isI128 value minusZero
 returns-3 c =
-    let known = c .before .before .before .before .before .before .before .magnitude in
+    let at-if3 = c .before in
+    let at-if2 = at-if3 .before .before in
+    let at-if1 = at-if2 .before .before in
+    let at-magnitude = at-if1 .before .before in
+    let begin = at-magnitude .before in
+    let known = at-magnitude .magnitude in
     let m = known .result in
-    let beyond = minus-beyond (size m) (size-over m (c .before .before .before .if2 .left)) in
-    rw (not-false (c .before .before .before .before .before .before .before .before .args .self .negative) (c .before .before .before .before .before .if1 .left), ← known .ensures)
-    (size-end m (c .before .if3 .taken) ∙ sym beyond)
+    let beyond = minus-beyond (size m) (size-over m (at-if2 .if2 .left)) in
+    rw (not-false (begin .args .self .negative) (at-if1 .if1 .left), ← known .ensures)
+    (size-end m (at-if3 .if3 .taken) ∙ sym beyond)
 
 returns-4 : tie.Need-returns-4
 unfolding isI128 value minusZero

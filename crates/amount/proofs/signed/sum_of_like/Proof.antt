@@ -47,10 +47,12 @@ clamped-requires c κs = search needs
 
 returns-3 : tie.Need-returns-3
 returns-3 c =
-    let s = c .before .before .before .before .before .before .before .before .before .args .negative in
-    let a = c .before .before .before .before .before .before .before .before .before .args .a in
-    let b = c .before .before .before .before .before .before .before .before .before .args .b in
-    let low = c .before .before .before .before .carried-sum in
+    let at-carried-sum = c .before .before .before .before in
+    let begin = at-carried-sum .before .before .before .before .before in
+    let s = begin .args .negative in
+    let a = begin .args .a in
+    let b = begin .args .b in
+    let low = at-carried-sum .carried-sum in
     let whole = size-sum a b (low .result .sum) (low .result .carry) (low .ensures .0) in
     is-moved (ap saturated (ap (λ (n : ℕ). signed s n) whole ∙ sym (sum-same s (size a) (size b)))) (c .clamped .ensures)
 

@@ -43,12 +43,21 @@ mul-t6 c = let a = c .before .before .before .before .before .before .before .be
     omega (arith, counted-within-elapsed (a .now-ms - a .b .«last_refill_ms») (a .b .«interval_ms»))
 
 add-t9 : tie.Need-add-t9
-add-t9 c = let a = c .before .before .before .before .before .before .before .before .before .before .before .before .args in
-    omega (arith, counted-within-elapsed (a .now-ms - a .b .«last_refill_ms») (a .b .«interval_ms»), c .before .before .before .before .before .before .if3 .left)
+add-t9 c =
+    let at-if3 = c .before .before .before .before .before .before in
+    let begin = at-if3 .before .before .before .before .before .before in
+    let a = begin .args in
+    omega (arith, counted-within-elapsed (a .now-ms - a .b .«last_refill_ms») (a .b .«interval_ms»), at-if3 .if3 .left)
 
 returns-5 : tie.Need-returns-5
 unfolding discreteRefill
-returns-5 c = simp (ne-eqb _ _ (c .before .before .before .before .before .before .before .before .before .before .if1 .left), ne-eqb _ _ (c .before .before .before .before .before .before .before .before .if2 .left), lt-leb _ _ (c .before .before .before .before .before .before .if3 .left), ne-eqb _ _ (c .before .before .before .if4 .left), c .before .before .capped-sum .ensures)
+returns-5 c =
+    let at-capped-sum = c .before .before in
+    let at-if4 = at-capped-sum .before in
+    let at-if3 = at-if4 .before .before .before in
+    let at-if2 = at-if3 .before .before in
+    let at-if1 = at-if2 .before .before in
+    simp (ne-eqb _ _ (at-if1 .if1 .left), ne-eqb _ _ (at-if2 .if2 .left), lt-leb _ _ (at-if3 .if3 .left), ne-eqb _ _ (at-if4 .if4 .left), at-capped-sum .capped-sum .ensures)
 
 pub refilled-spec : {M : Type 1} → statement M
 refilled-spec =

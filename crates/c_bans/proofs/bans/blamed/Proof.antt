@@ -26,8 +26,12 @@ same-length : tie.Need-same-length
 same-length c = search needs
 
 returns : tie.Need-returns
-returns c = rw (← c .before .before .before .before .before .before .before .before .blame-of .ensures, c .before .before .before .before .before .before .blame .given .1)
-    (record { answer = c .before .before .before .record-violation .result; met = c .before .before .before .record-violation .ensures; leaves = c .told .ensures })
+returns c =
+    let at-record-violation = c .before .before .before in
+    let at-blame = at-record-violation .before .before .before in
+    let at-blame-of = at-blame .before .before in
+    rw (← at-blame-of .blame-of .ensures, at-blame .blame .given .1)
+    (record { answer = at-record-violation .record-violation .result; met = at-record-violation .record-violation .ensures; leaves = c .told .ensures })
 
 returns-2 : tie.Need-returns-2
 returns-2 c = rw (← c .before .before .before .blame-of .ensures, c .before .enum-told .given .1) (rw (c .plain .ensures), refl)

@@ -152,8 +152,12 @@ same-length-2 : tie.Need-same-length-2
 same-length-2 c = search needs
 
 returns : tie.Need-returns
-returns c = rw (c .before .before .before .before .before .before .before .before .before .enum-told .given .1)
-    (record { answer = c .before .before .before .before .before .new .result; met = rw (c .before .before .before .before .before .before .before .before .config-of .ensures) at (c .before .before .before .before .before .new .ensures); leaves = c .settled .ensures })
+returns c =
+    let at-new = c .before .before .before .before .before in
+    let at-config-of = at-new .before .before .before in
+    let at-enum-told = at-config-of .before in
+    rw (at-enum-told .enum-told .given .1)
+    (record { answer = at-new .new .result; met = rw (at-config-of .config-of .ensures) at (at-new .new .ensures); leaves = c .settled .ensures })
 
 same-length-3 : tie.Need-same-length-3
 same-length-3 c = search needs
@@ -162,8 +166,11 @@ same-length-4 : tie.Need-same-length-4
 same-length-4 c = search needs
 
 returns-2 : tie.Need-returns-2
-returns-2 c = rw (c .before .before .before .before .before .before .before .before .enum-told2 .given .1)
-    (record { answer = c .before .before .before .before .before .default .result; met = c .before .before .before .before .before .default .ensures; leaves = c .settled2 .ensures })
+returns-2 c =
+    let at-default = c .before .before .before .before .before in
+    let at-enum-told2 = at-default .before .before .before in
+    rw (at-enum-told2 .enum-told2 .given .1)
+    (record { answer = at-default .default .result; met = at-default .default .ensures; leaves = c .settled2 .ensures })
 
 same-length-5 : tie.Need-same-length-5
 same-length-5 c = search needs

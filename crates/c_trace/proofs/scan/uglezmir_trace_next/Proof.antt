@@ -23,11 +23,13 @@ same-length c = search needs
 
 returns : tie.Need-returns
 returns c =
-    let called = c .before .before .before .before .before .before .before .before .before .before in
+    let at-leave = c .before .before .before in
+    let at-before = at-leave .before .before .before .before .before .before in
+    let called = at-before .before in
     record {
       answer = called .next .result;
       met = rw (called .before .before .scan-of .ensures) at (called .next .ensures);
-      leaves = (c .before .before .before .leave .ensures, c .write .ensures);
+      leaves = (at-leave .leave .ensures, c .write .ensures);
     }
 
 pub uglezmir-trace-next-spec : {M : Type 1} → statement M

@@ -25,15 +25,26 @@ returns-2 c = let a = c .before .before .before .before .before .before .before 
     made-pruned (a .limit) (a .duration-ms) (a .now-ms) (a .table .now) (a .count) (λ i. c .before .before .before .before .before .before .slice-known .given i .fits) (omega (arith, c .before .before .before .before .before .before .before .pre)) (c .before .before .before .before .before .if1 .left) _ (c .before .before .before .prune-expired .result) (c .if2 .taken) (c .before .before .before .prune-expired .ensures)
 
 evict-requires : tie.Need-evict-requires
-evict-requires c κs = let a = c .before .before .before .before .before .before .before .before .args in
-    omega (arith, c .before .before .before .before .before .before .before .before .pre, c .before .if2 .left, c .before .before .before .before .prune-expired .ensures .1, length-retain (unexpired (a .duration-ms) (a .now-ms)) (rows banLayout (a .table .now) (a .count)), length-rows banLayout (a .table .now) (a .count))
+evict-requires c κs =
+    let at-if2 = c .before in
+    let at-prune-expired = at-if2 .before .before .before in
+    let begin = at-prune-expired .before .before .before .before in
+    let a = begin .args in
+    omega (arith, begin .pre, at-if2 .if2 .left, at-prune-expired .prune-expired .ensures .1, length-retain (unexpired (a .duration-ms) (a .now-ms)) (rows banLayout (a .table .now) (a .count)), length-rows banLayout (a .table .now) (a .count))
 
 same-length-2 : tie.Need-same-length-2
 same-length-2 c = search needs
 
 returns-3 : tie.Need-returns-3
-returns-3 c = let a = c .before .before .before .before .before .before .before .before .before .before .before .args in
-    made-evicted (a .limit) (a .duration-ms) (a .now-ms) (a .table .now) (a .count) (λ i. c .before .before .before .before .before .before .before .before .before .before .slice-known .given i .fits) (omega (arith, c .before .before .before .before .before .before .before .before .before .before .before .pre)) (c .before .before .before .before .before .before .before .before .before .if1 .left) _ (c .before .before .before .before .before .before .before .prune-expired .result) (c .before .before .before .before .if2 .left) (c .before .before .before .before .before .before .before .prune-expired .ensures) _ (c .before .before .evict .result) (c .before .before .evict .ensures)
+returns-3 c =
+    let at-evict = c .before .before in
+    let at-if2 = at-evict .before .before in
+    let at-prune-expired = at-if2 .before .before .before in
+    let at-if1 = at-prune-expired .before .before in
+    let at-slice-known = at-if1 .before in
+    let begin = at-slice-known .before in
+    let a = begin .args in
+    made-evicted (a .limit) (a .duration-ms) (a .now-ms) (a .table .now) (a .count) (λ i. at-slice-known .slice-known .given i .fits) (omega (arith, begin .pre)) (at-if1 .if1 .left) _ (at-prune-expired .prune-expired .result) (at-if2 .if2 .left) (at-prune-expired .prune-expired .ensures) _ (at-evict .evict .result) (at-evict .evict .ensures)
 
 pub make-room-spec : {M : Type 1} → statement M
 make-room-spec =

@@ -26,9 +26,14 @@ same-length : tie.Need-same-length
 same-length c = search needs
 
 returns : tie.Need-returns
-returns c = let a = c .before .before .before .before .before .before .before .before .before .args in
-    let gathered = c .before .before .before .before .before .before .gather-unexpired in
-    (plain-removed ban-faithful (unexpired (a .duration-ms) (a .now-ms)) (a .table .now) (a .count) (λ i. c .before .before .before .before .before .before .before .before .slice-known .given i .fits) (omega (arith, c .before .before .before .before .before .before .before .before .before .pre)) _ _ (gathered .result) (gathered .ensures .0) (gathered .ensures .1) (c .before .before .zero-rows .ensures), gathered .ensures .1)
+returns c =
+    let at-zero-rows = c .before .before in
+    let at-gather-unexpired = at-zero-rows .before .before .before .before in
+    let at-slice-known = at-gather-unexpired .before .before in
+    let begin = at-slice-known .before in
+    let a = begin .args in
+    let gathered = at-gather-unexpired .gather-unexpired in
+    (plain-removed ban-faithful (unexpired (a .duration-ms) (a .now-ms)) (a .table .now) (a .count) (λ i. at-slice-known .slice-known .given i .fits) (omega (arith, begin .pre)) _ _ (gathered .result) (gathered .ensures .0) (gathered .ensures .1) (at-zero-rows .zero-rows .ensures), gathered .ensures .1)
 
 pub prune-expired-spec : {M : Type 1} → statement M
 prune-expired-spec =

@@ -25,10 +25,16 @@ same-length : tie.Need-same-length
 same-length c = search needs
 
 returns : tie.Need-returns
-returns c = let a = c .before .before .before .before .before .before .before .before .before .before .args in
-    let e = c .before .before .before .before .before .before .entry-at .result in
-    scored-expired (a .t) (a .table .now) (a .peer) (a .now-ms) (c .before .before .before .before .before .before .before .before .before .before .pre .is-sound) e (known-look (a .t) (a .table .now) (a .peer .bytes) (a .index) (c .before .before .before .before .before .before .before .before .before .before .pre) e (c .before .before .before .before .before .before .entry-at .ensures))
-    (sym (c .before .before .before .before .before .is-expired .ensures) ∙ c .before .before .before .before .if1 .taken) (c .before .before .drop-known .result) _ (c .before .before .drop-known .ensures)
+returns c =
+    let at-drop-known = c .before .before in
+    let at-if1 = at-drop-known .before .before in
+    let at-is-expired = at-if1 .before in
+    let at-entry-at = at-is-expired .before in
+    let begin = at-entry-at .before .before .before .before in
+    let a = begin .args in
+    let e = at-entry-at .entry-at .result in
+    scored-expired (a .t) (a .table .now) (a .peer) (a .now-ms) (begin .pre .is-sound) e (known-look (a .t) (a .table .now) (a .peer .bytes) (a .index) (begin .pre) e (at-entry-at .entry-at .ensures))
+    (sym (at-is-expired .is-expired .ensures) ∙ at-if1 .if1 .taken) (at-drop-known .drop-known .result) _ (at-drop-known .drop-known .ensures)
 
 cast-t16 : tie.Need-cast-t16
 cast-t16 c = let a = c .before .before .before .before .before .before .before .args in

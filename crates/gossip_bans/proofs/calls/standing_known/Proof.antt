@@ -32,10 +32,18 @@ same-length : tie.Need-same-length
 same-length c = search needs
 
 returns-2 : tie.Need-returns-2
-returns-2 c = let a = c .before .before .before .before .before .before .before .before .before .before .before .before .args in
-    let e = c .before .before .before .before .before .before .entry-at .result in
-    standing-expired (a .t) (a .table .now) (a .peer) (a .now-ms) (c .before .before .before .before .before .before .before .before .before .before .before .before .pre .is-sound) (sym (c .before .before .before .before .before .before .before .before .before .is-disabled .ensures) ∙ c .before .before .before .before .before .before .before .before .if1 .left) e (known-look (a .t) (a .table .now) (a .peer .bytes) (a .index) (c .before .before .before .before .before .before .before .before .before .before .before .before .pre) e (c .before .before .before .before .before .before .entry-at .ensures))
-    (sym (c .before .before .before .before .before .is-expired .ensures) ∙ c .before .before .before .before .if2 .taken) (c .before .before .drop-known .result) _ (c .before .before .drop-known .ensures)
+returns-2 c =
+    let at-drop-known = c .before .before in
+    let at-if2 = at-drop-known .before .before in
+    let at-is-expired = at-if2 .before in
+    let at-entry-at = at-is-expired .before in
+    let at-if1 = at-entry-at .before .before in
+    let at-is-disabled = at-if1 .before in
+    let begin = at-is-disabled .before .before .before in
+    let a = begin .args in
+    let e = at-entry-at .entry-at .result in
+    standing-expired (a .t) (a .table .now) (a .peer) (a .now-ms) (begin .pre .is-sound) (sym (at-is-disabled .is-disabled .ensures) ∙ at-if1 .if1 .left) e (known-look (a .t) (a .table .now) (a .peer .bytes) (a .index) (begin .pre) e (at-entry-at .entry-at .ensures))
+    (sym (at-is-expired .is-expired .ensures) ∙ at-if2 .if2 .taken) (at-drop-known .drop-known .result) _ (at-drop-known .drop-known .ensures)
 
 is-currently-banned-requires : tie.Need-is-currently-banned-requires
 is-currently-banned-requires c κs = search needs
@@ -47,11 +55,20 @@ same-length-2 : tie.Need-same-length-2
 same-length-2 c = search needs
 
 returns-3 : tie.Need-returns-3
-returns-3 c = let a = c .before .before .before .before .before .before .before .before .before .before .args in
-    let e = c .before .before .before .before .entry-at .result in
-    rw (c .told .ensures, c .before .is-currently-banned .ensures)
-    (standing-live (a .t) (a .table .now) (a .peer) (a .now-ms) (c .before .before .before .before .before .before .before .before .before .before .pre .is-sound) (sym (c .before .before .before .before .before .before .before .is-disabled .ensures) ∙ c .before .before .before .before .before .before .if1 .left) e (known-look (a .t) (a .table .now) (a .peer .bytes) (a .index) (c .before .before .before .before .before .before .before .before .before .before .pre) e (c .before .before .before .before .entry-at .ensures))
-    (λ i. c .before .before .before .before .before .before .before .before .before .slice-known .given i .fits) (sym (c .before .before .before .is-expired .ensures) ∙ c .before .before .if2 .left))
+returns-3 c =
+    let at-is-currently-banned = c .before in
+    let at-if2 = at-is-currently-banned .before in
+    let at-is-expired = at-if2 .before in
+    let at-entry-at = at-is-expired .before in
+    let at-if1 = at-entry-at .before .before in
+    let at-is-disabled = at-if1 .before in
+    let at-slice-known = at-is-disabled .before .before in
+    let begin = at-slice-known .before in
+    let a = begin .args in
+    let e = at-entry-at .entry-at .result in
+    rw (c .told .ensures, at-is-currently-banned .is-currently-banned .ensures)
+    (standing-live (a .t) (a .table .now) (a .peer) (a .now-ms) (begin .pre .is-sound) (sym (at-is-disabled .is-disabled .ensures) ∙ at-if1 .if1 .left) e (known-look (a .t) (a .table .now) (a .peer .bytes) (a .index) (begin .pre) e (at-entry-at .entry-at .ensures))
+    (λ i. at-slice-known .slice-known .given i .fits) (sym (at-is-expired .is-expired .ensures) ∙ at-if2 .if2 .left))
 
 pub standing-known-spec : {M : Type 1} → statement M
 standing-known-spec =

@@ -47,10 +47,22 @@ same-length : tie.Need-same-length
 same-length c = search needs
 
 returns-2 : tie.Need-returns-2
-returns-2 c = let a = c .before .before .before .before .before .before .before .before .before .before .before .before .before .before .before .before .args in
-    violated-known (a .t) (a .table .now) (a .peer) (a .violation) (a .now-ms) (c .before .before .before .before .before .before .before .before .before .before .before .before .before .before .before .before .pre .is-sound) (sym (c .before .before .before .before .before .before .before .before .before .before .before .before .before .is-disabled .ensures) ∙ c .before .before .before .before .before .before .before .before .before .before .before .before .if1 .left) (c .before .before .store-known .result) _ (c .before .before .before .before .before .before .before .before .score .result) (c .before .before .before .before .before .before .before .before .score .ensures)
-    (c .before .before .before .before .before .before .before .before .before .before .entry-at .result) (c .before .before .before .before .before .before .before .before .before .unexpired-or-default .result) (c .before .before .before .before .before .before .before .raised .result) (c .before .before .before .before .banned-if-reached .result) (c .before .before .before .before .before .before .reaches .result) (c .before .before .before .before .before .told .result)
-    (known-look (a .t) (a .table .now) (a .peer .bytes) (a .index) (c .before .before .before .before .before .before .before .before .before .before .before .before .before .before .before .before .pre) (c .before .before .before .before .before .before .before .before .before .before .entry-at .result) (c .before .before .before .before .before .before .before .before .before .before .entry-at .ensures)) (c .before .before .before .before .before .before .before .before .before .unexpired-or-default .ensures) (c .before .before .before .before .before .before .before .raised .ensures) (c .before .before .before .before .before .before .reaches .ensures) (c .before .before .before .before .before .told .ensures) (c .before .before .before .before .banned-if-reached .ensures) (c .before .before .store-known .ensures)
+returns-2 c =
+    let at-store-known = c .before .before in
+    let at-banned-if-reached = at-store-known .before .before in
+    let at-told = at-banned-if-reached .before in
+    let at-reaches = at-told .before in
+    let at-raised = at-reaches .before in
+    let at-score = at-raised .before in
+    let at-unexpired-or-default = at-score .before in
+    let at-entry-at = at-unexpired-or-default .before in
+    let at-if1 = at-entry-at .before .before in
+    let at-is-disabled = at-if1 .before in
+    let begin = at-is-disabled .before .before .before in
+    let a = begin .args in
+    violated-known (a .t) (a .table .now) (a .peer) (a .violation) (a .now-ms) (begin .pre .is-sound) (sym (at-is-disabled .is-disabled .ensures) ∙ at-if1 .if1 .left) (at-store-known .store-known .result) _ (at-score .score .result) (at-score .score .ensures)
+    (at-entry-at .entry-at .result) (at-unexpired-or-default .unexpired-or-default .result) (at-raised .raised .result) (at-banned-if-reached .banned-if-reached .result) (at-reaches .reaches .result) (at-told .told .result)
+    (known-look (a .t) (a .table .now) (a .peer .bytes) (a .index) (begin .pre) (at-entry-at .entry-at .result) (at-entry-at .entry-at .ensures)) (at-unexpired-or-default .unexpired-or-default .ensures) (at-raised .raised .ensures) (at-reaches .reaches .ensures) (at-told .told .ensures) (at-banned-if-reached .banned-if-reached .ensures) (at-store-known .store-known .ensures)
 
 pub violation-known-spec : {M : Type 1} → statement M
 violation-known-spec =

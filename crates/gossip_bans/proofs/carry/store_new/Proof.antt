@@ -24,8 +24,14 @@ same-length : tie.Need-same-length
 same-length c = search needs
 
 returns : tie.Need-returns
-returns c = let a = c .before .before .before .before .before .before .before .before .before .before .before .args in
-    rw (c .with-rows .ensures) (left-new (a .t) (a .table .now) (a .peer .bytes) (a .gap) (a .now-ms) (c .before .before .before .before .before .before .before .before .before .limit-of .result) (c .before .before .before .before .before .before .before .before .before .before .before .pre) (c .before .before .before .before .before .before .before .before .before .limit-of .ensures) (λ i. c .before .before .before .before .before .before .before .before .before .before .slice-known .given i .fits) _ (c .before .before .before .before .before .before .before .make-room .result) (c .before .before .before .before .before .before .before .make-room .ensures) _ (c .before .before .before .store .result) (a .e) (c .before .before .before .store .ensures))
+returns c =
+    let at-store = c .before .before .before in
+    let at-make-room = at-store .before .before .before .before in
+    let at-limit-of = at-make-room .before .before in
+    let at-slice-known = at-limit-of .before in
+    let begin = at-slice-known .before in
+    let a = begin .args in
+    rw (c .with-rows .ensures) (left-new (a .t) (a .table .now) (a .peer .bytes) (a .gap) (a .now-ms) (at-limit-of .limit-of .result) (begin .pre) (at-limit-of .limit-of .ensures) (λ i. at-slice-known .slice-known .given i .fits) _ (at-make-room .make-room .result) (at-make-room .make-room .ensures) _ (at-store .store .result) (a .e) (at-store .store .ensures))
 
 pub store-new-spec : {M : Type 1} → statement M
 store-new-spec =

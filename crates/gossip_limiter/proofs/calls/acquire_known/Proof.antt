@@ -35,15 +35,25 @@ ask-requires c κs = let a = c .before .before .before .before .before .before .
     rw (c .bucket-of .ensures, c .before .entry-at .ensures) (sound-level (a .l .config) _ (known-rule limiterLayout (limiterSound (a .l .config)) (limiterRecordSound (a .l)) (limitOf (a .l .«max_entries»)) (a .table .now) (a .l .rows) (limiterKeyBytes (a .key)) (a .index) (c .before .before .before .before .before .before .before .pre)))
 
 overwrite-at-requires : tie.Need-overwrite-at-requires
-overwrite-at-requires c κs = let a = c .before .before .before .before .before .before .before .before .before .before .args in
-    (known-inside limiterLayout (limiterSound (a .l .config)) (limiterRecordSound (a .l)) (limitOf (a .l .«max_entries»)) (a .table .now) (a .l .rows) (limiterKeyBytes (a .key)) (a .index) (c .before .before .before .before .before .before .before .before .before .before .pre), rows-inside (a .l) (a .table .now) (c .before .before .before .before .before .before .before .before .before .before .pre .is-sound))
+overwrite-at-requires c κs =
+    let begin = c .before .before .before .before .before .before .before .before .before .before in
+    let a = begin .args in
+    (known-inside limiterLayout (limiterSound (a .l .config)) (limiterRecordSound (a .l)) (limitOf (a .l .«max_entries»)) (a .table .now) (a .l .rows) (limiterKeyBytes (a .key)) (a .index) (begin .pre), rows-inside (a .l) (a .table .now) (begin .pre .is-sound))
 
 same-length : tie.Need-same-length
 same-length c = search needs
 
 returns-2 : tie.Need-returns-2
-returns-2 c = let a = c .before .before .before .before .before .before .before .before .before .before .before .before .before .args in
-    told-known (a .l) (a .table .now) (a .key) (a .now-ms) (a .index) (c .before .before .before .before .before .before .before .before .before .before .before .before .before .pre) (sym (c .before .before .before .before .before .before .before .before .before .before .is-disabled .ensures) ∙ c .before .before .before .before .before .before .before .before .before .if1 .left) (c .before .before .before .before .before .before .before .entry-at .result) (c .before .before .before .before .before .before .before .entry-at .ensures) (c .before .before .before .before .before .before .bucket-of .result) (c .before .before .before .before .before .before .bucket-of .ensures) (c .before .before .before .before .before .ask .result) (c .before .before .before .before .before .ask .ensures) _ (c .before .before .overwrite-at .ensures)
+returns-2 c =
+    let at-overwrite-at = c .before .before in
+    let at-ask = at-overwrite-at .before .before .before in
+    let at-bucket-of = at-ask .before in
+    let at-entry-at = at-bucket-of .before in
+    let at-if1 = at-entry-at .before .before in
+    let at-is-disabled = at-if1 .before in
+    let begin = at-is-disabled .before .before .before in
+    let a = begin .args in
+    told-known (a .l) (a .table .now) (a .key) (a .now-ms) (a .index) (begin .pre) (sym (at-is-disabled .is-disabled .ensures) ∙ at-if1 .if1 .left) (at-entry-at .entry-at .result) (at-entry-at .entry-at .ensures) (at-bucket-of .bucket-of .result) (at-bucket-of .bucket-of .ensures) (at-ask .ask .result) (at-ask .ask .ensures) _ (at-overwrite-at .overwrite-at .ensures)
 
 pub acquire-known-spec : {M : Type 1} → statement M
 acquire-known-spec = tie.close (tie.spec is-disabled-requires returns mul-entry-at entry-at-requires bucket-of-requires ask-requires overwrite-at-requires same-length returns-2)

@@ -34,8 +34,15 @@ same-length-2 : tie.Need-same-length-2
 same-length-2 c = search needs
 
 returns-2 : tie.Need-returns-2
-returns-2 c = let a = c .before .before .before .before .before .before .before .before .before .before .args in
-    step-busy (a .config) (a .now-ms) (a .table .now) (a .from) (a .to) (c .before .before .before .before .before .before .before .entry-at .result) (c .before .before .before .before .before .before .refilled .result) (c .before .before .before .before .before .is-full .result) (c .before .before .before .before .before .before .before .entry-at .ensures) (c .before .before .before .before .before .before .refilled .ensures) (c .before .before .before .before .before .is-full .ensures) (c .before .before .before .before .if1 .left) _ (c .before .before .move-with .ensures)
+returns-2 c =
+    let at-move-with = c .before .before in
+    let at-if1 = at-move-with .before .before in
+    let at-is-full = at-if1 .before in
+    let at-refilled = at-is-full .before in
+    let at-entry-at = at-refilled .before in
+    let begin = at-entry-at .before .before .before in
+    let a = begin .args in
+    step-busy (a .config) (a .now-ms) (a .table .now) (a .from) (a .to) (at-entry-at .entry-at .result) (at-refilled .refilled .result) (at-is-full .is-full .result) (at-entry-at .entry-at .ensures) (at-refilled .refilled .ensures) (at-is-full .is-full .ensures) (at-if1 .if1 .left) _ (at-move-with .move-with .ensures)
 
 pub keep-busy-spec : {M : Type 1} → statement M
 keep-busy-spec =

@@ -30,8 +30,13 @@ same-length : tie.Need-same-length
 same-length c = search needs
 
 returns : tie.Need-returns
-returns c = let a = c .before .before .before .before .before .before .before .before .before .before .before .args in
-    moved-with 94 70 (a .from) (a .to) (a .table .now) _ _ (wordBytes (entryWords (a .e))) (omega arith) (omega arith) (omega (arith, c .before .before .before .before .before .before .before .before .before .before .before .pre)) (length-wordBytes (entryWords (a .e))) (c .before .before .before .before .before .before .before .keep-row .ensures) (rw (c .before .before .before .before .before .before .before .before .before .words-of .ensures) at (c .before .before .put-words .ensures))
+returns c =
+    let at-put-words = c .before .before in
+    let at-keep-row = at-put-words .before .before .before .before .before in
+    let at-words-of = at-keep-row .before .before in
+    let begin = at-words-of .before .before in
+    let a = begin .args in
+    moved-with 94 70 (a .from) (a .to) (a .table .now) _ _ (wordBytes (entryWords (a .e))) (omega arith) (omega arith) (omega (arith, begin .pre)) (length-wordBytes (entryWords (a .e))) (at-keep-row .keep-row .ensures) (rw (at-words-of .words-of .ensures) at (at-put-words .put-words .ensures))
 
 pub move-with-spec : {M : Type 1} → statement M
 move-with-spec =

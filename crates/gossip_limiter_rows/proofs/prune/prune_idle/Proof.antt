@@ -28,9 +28,14 @@ same-length : tie.Need-same-length
 same-length c = search needs
 
 returns : tie.Need-returns
-returns c = let a = c .before .before .before .before .before .before .before .before .before .args in
-    let gathered = c .before .before .before .before .before .before .gather-busy in
-    (kept-removed limiter-faithful (notFull (a .config)) (a .table .now) (mapEntries (refilled (a .config) (a .now-ms)) (rows limiterLayout (a .table .now) (a .count))) (refilled-fit (a .config) (a .now-ms) (a .table .now) (a .count) (omega (arith, c .before .before .before .before .before .before .before .before .before .good)) (omega (arith, c .before .before .before .before .before .before .before .before .before .good)) (λ i. c .before .before .before .before .before .before .before .before .slice-known .given i .fits) (omega (arith, c .before .before .before .before .before .before .before .before .before .pre))) (a .count) _ _ (gathered .result) (gathered .ensures .0) (gathered .ensures .1) (c .before .before .zero-rows .ensures), gathered .ensures .1)
+returns c =
+    let at-zero-rows = c .before .before in
+    let at-gather-busy = at-zero-rows .before .before .before .before in
+    let at-slice-known = at-gather-busy .before .before in
+    let begin = at-slice-known .before in
+    let a = begin .args in
+    let gathered = at-gather-busy .gather-busy in
+    (kept-removed limiter-faithful (notFull (a .config)) (a .table .now) (mapEntries (refilled (a .config) (a .now-ms)) (rows limiterLayout (a .table .now) (a .count))) (refilled-fit (a .config) (a .now-ms) (a .table .now) (a .count) (omega (arith, begin .good)) (omega (arith, begin .good)) (λ i. at-slice-known .slice-known .given i .fits) (omega (arith, begin .pre))) (a .count) _ _ (gathered .result) (gathered .ensures .0) (gathered .ensures .1) (at-zero-rows .zero-rows .ensures), gathered .ensures .1)
 
 pub prune-idle-spec : {M : Type 1} → statement M
 prune-idle-spec = tie.close (tie.spec gather-busy-requires sub-zero-rows zero-rows-requires same-length returns)

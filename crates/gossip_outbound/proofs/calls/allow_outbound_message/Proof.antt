@@ -26,17 +26,30 @@ peer-bucket-requires c κs = let a = c .before .before .before .before .before .
     p
 
 charge-both-requires : tie.Need-charge-both-requires
-charge-both-requires c κs = let a = c .before .before .before .before .before .before .before .before .args in
-    let p = found-placed (a .o) (a .table .now) (a .peer .bytes) (c .before .before .before .before .before .sought .result) (c .before .before .before .before .before .sought .ensures) (sym (c .before .before .before .before .is-unsound .ensures) ∙ c .before .before .before .if1 .left) in
-    (placed-global (a .o) (a .table .now) (a .peer .bytes) p, c .before .peer-bucket .ensures .is-sound)
+charge-both-requires c κs =
+    let at-peer-bucket = c .before in
+    let at-if1 = at-peer-bucket .before .before in
+    let at-is-unsound = at-if1 .before in
+    let at-sought = at-is-unsound .before in
+    let begin = at-sought .before .before .before in
+    let a = begin .args in
+    let p = found-placed (a .o) (a .table .now) (a .peer .bytes) (at-sought .sought .result) (at-sought .sought .ensures) (sym (at-is-unsound .is-unsound .ensures) ∙ at-if1 .if1 .left) in
+    (placed-global (a .o) (a .table .now) (a .peer .bytes) p, at-peer-bucket .peer-bucket .ensures .is-sound)
 
 same-length-2 : tie.Need-same-length-2
 same-length-2 c = search needs
 
 returns-2 : tie.Need-returns-2
-returns-2 c = let a = c .before .before .before .before .before .before .before .before .before .before .args in
-    let p = found-placed (a .o) (a .table .now) (a .peer .bytes) (c .before .before .before .before .before .before .before .sought .result) (c .before .before .before .before .before .before .before .sought .ensures) (sym (c .before .before .before .before .before .before .is-unsound .ensures) ∙ c .before .before .before .before .before .if1 .left) in
-    allow-no (a .o) (a .table .now) (a .peer) (a .bytes) (a .now-ms) (c .before .before .before .before .before .before .before .sought .result) p (c .before .before .before .peer-bucket .result) (c .before .before .before .peer-bucket .ensures) (c .before .charge-both .result) (c .before .charge-both .ensures) (not-true (c .before .charge-both .result .yes) (c .if2 .taken))
+returns-2 c =
+    let at-charge-both = c .before in
+    let at-peer-bucket = at-charge-both .before .before in
+    let at-if1 = at-peer-bucket .before .before in
+    let at-is-unsound = at-if1 .before in
+    let at-sought = at-is-unsound .before in
+    let begin = at-sought .before .before .before in
+    let a = begin .args in
+    let p = found-placed (a .o) (a .table .now) (a .peer .bytes) (at-sought .sought .result) (at-sought .sought .ensures) (sym (at-is-unsound .is-unsound .ensures) ∙ at-if1 .if1 .left) in
+    allow-no (a .o) (a .table .now) (a .peer) (a .bytes) (a .now-ms) (at-sought .sought .result) p (at-peer-bucket .peer-bucket .result) (at-peer-bucket .peer-bucket .ensures) (at-charge-both .charge-both .result) (at-charge-both .charge-both .ensures) (not-true (at-charge-both .charge-both .result .yes) (c .if2 .taken))
 
 is-full-requires : tie.Need-is-full-requires
 is-full-requires c κs = search needs
@@ -45,14 +58,30 @@ same-length-3 : tie.Need-same-length-3
 same-length-3 c = search needs
 
 returns-3 : tie.Need-returns-3
-returns-3 c = let a = c .before .before .before .before .before .before .before .before .before .before .before .before .args in
-    let p = found-placed (a .o) (a .table .now) (a .peer .bytes) (c .before .before .before .before .before .before .before .before .before .sought .result) (c .before .before .before .before .before .before .before .before .before .sought .ensures) (sym (c .before .before .before .before .before .before .before .before .is-unsound .ensures) ∙ c .before .before .before .before .before .before .before .if1 .left) in
-    allow-full (a .o) (a .table .now) (a .peer) (a .bytes) (a .now-ms) (c .before .before .before .before .before .before .before .before .before .sought .result) p (c .before .before .before .before .before .peer-bucket .result) (c .before .before .before .before .before .peer-bucket .ensures) (c .before .before .before .charge-both .result) (c .before .before .before .charge-both .ensures) (not-false (c .before .before .before .charge-both .result .yes) (c .before .before .if2 .left)) (sym (c .before .is-full .ensures) ∙ c .if3 .taken)
+returns-3 c =
+    let at-is-full = c .before in
+    let at-if2 = at-is-full .before in
+    let at-charge-both = at-if2 .before in
+    let at-peer-bucket = at-charge-both .before .before in
+    let at-if1 = at-peer-bucket .before .before in
+    let at-is-unsound = at-if1 .before in
+    let at-sought = at-is-unsound .before in
+    let begin = at-sought .before .before .before in
+    let a = begin .args in
+    let p = found-placed (a .o) (a .table .now) (a .peer .bytes) (at-sought .sought .result) (at-sought .sought .ensures) (sym (at-is-unsound .is-unsound .ensures) ∙ at-if1 .if1 .left) in
+    allow-full (a .o) (a .table .now) (a .peer) (a .bytes) (a .now-ms) (at-sought .sought .result) p (at-peer-bucket .peer-bucket .result) (at-peer-bucket .peer-bucket .ensures) (at-charge-both .charge-both .result) (at-charge-both .charge-both .ensures) (not-false (at-charge-both .charge-both .result .yes) (at-if2 .if2 .left)) (sym (at-is-full .is-full .ensures) ∙ c .if3 .taken)
 
 write-row-requires : tie.Need-write-row-requires
-write-row-requires c κs = let a = c .before .before .before .before .before .before .before .before .before .before .before .before .before .before .before .args in
-    let p = found-placed (a .o) (a .table .now) (a .peer .bytes) (c .before .before .before .before .before .before .before .before .before .before .before .before .sought .result) (c .before .before .before .before .before .before .before .before .before .before .before .before .sought .ensures) (sym (c .before .before .before .before .before .before .before .before .before .before .before .is-unsound .ensures) ∙ c .before .before .before .before .before .before .before .before .before .before .if1 .left) in
-    (p, sym (c .before .before .before .before .is-full .ensures) ∙ c .before .before .before .if3 .left)
+write-row-requires c κs =
+    let at-if3 = c .before .before .before in
+    let at-is-full = at-if3 .before in
+    let at-if1 = at-is-full .before .before .before .before .before .before in
+    let at-is-unsound = at-if1 .before in
+    let at-sought = at-is-unsound .before in
+    let begin = at-sought .before .before .before in
+    let a = begin .args in
+    let p = found-placed (a .o) (a .table .now) (a .peer .bytes) (at-sought .sought .result) (at-sought .sought .ensures) (sym (at-is-unsound .is-unsound .ensures) ∙ at-if1 .if1 .left) in
+    (p, sym (at-is-full .is-full .ensures) ∙ at-if3 .if3 .left)
 
 with-requires : tie.Need-with-requires
 with-requires c κs = search needs
@@ -61,10 +90,21 @@ same-length-4 : tie.Need-same-length-4
 same-length-4 c = search needs
 
 returns-4 : tie.Need-returns-4
-returns-4 c = let a = c .before .before .before .before .before .before .before .before .before .before .before .before .before .before .before .before .before .before .before .args in
-    let p = found-placed (a .o) (a .table .now) (a .peer .bytes) (c .before .before .before .before .before .before .before .before .before .before .before .before .before .before .before .before .sought .result) (c .before .before .before .before .before .before .before .before .before .before .before .before .before .before .before .before .sought .ensures) (sym (c .before .before .before .before .before .before .before .before .before .before .before .before .before .before .before .is-unsound .ensures) ∙ c .before .before .before .before .before .before .before .before .before .before .before .before .before .before .if1 .left) in
+returns-4 c =
+    let at-write-row = c .before .before .before in
+    let at-if3 = at-write-row .before .before .before .before in
+    let at-is-full = at-if3 .before in
+    let at-if2 = at-is-full .before in
+    let at-charge-both = at-if2 .before in
+    let at-peer-bucket = at-charge-both .before .before in
+    let at-if1 = at-peer-bucket .before .before in
+    let at-is-unsound = at-if1 .before in
+    let at-sought = at-is-unsound .before in
+    let begin = at-sought .before .before .before in
+    let a = begin .args in
+    let p = found-placed (a .o) (a .table .now) (a .peer .bytes) (at-sought .sought .result) (at-sought .sought .ensures) (sym (at-is-unsound .is-unsound .ensures) ∙ at-if1 .if1 .left) in
     rw (c .with .ensures)
-    (allow-yes (a .o) (a .table .now) (a .peer) (a .bytes) (a .now-ms) (c .before .before .before .before .before .before .before .before .before .before .before .before .before .before .before .before .sought .result) p (c .before .before .before .before .before .before .before .before .before .before .before .before .peer-bucket .result) (c .before .before .before .before .before .before .before .before .before .before .before .before .peer-bucket .ensures) (c .before .before .before .before .before .before .before .before .before .before .charge-both .result) (c .before .before .before .before .before .before .before .before .before .before .charge-both .ensures) (not-false (c .before .before .before .before .before .before .before .before .before .before .charge-both .result .yes) (c .before .before .before .before .before .before .before .before .before .if2 .left)) (sym (c .before .before .before .before .before .before .before .before .is-full .ensures) ∙ c .before .before .before .before .before .before .before .if3 .left) _ (c .before .before .before .write-row .result) (c .before .before .before .write-row .ensures))
+    (allow-yes (a .o) (a .table .now) (a .peer) (a .bytes) (a .now-ms) (at-sought .sought .result) p (at-peer-bucket .peer-bucket .result) (at-peer-bucket .peer-bucket .ensures) (at-charge-both .charge-both .result) (at-charge-both .charge-both .ensures) (not-false (at-charge-both .charge-both .result .yes) (at-if2 .if2 .left)) (sym (at-is-full .is-full .ensures) ∙ at-if3 .if3 .left) _ (at-write-row .write-row .result) (at-write-row .write-row .ensures))
 
 pub allow-outbound-message-spec : {M : Type 1} → statement M
 allow-outbound-message-spec =

@@ -30,9 +30,16 @@ longer-requires : tie.Need-longer-requires
 longer-requires c κs = search needs
 
 returns-2 : tie.Need-returns-2
-returns-2 c = let a = c .before .before .before .before .before .before .before .before .args in
-    let p = found-placed (a .o) (a .table .now) (a .peer .bytes) (c .before .before .before .before .before .before .sought .result) (c .before .before .before .before .before .before .sought .ensures) (sym (c .before .before .before .before .before .is-unsound .ensures) ∙ c .before .before .before .before .if1 .left) in
-    estimate-wait (a .o) (a .table .now) (a .peer) (a .bytes) (a .now-ms) (p .is-sound) (c .before .before .delay-of .result) (c .before .peer-delay .result) (c .longer .result) (c .before .before .delay-of .ensures) (c .before .peer-delay .ensures) (c .longer .ensures)
+returns-2 c =
+    let at-peer-delay = c .before in
+    let at-delay-of = at-peer-delay .before in
+    let at-if1 = at-delay-of .before .before in
+    let at-is-unsound = at-if1 .before in
+    let at-sought = at-is-unsound .before in
+    let begin = at-sought .before .before in
+    let a = begin .args in
+    let p = found-placed (a .o) (a .table .now) (a .peer .bytes) (at-sought .sought .result) (at-sought .sought .ensures) (sym (at-is-unsound .is-unsound .ensures) ∙ at-if1 .if1 .left) in
+    estimate-wait (a .o) (a .table .now) (a .peer) (a .bytes) (a .now-ms) (p .is-sound) (at-delay-of .delay-of .result) (at-peer-delay .peer-delay .result) (c .longer .result) (at-delay-of .delay-of .ensures) (at-peer-delay .peer-delay .ensures) (c .longer .ensures)
 
 pub estimate-outbound-message-delay-spec : {M : Type 1} → statement M
 estimate-outbound-message-delay-spec =

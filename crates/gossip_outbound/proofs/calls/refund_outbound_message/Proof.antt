@@ -34,9 +34,17 @@ same-length-2 : tie.Need-same-length-2
 same-length-2 c = search needs
 
 returns-2 : tie.Need-returns-2
-returns-2 c = let a = c .before .before .before .before .before .before .before .before .before .before .before .args in
-    let p = found-placed (a .o) (a .table .now) (a .peer .bytes) (c .before .before .before .before .before .before .before .before .sought .result) (c .before .before .before .before .before .before .before .before .sought .ensures) (sym (c .before .before .before .before .before .before .before .is-unsound .ensures) ∙ c .before .before .before .before .before .before .if1 .left) in
-    rw (c .with .ensures) (refund-off (a .o) (a .table .now) (a .peer) (a .bytes) (a .now-ms) (c .before .before .before .before .before .before .before .before .sought .result) p (c .before .before .before .before .refunded .result) (c .before .before .before .before .refunded .ensures) (sym (c .before .before .is-disabled .ensures) ∙ c .before .if2 .taken))
+returns-2 c =
+    let at-if2 = c .before in
+    let at-is-disabled = at-if2 .before in
+    let at-refunded = at-is-disabled .before .before in
+    let at-if1 = at-refunded .before .before in
+    let at-is-unsound = at-if1 .before in
+    let at-sought = at-is-unsound .before in
+    let begin = at-sought .before .before .before in
+    let a = begin .args in
+    let p = found-placed (a .o) (a .table .now) (a .peer .bytes) (at-sought .sought .result) (at-sought .sought .ensures) (sym (at-is-unsound .is-unsound .ensures) ∙ at-if1 .if1 .left) in
+    rw (c .with .ensures) (refund-off (a .o) (a .table .now) (a .peer) (a .bytes) (a .now-ms) (at-sought .sought .result) p (at-refunded .refunded .result) (at-refunded .refunded .ensures) (sym (at-is-disabled .is-disabled .ensures) ∙ at-if2 .if2 .taken))
 
 is-full-requires : tie.Need-is-full-requires
 is-full-requires c κs = search needs
@@ -45,22 +53,43 @@ same-length-3 : tie.Need-same-length-3
 same-length-3 c = search needs
 
 returns-3 : tie.Need-returns-3
-returns-3 c = let a = c .before .before .before .before .before .before .before .before .before .before .before .before .args in
-    let p = found-placed (a .o) (a .table .now) (a .peer .bytes) (c .before .before .before .before .before .before .before .before .before .sought .result) (c .before .before .before .before .before .before .before .before .before .sought .ensures) (sym (c .before .before .before .before .before .before .before .before .is-unsound .ensures) ∙ c .before .before .before .before .before .before .before .if1 .left) in
-    refund-full (a .o) (a .table .now) (a .peer) (a .bytes) (a .now-ms) (c .before .before .before .before .before .before .before .before .before .sought .result) p (c .before .before .before .before .before .refunded .result) (c .before .before .before .before .before .refunded .ensures) (sym (c .before .before .before .is-disabled .ensures) ∙ c .before .before .if2 .left) (sym (c .before .is-full .ensures) ∙ c .if3 .taken)
+returns-3 c =
+    let at-is-full = c .before in
+    let at-if2 = at-is-full .before in
+    let at-is-disabled = at-if2 .before in
+    let at-refunded = at-is-disabled .before .before in
+    let at-if1 = at-refunded .before .before in
+    let at-is-unsound = at-if1 .before in
+    let at-sought = at-is-unsound .before in
+    let begin = at-sought .before .before .before in
+    let a = begin .args in
+    let p = found-placed (a .o) (a .table .now) (a .peer .bytes) (at-sought .sought .result) (at-sought .sought .ensures) (sym (at-is-unsound .is-unsound .ensures) ∙ at-if1 .if1 .left) in
+    refund-full (a .o) (a .table .now) (a .peer) (a .bytes) (a .now-ms) (at-sought .sought .result) p (at-refunded .refunded .result) (at-refunded .refunded .ensures) (sym (at-is-disabled .is-disabled .ensures) ∙ at-if2 .if2 .left) (sym (at-is-full .is-full .ensures) ∙ c .if3 .taken)
 
 peer-bucket-requires : tie.Need-peer-bucket-requires
-peer-bucket-requires c κs = let a = c .before .before .before .before .before .before .before .before .before .before .before .before .before .args in
-    let p = found-placed (a .o) (a .table .now) (a .peer .bytes) (c .before .before .before .before .before .before .before .before .before .before .sought .result) (c .before .before .before .before .before .before .before .before .before .before .sought .ensures) (sym (c .before .before .before .before .before .before .before .before .before .is-unsound .ensures) ∙ c .before .before .before .before .before .before .before .before .if1 .left) in
+peer-bucket-requires c κs =
+    let at-if1 = c .before .before .before .before .before .before .before .before in
+    let at-is-unsound = at-if1 .before in
+    let at-sought = at-is-unsound .before in
+    let begin = at-sought .before .before .before in
+    let a = begin .args in
+    let p = found-placed (a .o) (a .table .now) (a .peer .bytes) (at-sought .sought .result) (at-sought .sought .ensures) (sym (at-is-unsound .is-unsound .ensures) ∙ at-if1 .if1 .left) in
     p
 
 refunded-requires-2 : tie.Need-refunded-requires-2
 refunded-requires-2 c κs = c .peer-bucket .ensures .is-sound
 
 write-row-requires : tie.Need-write-row-requires
-write-row-requires c κs = let a = c .before .before .before .before .before .before .before .before .before .before .before .before .before .before .before .before .args in
-    let p = found-placed (a .o) (a .table .now) (a .peer .bytes) (c .before .before .before .before .before .before .before .before .before .before .before .before .before .sought .result) (c .before .before .before .before .before .before .before .before .before .before .before .before .before .sought .ensures) (sym (c .before .before .before .before .before .before .before .before .before .before .before .before .is-unsound .ensures) ∙ c .before .before .before .before .before .before .before .before .before .before .before .if1 .left) in
-    (p, sym (c .before .before .before .before .before .is-full .ensures) ∙ c .before .before .before .before .if3 .left)
+write-row-requires c κs =
+    let at-if3 = c .before .before .before .before in
+    let at-is-full = at-if3 .before in
+    let at-if1 = at-is-full .before .before .before .before .before .before in
+    let at-is-unsound = at-if1 .before in
+    let at-sought = at-is-unsound .before in
+    let begin = at-sought .before .before .before in
+    let a = begin .args in
+    let p = found-placed (a .o) (a .table .now) (a .peer .bytes) (at-sought .sought .result) (at-sought .sought .ensures) (sym (at-is-unsound .is-unsound .ensures) ∙ at-if1 .if1 .left) in
+    (p, sym (at-is-full .is-full .ensures) ∙ at-if3 .if3 .left)
 
 with-requires-2 : tie.Need-with-requires-2
 with-requires-2 c κs = search needs
@@ -69,10 +98,23 @@ same-length-4 : tie.Need-same-length-4
 same-length-4 c = search needs
 
 returns-4 : tie.Need-returns-4
-returns-4 c = let a = c .before .before .before .before .before .before .before .before .before .before .before .before .before .before .before .before .before .before .before .before .args in
-    let p = found-placed (a .o) (a .table .now) (a .peer .bytes) (c .before .before .before .before .before .before .before .before .before .before .before .before .before .before .before .before .before .sought .result) (c .before .before .before .before .before .before .before .before .before .before .before .before .before .before .before .before .before .sought .ensures) (sym (c .before .before .before .before .before .before .before .before .before .before .before .before .before .before .before .before .is-unsound .ensures) ∙ c .before .before .before .before .before .before .before .before .before .before .before .before .before .before .before .if1 .left) in
+returns-4 c =
+    let at-write-row = c .before .before .before in
+    let at-refunded2 = at-write-row .before .before in
+    let at-peer-bucket = at-refunded2 .before in
+    let at-if3 = at-peer-bucket .before .before in
+    let at-is-full = at-if3 .before in
+    let at-if2 = at-is-full .before in
+    let at-is-disabled = at-if2 .before in
+    let at-refunded = at-is-disabled .before .before in
+    let at-if1 = at-refunded .before .before in
+    let at-is-unsound = at-if1 .before in
+    let at-sought = at-is-unsound .before in
+    let begin = at-sought .before .before .before in
+    let a = begin .args in
+    let p = found-placed (a .o) (a .table .now) (a .peer .bytes) (at-sought .sought .result) (at-sought .sought .ensures) (sym (at-is-unsound .is-unsound .ensures) ∙ at-if1 .if1 .left) in
     rw (c .with2 .ensures)
-    (refund-yes (a .o) (a .table .now) (a .peer) (a .bytes) (a .now-ms) (c .before .before .before .before .before .before .before .before .before .before .before .before .before .before .before .before .before .sought .result) p (c .before .before .before .before .before .before .before .before .before .before .before .before .before .refunded .result) (c .before .before .before .before .before .before .before .before .before .before .before .before .before .refunded .ensures) (sym (c .before .before .before .before .before .before .before .before .before .before .before .is-disabled .ensures) ∙ c .before .before .before .before .before .before .before .before .before .before .if2 .left) (sym (c .before .before .before .before .before .before .before .before .before .is-full .ensures) ∙ c .before .before .before .before .before .before .before .before .if3 .left) (c .before .before .before .before .before .before .peer-bucket .result) (c .before .before .before .before .before .before .peer-bucket .ensures) (c .before .before .before .before .before .refunded2 .result) (c .before .before .before .before .before .refunded2 .ensures) _ (c .before .before .before .write-row .result) (c .before .before .before .write-row .ensures))
+    (refund-yes (a .o) (a .table .now) (a .peer) (a .bytes) (a .now-ms) (at-sought .sought .result) p (at-refunded .refunded .result) (at-refunded .refunded .ensures) (sym (at-is-disabled .is-disabled .ensures) ∙ at-if2 .if2 .left) (sym (at-is-full .is-full .ensures) ∙ at-if3 .if3 .left) (at-peer-bucket .peer-bucket .result) (at-peer-bucket .peer-bucket .ensures) (at-refunded2 .refunded2 .result) (at-refunded2 .refunded2 .ensures) _ (at-write-row .write-row .result) (at-write-row .write-row .ensures))
 
 pub refund-outbound-message-spec : {M : Type 1} → statement M
 refund-outbound-message-spec =

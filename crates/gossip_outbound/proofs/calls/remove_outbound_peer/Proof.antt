@@ -31,9 +31,15 @@ same-length-2 : tie.Need-same-length-2
 same-length-2 c = search needs
 
 returns-2 : tie.Need-returns-2
-returns-2 c = let a = c .before .before .before .before .before .before .before .before .before .before .before .args in
-    let p = found-placed (a .o) (a .table .now) (a .peer .bytes) (c .before .before .before .before .before .before .before .before .sought .result) (c .before .before .before .before .before .before .before .before .sought .ensures) (sym (c .before .before .before .before .before .before .before .is-unsound .ensures) ∙ c .before .before .before .before .before .before .if1 .left) in
-    rw (c .with .ensures) (remove-done (a .o) (a .table .now) (a .peer) (p .is-sound) _ (c .before .before .before .drop-row .result) (c .before .before .before .drop-row .ensures))
+returns-2 c =
+    let at-drop-row = c .before .before .before in
+    let at-if1 = at-drop-row .before .before .before in
+    let at-is-unsound = at-if1 .before in
+    let at-sought = at-is-unsound .before in
+    let begin = at-sought .before .before .before in
+    let a = begin .args in
+    let p = found-placed (a .o) (a .table .now) (a .peer .bytes) (at-sought .sought .result) (at-sought .sought .ensures) (sym (at-is-unsound .is-unsound .ensures) ∙ at-if1 .if1 .left) in
+    rw (c .with .ensures) (remove-done (a .o) (a .table .now) (a .peer) (p .is-sound) _ (at-drop-row .drop-row .result) (at-drop-row .drop-row .ensures))
 
 pub remove-outbound-peer-spec : {M : Type 1} → statement M
 remove-outbound-peer-spec =

@@ -31,19 +31,37 @@ returns-2 c = let a = c .before .before .before .before .before .before .before 
     reserve-full (a .o) (a .table .now) (a .peer) (a .bytes) (a .now-ms) (c .before .before .before .before .sought .result) p (sym (c .before .is-full .ensures) ∙ c .if2 .taken)
 
 peer-bucket-requires : tie.Need-peer-bucket-requires
-peer-bucket-requires c κs = let a = c .before .before .before .before .before .before .before .before .args in
-    let p = found-placed (a .o) (a .table .now) (a .peer .bytes) (c .before .before .before .before .before .sought .result) (c .before .before .before .before .before .sought .ensures) (sym (c .before .before .before .before .is-unsound .ensures) ∙ c .before .before .before .if1 .left) in
+peer-bucket-requires c κs =
+    let at-if1 = c .before .before .before in
+    let at-is-unsound = at-if1 .before in
+    let at-sought = at-is-unsound .before in
+    let begin = at-sought .before .before .before in
+    let a = begin .args in
+    let p = found-placed (a .o) (a .table .now) (a .peer .bytes) (at-sought .sought .result) (at-sought .sought .ensures) (sym (at-is-unsound .is-unsound .ensures) ∙ at-if1 .if1 .left) in
     p
 
 promise-both-requires : tie.Need-promise-both-requires
-promise-both-requires c κs = let a = c .before .before .before .before .before .before .before .before .before .before .args in
-    let p = found-placed (a .o) (a .table .now) (a .peer .bytes) (c .before .before .before .before .before .before .before .sought .result) (c .before .before .before .before .before .before .before .sought .ensures) (sym (c .before .before .before .before .before .before .is-unsound .ensures) ∙ c .before .before .before .before .before .if1 .left) in
-    (placed-global (a .o) (a .table .now) (a .peer .bytes) p, c .before .peer-bucket .ensures .is-sound)
+promise-both-requires c κs =
+    let at-peer-bucket = c .before in
+    let at-if1 = at-peer-bucket .before .before .before .before in
+    let at-is-unsound = at-if1 .before in
+    let at-sought = at-is-unsound .before in
+    let begin = at-sought .before .before .before in
+    let a = begin .args in
+    let p = found-placed (a .o) (a .table .now) (a .peer .bytes) (at-sought .sought .result) (at-sought .sought .ensures) (sym (at-is-unsound .is-unsound .ensures) ∙ at-if1 .if1 .left) in
+    (placed-global (a .o) (a .table .now) (a .peer .bytes) p, at-peer-bucket .peer-bucket .ensures .is-sound)
 
 write-row-requires : tie.Need-write-row-requires
-write-row-requires c κs = let a = c .before .before .before .before .before .before .before .before .before .before .before .before .before .before .args in
-    let p = found-placed (a .o) (a .table .now) (a .peer .bytes) (c .before .before .before .before .before .before .before .before .before .before .before .sought .result) (c .before .before .before .before .before .before .before .before .before .before .before .sought .ensures) (sym (c .before .before .before .before .before .before .before .before .before .before .is-unsound .ensures) ∙ c .before .before .before .before .before .before .before .before .before .if1 .left) in
-    (p, sym (c .before .before .before .before .before .before .before .before .is-full .ensures) ∙ c .before .before .before .before .before .before .before .if2 .left)
+write-row-requires c κs =
+    let at-if2 = c .before .before .before .before .before .before .before in
+    let at-is-full = at-if2 .before in
+    let at-if1 = at-is-full .before in
+    let at-is-unsound = at-if1 .before in
+    let at-sought = at-is-unsound .before in
+    let begin = at-sought .before .before .before in
+    let a = begin .args in
+    let p = found-placed (a .o) (a .table .now) (a .peer .bytes) (at-sought .sought .result) (at-sought .sought .ensures) (sym (at-is-unsound .is-unsound .ensures) ∙ at-if1 .if1 .left) in
+    (p, sym (at-is-full .is-full .ensures) ∙ at-if2 .if2 .left)
 
 with-requires : tie.Need-with-requires
 with-requires c κs = search needs
@@ -52,10 +70,20 @@ same-length-3 : tie.Need-same-length-3
 same-length-3 c = search needs
 
 returns-3 : tie.Need-returns-3
-returns-3 c = let a = c .before .before .before .before .before .before .before .before .before .before .before .before .before .before .before .before .before .before .args in
-    let p = found-placed (a .o) (a .table .now) (a .peer .bytes) (c .before .before .before .before .before .before .before .before .before .before .before .before .before .before .before .sought .result) (c .before .before .before .before .before .before .before .before .before .before .before .before .before .before .before .sought .ensures) (sym (c .before .before .before .before .before .before .before .before .before .before .before .before .before .before .is-unsound .ensures) ∙ c .before .before .before .before .before .before .before .before .before .before .before .before .before .if1 .left) in
+returns-3 c =
+    let at-write-row = c .before .before .before in
+    let at-promise-both = at-write-row .before .before .before .before in
+    let at-peer-bucket = at-promise-both .before .before in
+    let at-if2 = at-peer-bucket .before .before in
+    let at-is-full = at-if2 .before in
+    let at-if1 = at-is-full .before in
+    let at-is-unsound = at-if1 .before in
+    let at-sought = at-is-unsound .before in
+    let begin = at-sought .before .before .before in
+    let a = begin .args in
+    let p = found-placed (a .o) (a .table .now) (a .peer .bytes) (at-sought .sought .result) (at-sought .sought .ensures) (sym (at-is-unsound .is-unsound .ensures) ∙ at-if1 .if1 .left) in
     rw (c .with .ensures)
-    (reserve-yes (a .o) (a .table .now) (a .peer) (a .bytes) (a .now-ms) (c .before .before .before .before .before .before .before .before .before .before .before .before .before .before .before .sought .result) p (sym (c .before .before .before .before .before .before .before .before .before .before .before .before .is-full .ensures) ∙ c .before .before .before .before .before .before .before .before .before .before .before .if2 .left) (c .before .before .before .before .before .before .before .before .before .peer-bucket .result) (c .before .before .before .before .before .before .before .before .before .peer-bucket .ensures) (c .before .before .before .before .before .before .before .promise-both .result) (c .before .before .before .before .before .before .before .promise-both .ensures) _ (c .before .before .before .write-row .result) (c .before .before .before .write-row .ensures))
+    (reserve-yes (a .o) (a .table .now) (a .peer) (a .bytes) (a .now-ms) (at-sought .sought .result) p (sym (at-is-full .is-full .ensures) ∙ at-if2 .if2 .left) (at-peer-bucket .peer-bucket .result) (at-peer-bucket .peer-bucket .ensures) (at-promise-both .promise-both .result) (at-promise-both .promise-both .ensures) _ (at-write-row .write-row .result) (at-write-row .write-row .ensures))
 
 pub reserve-outbound-message-spec : {M : Type 1} → statement M
 reserve-outbound-message-spec =

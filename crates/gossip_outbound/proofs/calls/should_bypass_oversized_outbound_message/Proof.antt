@@ -32,24 +32,57 @@ in-debt-requires c κs = let a = c .before .before .before .before .before .befo
     placed-global (a .o) (a .table .now) (a .peer .bytes) p
 
 returns-3 : tie.Need-returns-3
-returns-3 c = let a = c .before .before .before .before .before .before .before .before .before .args in
-    let p = found-placed (a .o) (a .table .now) (a .peer .bytes) (c .before .before .before .before .before .before .before .sought .result) (c .before .before .before .before .before .before .before .sought .ensures) (sym (c .before .before .before .before .before .before .is-unsound .ensures) ∙ c .before .before .before .before .before .if1 .left) in
-    bypass-global-debt (a .o) (a .table .now) (a .peer) (a .bytes) (a .now-ms) (p .is-sound) (sym (c .before .before .before .before .outbound-message-exceeds-single-message-capacity .ensures) ∙ not-false (c .before .before .before .before .outbound-message-exceeds-single-message-capacity .result) (c .before .before .before .if2 .left)) (sym (c .before .in-debt .ensures) ∙ c .if3 .taken)
+returns-3 c =
+    let at-in-debt = c .before in
+    let at-if2 = at-in-debt .before .before in
+    let at-outbound-message-exceeds-single-message-capacity = at-if2 .before in
+    let at-if1 = at-outbound-message-exceeds-single-message-capacity .before in
+    let at-is-unsound = at-if1 .before in
+    let at-sought = at-is-unsound .before in
+    let begin = at-sought .before .before in
+    let a = begin .args in
+    let p = found-placed (a .o) (a .table .now) (a .peer .bytes) (at-sought .sought .result) (at-sought .sought .ensures) (sym (at-is-unsound .is-unsound .ensures) ∙ at-if1 .if1 .left) in
+    bypass-global-debt (a .o) (a .table .now) (a .peer) (a .bytes) (a .now-ms) (p .is-sound) (sym (at-outbound-message-exceeds-single-message-capacity .outbound-message-exceeds-single-message-capacity .ensures) ∙ not-false (at-outbound-message-exceeds-single-message-capacity .outbound-message-exceeds-single-message-capacity .result) (at-if2 .if2 .left)) (sym (at-in-debt .in-debt .ensures) ∙ c .if3 .taken)
 
 peer-debt-requires : tie.Need-peer-debt-requires
-peer-debt-requires c κs = let a = c .before .before .before .before .before .before .before .before .before .args in
-    let p = found-placed (a .o) (a .table .now) (a .peer .bytes) (c .before .before .before .before .before .before .before .sought .result) (c .before .before .before .before .before .before .before .sought .ensures) (sym (c .before .before .before .before .before .before .is-unsound .ensures) ∙ c .before .before .before .before .before .if1 .left) in
+peer-debt-requires c κs =
+    let at-if1 = c .before .before .before .before .before in
+    let at-is-unsound = at-if1 .before in
+    let at-sought = at-is-unsound .before in
+    let begin = at-sought .before .before in
+    let a = begin .args in
+    let p = found-placed (a .o) (a .table .now) (a .peer .bytes) (at-sought .sought .result) (at-sought .sought .ensures) (sym (at-is-unsound .is-unsound .ensures) ∙ at-if1 .if1 .left) in
     p
 
 returns-4 : tie.Need-returns-4
-returns-4 c = let a = c .before .before .before .before .before .before .before .before .before .before .before .args in
-    let p = found-placed (a .o) (a .table .now) (a .peer .bytes) (c .before .before .before .before .before .before .before .before .before .sought .result) (c .before .before .before .before .before .before .before .before .before .sought .ensures) (sym (c .before .before .before .before .before .before .before .before .is-unsound .ensures) ∙ c .before .before .before .before .before .before .before .if1 .left) in
-    rw (c .if4 .taken) at (bypass-peer (a .o) (a .table .now) (a .peer) (a .bytes) (a .now-ms) (p .is-sound) (sym (c .before .before .before .before .before .before .outbound-message-exceeds-single-message-capacity .ensures) ∙ not-false (c .before .before .before .before .before .before .outbound-message-exceeds-single-message-capacity .result) (c .before .before .before .before .before .if2 .left)) (sym (c .before .before .before .in-debt .ensures) ∙ c .before .before .if3 .left) (c .before .peer-debt .result) (c .before .peer-debt .ensures))
+returns-4 c =
+    let at-peer-debt = c .before in
+    let at-if3 = at-peer-debt .before in
+    let at-in-debt = at-if3 .before in
+    let at-if2 = at-in-debt .before .before in
+    let at-outbound-message-exceeds-single-message-capacity = at-if2 .before in
+    let at-if1 = at-outbound-message-exceeds-single-message-capacity .before in
+    let at-is-unsound = at-if1 .before in
+    let at-sought = at-is-unsound .before in
+    let begin = at-sought .before .before in
+    let a = begin .args in
+    let p = found-placed (a .o) (a .table .now) (a .peer .bytes) (at-sought .sought .result) (at-sought .sought .ensures) (sym (at-is-unsound .is-unsound .ensures) ∙ at-if1 .if1 .left) in
+    rw (c .if4 .taken) at (bypass-peer (a .o) (a .table .now) (a .peer) (a .bytes) (a .now-ms) (p .is-sound) (sym (at-outbound-message-exceeds-single-message-capacity .outbound-message-exceeds-single-message-capacity .ensures) ∙ not-false (at-outbound-message-exceeds-single-message-capacity .outbound-message-exceeds-single-message-capacity .result) (at-if2 .if2 .left)) (sym (at-in-debt .in-debt .ensures) ∙ at-if3 .if3 .left) (at-peer-debt .peer-debt .result) (at-peer-debt .peer-debt .ensures))
 
 returns-5 : tie.Need-returns-5
-returns-5 c = let a = c .before .before .before .before .before .before .before .before .before .before .before .args in
-    let p = found-placed (a .o) (a .table .now) (a .peer .bytes) (c .before .before .before .before .before .before .before .before .before .sought .result) (c .before .before .before .before .before .before .before .before .before .sought .ensures) (sym (c .before .before .before .before .before .before .before .before .is-unsound .ensures) ∙ c .before .before .before .before .before .before .before .if1 .left) in
-    rw (c .if4 .left) at (bypass-peer (a .o) (a .table .now) (a .peer) (a .bytes) (a .now-ms) (p .is-sound) (sym (c .before .before .before .before .before .before .outbound-message-exceeds-single-message-capacity .ensures) ∙ not-false (c .before .before .before .before .before .before .outbound-message-exceeds-single-message-capacity .result) (c .before .before .before .before .before .if2 .left)) (sym (c .before .before .before .in-debt .ensures) ∙ c .before .before .if3 .left) (c .before .peer-debt .result) (c .before .peer-debt .ensures))
+returns-5 c =
+    let at-peer-debt = c .before in
+    let at-if3 = at-peer-debt .before in
+    let at-in-debt = at-if3 .before in
+    let at-if2 = at-in-debt .before .before in
+    let at-outbound-message-exceeds-single-message-capacity = at-if2 .before in
+    let at-if1 = at-outbound-message-exceeds-single-message-capacity .before in
+    let at-is-unsound = at-if1 .before in
+    let at-sought = at-is-unsound .before in
+    let begin = at-sought .before .before in
+    let a = begin .args in
+    let p = found-placed (a .o) (a .table .now) (a .peer .bytes) (at-sought .sought .result) (at-sought .sought .ensures) (sym (at-is-unsound .is-unsound .ensures) ∙ at-if1 .if1 .left) in
+    rw (c .if4 .left) at (bypass-peer (a .o) (a .table .now) (a .peer) (a .bytes) (a .now-ms) (p .is-sound) (sym (at-outbound-message-exceeds-single-message-capacity .outbound-message-exceeds-single-message-capacity .ensures) ∙ not-false (at-outbound-message-exceeds-single-message-capacity .outbound-message-exceeds-single-message-capacity .result) (at-if2 .if2 .left)) (sym (at-in-debt .in-debt .ensures) ∙ at-if3 .if3 .left) (at-peer-debt .peer-debt .result) (at-peer-debt .peer-debt .ensures))
 
 pub should-bypass-oversized-outbound-message-spec : {M : Type 1} → statement M
 should-bypass-oversized-outbound-message-spec =

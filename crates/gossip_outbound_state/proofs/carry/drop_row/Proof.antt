@@ -16,9 +16,12 @@ remove-at-requires c κs = let a = c .before .before .before .before .before .ar
     omega (arith, placed-inside (a .o) (a .table .now) (a .peer .bytes) i p, placed-few (a .o) (a .table .now) (a .peer .bytes) p, placed-room (a .o) (a .table .now) (a .peer .bytes) p)
 
 sub-result : tie.Need-sub-result
-sub-result c = let a = c .before .before .before .before .before .before .before .before .args in
-    let i = c .before .before .before .before .before .found .given .0 .0 in
-    let p = placed-as (a .o) (a .table .now) (a .peer .bytes) (c .before .before .before .before .before .found .given .1) (c .before .before .before .before .before .before .before .before .pre) in
+sub-result c =
+    let at-found = c .before .before .before .before .before in
+    let begin = at-found .before .before .before in
+    let a = begin .args in
+    let i = at-found .found .given .0 .0 in
+    let p = placed-as (a .o) (a .table .now) (a .peer .bytes) (at-found .found .given .1) (begin .pre) in
     omega (arith, placed-inside (a .o) (a .table .now) (a .peer .bytes) i p)
 
 enum-told : tie.Need-enum-told
@@ -31,10 +34,14 @@ same-length : tie.Need-same-length
 same-length c = search needs
 
 returns : tie.Need-returns
-returns c = let a = c .before .before .before .before .before .before .before .before .args in
-    let i = c .before .before .before .before .before .found .given .0 .0 in
-    let p = placed-as (a .o) (a .table .now) (a .peer .bytes) (c .before .before .before .before .before .found .given .1) (c .before .before .before .before .before .before .before .before .pre) in
-    dropped-known (a .o) (a .table .now) (a .peer .bytes) _ i p (c .before .before .remove-at .ensures)
+returns c =
+    let at-remove-at = c .before .before in
+    let at-found = at-remove-at .before .before .before in
+    let begin = at-found .before .before .before in
+    let a = begin .args in
+    let i = at-found .found .given .0 .0 in
+    let p = placed-as (a .o) (a .table .now) (a .peer .bytes) (at-found .found .given .1) (begin .pre) in
+    dropped-known (a .o) (a .table .now) (a .peer .bytes) _ i p (at-remove-at .remove-at .ensures)
 
 returns-2 : tie.Need-returns-2
 returns-2 c = let a = c .before .before .before .args in

@@ -39,10 +39,15 @@ enum-told-2 : tie.Need-enum-told-2
 enum-told-2 c = search needs
 
 returns : tie.Need-returns
-returns c = let a = c .before .before .before .before .before .before .before .before .args in
-    let i = c .before .before .before .before .found .given .0 .0 in
-    let p = placed-as (a .o) (a .table .now) (a .peer .bytes) (c .before .before .before .before .found .given .1) (c .before .before .before .before .before .before .before .before .pre) in
-    c .delay-of .ensures ∙ ap (λ (b : ByteTokenBucket). bytePeekDelayAfterRefill b (a .bytes) (a .now-ms)) (c .before .bucket-of .ensures) ∙ known-delay (a .o) (a .table .now) (a .peer .bytes) i p (c .before .before .entry-at .result) (c .before .before .entry-at .ensures) (a .bytes) (a .now-ms)
+returns c =
+    let at-bucket-of = c .before in
+    let at-entry-at = at-bucket-of .before in
+    let at-found = at-entry-at .before .before in
+    let begin = at-found .before .before .before .before in
+    let a = begin .args in
+    let i = at-found .found .given .0 .0 in
+    let p = placed-as (a .o) (a .table .now) (a .peer .bytes) (at-found .found .given .1) (begin .pre) in
+    c .delay-of .ensures ∙ ap (λ (b : ByteTokenBucket). bytePeekDelayAfterRefill b (a .bytes) (a .now-ms)) (at-bucket-of .bucket-of .ensures) ∙ known-delay (a .o) (a .table .now) (a .peer .bytes) i p (at-entry-at .entry-at .result) (at-entry-at .entry-at .ensures) (a .bytes) (a .now-ms)
 
 returns-2 : tie.Need-returns-2
 returns-2 c = let a = c .before .before .before .before .args in

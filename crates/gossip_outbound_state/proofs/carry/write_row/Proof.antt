@@ -27,8 +27,10 @@ insert-at-requires c κs = let a = c .before .before .before .before .before .be
     omega (arith, placed-within (a .o) (a .table .now) (a .peer .bytes) i p, room-left (a .o) (a .table .now) (a .peer .bytes) i p (rw (c .before .before .found2 .given .1) at (c .before .before .before .before .before .before .pre .1)), placed-room (a .o) (a .table .now) (a .peer .bytes) p)
 
 add-result : tie.Need-add-result
-add-result c = let a = c .before .before .before .before .before .before .before .before .before .args in
-    omega (arith, placed-few (a .o) (a .table .now) (a .peer .bytes) (c .before .before .before .before .before .before .before .before .before .pre .0))
+add-result c =
+    let begin = c .before .before .before .before .before .before .before .before .before in
+    let a = begin .args in
+    omega (arith, placed-few (a .o) (a .table .now) (a .peer .bytes) (begin .pre .0))
 
 enum-told : tie.Need-enum-told
 enum-told c = search needs
@@ -37,19 +39,29 @@ same-length : tie.Need-same-length
 same-length c = search needs
 
 returns : tie.Need-returns
-returns c = let a = c .before .before .before .before .before .before .before .before .before .args in
-    let i = c .before .before .before .before .before .found .given .0 .0 in
-    let p = placed-as (a .o) (a .table .now) (a .peer .bytes) (c .before .before .before .before .before .found .given .1) (c .before .before .before .before .before .before .before .before .before .pre .0) in
-    rw (← c .before .before .before .before .before .before .before .entry-of .ensures) (written-known (a .o) (a .table .now) (a .peer .bytes) _ i (c .before .before .before .before .before .before .before .entry-of .result) p (c .before .before .overwrite-at .ensures))
+returns c =
+    let at-overwrite-at = c .before .before in
+    let at-found = at-overwrite-at .before .before .before in
+    let at-entry-of = at-found .before .before in
+    let begin = at-entry-of .before .before in
+    let a = begin .args in
+    let i = at-found .found .given .0 .0 in
+    let p = placed-as (a .o) (a .table .now) (a .peer .bytes) (at-found .found .given .1) (begin .pre .0) in
+    rw (← at-entry-of .entry-of .ensures) (written-known (a .o) (a .table .now) (a .peer .bytes) _ i (at-entry-of .entry-of .result) p (at-overwrite-at .overwrite-at .ensures))
 
 same-length-2 : tie.Need-same-length-2
 same-length-2 c = search needs
 
 returns-2 : tie.Need-returns-2
-returns-2 c = let a = c .before .before .before .before .before .before .before .before .before .args in
-    let i = c .before .before .before .before .before .found2 .given .0 .0 in
-    let p = placed-as (a .o) (a .table .now) (a .peer .bytes) (c .before .before .before .before .before .found2 .given .1) (c .before .before .before .before .before .before .before .before .before .pre .0) in
-    rw (← c .before .before .before .before .before .before .before .entry-of .ensures) (written-new (a .o) (a .table .now) (a .peer .bytes) _ i (c .before .before .before .before .before .before .before .entry-of .result) p (c .before .before .insert-at .ensures))
+returns-2 c =
+    let at-insert-at = c .before .before in
+    let at-found2 = at-insert-at .before .before .before in
+    let at-entry-of = at-found2 .before .before in
+    let begin = at-entry-of .before .before in
+    let a = begin .args in
+    let i = at-found2 .found2 .given .0 .0 in
+    let p = placed-as (a .o) (a .table .now) (a .peer .bytes) (at-found2 .found2 .given .1) (begin .pre .0) in
+    rw (← at-entry-of .entry-of .ensures) (written-new (a .o) (a .table .now) (a .peer .bytes) _ i (at-entry-of .entry-of .result) p (at-insert-at .insert-at .ensures))
 
 returns-3 : tie.Need-returns-3
 returns-3 c = let a = c .before .before .before .before .args in

@@ -32,11 +32,19 @@ returns-2 c = let a = c .before .before .before .before .before .before .args in
     (sym (c .before .is-yes2 .ensures) ∙ not-true (c .before .is-yes2 .result) (c .if2 .taken))
 
 returns-3 : tie.Need-returns-3
-returns-3 c = let a = c .before .before .before .before .before .before .before .before .args in
-    charge-yes (a .global) (a .peer) (a .bytes) (a .now-ms) (c .before .before .before .before .before .before .before .try-consume .result) (byte-try-consume-sound (a .global) (a .bytes) (a .now-ms) (c .before .before .before .before .before .before .before .before .pre .0) (c .before .before .before .before .before .before .before .try-consume .ensures))
-    (sym (c .before .before .before .before .before .before .is-yes .ensures) ∙ not-false (c .before .before .before .before .before .before .is-yes .result) (c .before .before .before .before .before .if1 .left))
-    (c .before .before .before .before .try-consume2 .result) (byte-try-consume-sound (a .peer) (a .bytes) (a .now-ms) (c .before .before .before .before .before .before .before .before .pre .1) (c .before .before .before .before .try-consume2 .ensures))
-    (sym (c .before .before .before .is-yes2 .ensures) ∙ not-false (c .before .before .before .is-yes2 .result) (c .before .before .if2 .left))
+returns-3 c =
+    let at-if2 = c .before .before in
+    let at-is-yes2 = at-if2 .before in
+    let at-try-consume2 = at-is-yes2 .before in
+    let at-if1 = at-try-consume2 .before in
+    let at-is-yes = at-if1 .before in
+    let at-try-consume = at-is-yes .before in
+    let begin = at-try-consume .before in
+    let a = begin .args in
+    charge-yes (a .global) (a .peer) (a .bytes) (a .now-ms) (at-try-consume .try-consume .result) (byte-try-consume-sound (a .global) (a .bytes) (a .now-ms) (begin .pre .0) (at-try-consume .try-consume .ensures))
+    (sym (at-is-yes .is-yes .ensures) ∙ not-false (at-is-yes .is-yes .result) (at-if1 .if1 .left))
+    (at-try-consume2 .try-consume2 .result) (byte-try-consume-sound (a .peer) (a .bytes) (a .now-ms) (begin .pre .1) (at-try-consume2 .try-consume2 .ensures))
+    (sym (at-is-yes2 .is-yes2 .ensures) ∙ not-false (at-is-yes2 .is-yes2 .result) (at-if2 .if2 .left))
 
 pub charge-both-spec : {M : Type 1} → statement M
 charge-both-spec =

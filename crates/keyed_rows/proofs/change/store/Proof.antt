@@ -23,30 +23,48 @@ enum-known-index : tie.Need-enum-known-index
 enum-known-index c = search needs
 
 mul-put-words : tie.Need-mul-put-words
-mul-put-words c = let a = c .before .before .before .before .before .before .before .before .before .args in
-    let inside = place-inside (rawLayout (length (a .key .now)) (a .width)) (a .table .now) (a .count) (a .key .now) (c .before .before .index .given .0 .0) (sym (c .before .before .before .before .place-of .ensures) ∙ c .before .before .index .given .1) in
-    omega (arith, next-row (a .width) (a .count), row-in (a .width) (c .before .before .index .given .0 .0) (a .count) (a .width * a .count) inside (omega arith), c .before .before .before .before .before .before .before .before .before .pre)
+mul-put-words c =
+    let at-index = c .before .before in
+    let at-place-of = at-index .before .before in
+    let begin = at-place-of .before .before .before .before .before in
+    let a = begin .args in
+    let inside = place-inside (rawLayout (length (a .key .now)) (a .width)) (a .table .now) (a .count) (a .key .now) (at-index .index .given .0 .0) (sym (at-place-of .place-of .ensures) ∙ at-index .index .given .1) in
+    omega (arith, next-row (a .width) (a .count), row-in (a .width) (at-index .index .given .0 .0) (a .count) (a .width * a .count) inside (omega arith), begin .pre)
 
 add-put-words : tie.Need-add-put-words
-add-put-words c = let a = c .before .before .before .before .before .before .before .before .before .args in
-    let inside = place-inside (rawLayout (length (a .key .now)) (a .width)) (a .table .now) (a .count) (a .key .now) (c .before .before .index .given .0 .0) (sym (c .before .before .before .before .place-of .ensures) ∙ c .before .before .index .given .1) in
-    omega (arith, next-row (a .width) (a .count), row-in (a .width) (c .before .before .index .given .0 .0) (a .count) (a .width * a .count) inside (omega arith), c .before .before .before .before .before .before .before .before .before .pre)
+add-put-words c =
+    let at-index = c .before .before in
+    let at-place-of = at-index .before .before in
+    let begin = at-place-of .before .before .before .before .before in
+    let a = begin .args in
+    let inside = place-inside (rawLayout (length (a .key .now)) (a .width)) (a .table .now) (a .count) (a .key .now) (at-index .index .given .0 .0) (sym (at-place-of .place-of .ensures) ∙ at-index .index .given .1) in
+    omega (arith, next-row (a .width) (a .count), row-in (a .width) (at-index .index .given .0 .0) (a .count) (a .width * a .count) inside (omega arith), begin .pre)
 
 put-words-requires : tie.Need-put-words-requires
-put-words-requires c κs = let a = c .before .before .before .before .before .before .before .before .before .args in
-    let inside = place-inside (rawLayout (length (a .key .now)) (a .width)) (a .table .now) (a .count) (a .key .now) (c .before .before .index .given .0 .0) (sym (c .before .before .before .before .place-of .ensures) ∙ c .before .before .index .given .1) in
-    omega (arith, next-row (a .width) (a .count), row-in (a .width) (c .before .before .index .given .0 .0) (a .count) (a .width * a .count) inside (omega arith), c .before .before .before .before .before .before .before .before .before .pre)
+put-words-requires c κs =
+    let at-index = c .before .before in
+    let at-place-of = at-index .before .before in
+    let begin = at-place-of .before .before .before .before .before in
+    let a = begin .args in
+    let inside = place-inside (rawLayout (length (a .key .now)) (a .width)) (a .table .now) (a .count) (a .key .now) (at-index .index .given .0 .0) (sym (at-place-of .place-of .ensures) ∙ at-index .index .given .1) in
+    omega (arith, next-row (a .width) (a .count), row-in (a .width) (at-index .index .given .0 .0) (a .count) (a .width * a .count) inside (omega arith), begin .pre)
 
 enum-known-index-2 : tie.Need-enum-known-index-2
 enum-known-index-2 c = search needs
 
 insert-row-requires : tie.Need-insert-row-requires
-insert-row-requires c κs = let a = c .before .before .before .before .before .before .before .before .before .args in
-    omega (arith, c .before .before .before .before .before .before .before .before .before .pre, gap-within (rawLayout (length (a .key .now)) (a .width)) (a .table .now) (a .count) (a .key .now) (c .before .before .index2 .given .0 .0) (sym (c .before .before .before .before .place-of .ensures) ∙ c .before .before .index2 .given .1))
+insert-row-requires c κs =
+    let at-index2 = c .before .before in
+    let at-place-of = at-index2 .before .before in
+    let begin = at-place-of .before .before .before .before .before in
+    let a = begin .args in
+    omega (arith, begin .pre, gap-within (rawLayout (length (a .key .now)) (a .width)) (a .table .now) (a .count) (a .key .now) (at-index2 .index2 .given .0 .0) (sym (at-place-of .place-of .ensures) ∙ at-index2 .index2 .given .1))
 
 add-result : tie.Need-add-result
-add-result c = let a = c .before .before .before .before .before .before .before .before .before .before .before .before .args in
-    omega (arith, rows-below (a .width) (a .count + 1) (length (a .table .now)) (omega (arith, c .before .before .before .before .before .before .before .before .before .before .before .before .pre)) (omega (arith, c .before .before .before .before .before .before .before .before .before .before .before .before .pre)))
+add-result c =
+    let begin = c .before .before .before .before .before .before .before .before .before .before .before .before in
+    let a = begin .args in
+    omega (arith, rows-below (a .width) (a .count + 1) (length (a .table .now)) (omega (arith, begin .pre)) (omega (arith, begin .pre)))
 
 enum-told : tie.Need-enum-told
 enum-told c = search needs
@@ -55,21 +73,34 @@ same-length : tie.Need-same-length
 same-length c = search needs
 
 returns : tie.Need-returns
-returns c = let a = c .before .before .before .before .before .before .before .before .before .before .before .before .args in
-    stored-over (a .table .now) _ (a .width) (a .count) (a .key .now) (wordBytes (a .words .now)) (c .before .before .before .before .before .index .given .0 .0)
-    (omega (arith, c .before .before .before .before .before .before .before .before .before .before .before .before .pre)) (omega (arith, c .before .before .before .before .before .before .before .before .before .before .before .before .pre, length-wordBytes (a .words .now))) (λ i. c .before .before .before .before .before .before .before .before .before .before .before .slice-known .given i .fits) (Bytes-wordBytes (a .words .now))
-    (omega (arith, c .before .before .before .before .before .before .before .before .before .before .before .before .pre, next-row (a .width) (a .count)))
-    (sym (c .before .before .before .before .before .before .before .place-of .ensures) ∙ c .before .before .before .before .before .index .given .1) (c .before .before .put-words .ensures)
+returns c =
+    let at-put-words = c .before .before in
+    let at-index = at-put-words .before .before .before in
+    let at-place-of = at-index .before .before in
+    let at-slice-known = at-place-of .before .before .before .before in
+    let begin = at-slice-known .before in
+    let a = begin .args in
+    stored-over (a .table .now) _ (a .width) (a .count) (a .key .now) (wordBytes (a .words .now)) (at-index .index .given .0 .0)
+    (omega (arith, begin .pre)) (omega (arith, begin .pre, length-wordBytes (a .words .now))) (λ i. at-slice-known .slice-known .given i .fits) (Bytes-wordBytes (a .words .now))
+    (omega (arith, begin .pre, next-row (a .width) (a .count)))
+    (sym (at-place-of .place-of .ensures) ∙ at-index .index .given .1) (at-put-words .put-words .ensures)
 
 same-length-2 : tie.Need-same-length-2
 same-length-2 c = search needs
 
 returns-2 : tie.Need-returns-2
-returns-2 c = let a = c .before .before .before .before .before .before .before .before .before .before .before .before .args in
-    stored-into (a .table .now) _ (a .width) (a .count) (a .key .now) (wordBytes (a .words .now)) (c .before .before .before .before .before .index2 .given .0 .0)
-    (omega (arith, c .before .before .before .before .before .before .before .before .before .before .before .before .pre)) (omega (arith, c .before .before .before .before .before .before .before .before .before .before .before .before .pre, length-wordBytes (a .words .now))) (λ i. c .before .before .before .before .before .before .before .before .before .before .before .slice-known .given i .fits) (Bytes-wordBytes (a .words .now))
-    (omega (arith, c .before .before .before .before .before .before .before .before .before .before .before .before .pre, next-row (a .width) (a .count))) (λ i. c .before .before .before .before .before .before .before .before .before .before .shared-slice-known .given i .fits)
-    (sym (c .before .before .before .before .before .before .before .place-of .ensures) ∙ c .before .before .before .before .before .index2 .given .1) (c .before .before .insert-row .ensures)
+returns-2 c =
+    let at-insert-row = c .before .before in
+    let at-index2 = at-insert-row .before .before .before in
+    let at-place-of = at-index2 .before .before in
+    let at-shared-slice-known = at-place-of .before .before .before in
+    let at-slice-known = at-shared-slice-known .before in
+    let begin = at-slice-known .before in
+    let a = begin .args in
+    stored-into (a .table .now) _ (a .width) (a .count) (a .key .now) (wordBytes (a .words .now)) (at-index2 .index2 .given .0 .0)
+    (omega (arith, begin .pre)) (omega (arith, begin .pre, length-wordBytes (a .words .now))) (λ i. at-slice-known .slice-known .given i .fits) (Bytes-wordBytes (a .words .now))
+    (omega (arith, begin .pre, next-row (a .width) (a .count))) (λ i. at-shared-slice-known .shared-slice-known .given i .fits)
+    (sym (at-place-of .place-of .ensures) ∙ at-index2 .index2 .given .1) (at-insert-row .insert-row .ensures)
 
 same-length-3 : tie.Need-same-length-3
 same-length-3 c = search needs

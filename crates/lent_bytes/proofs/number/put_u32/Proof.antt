@@ -29,9 +29,12 @@ same-length c = search needs
 
 returns : tie.Need-returns
 returns c =
-    let a = c .before .before .before .before .before .before .before .before .before .args in
-    c .before .before .put-u162 .ensures
-    ∙ ap (λ (l : List ℕ). put l (a .at + 2) (bytes 2 (a .v / 256 ^ 2))) (c .before .before .before .before .before .before .put-u16 .ensures)
+    let at-put-u162 = c .before .before in
+    let at-put-u16 = at-put-u162 .before .before .before .before in
+    let begin = at-put-u16 .before .before .before in
+    let a = begin .args in
+    at-put-u162 .put-u162 .ensures
+    ∙ ap (λ (l : List ℕ). put l (a .at + 2) (bytes 2 (a .v / 256 ^ 2))) (at-put-u16 .put-u16 .ensures)
     ∙ put-bytes-append (a .s .now) (a .at) 2 2 (a .v) (omega arith)
 
 pub put-u32-spec : {M : Type 1} → statement M

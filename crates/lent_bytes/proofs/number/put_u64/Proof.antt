@@ -29,9 +29,12 @@ same-length c = search needs
 
 returns : tie.Need-returns
 returns c =
-    let a = c .before .before .before .before .before .before .before .before .before .args in
-    c .before .before .put-u322 .ensures
-    ∙ ap (λ (l : List ℕ). put l (a .at + 4) (bytes 4 (a .v / 256 ^ 4))) (c .before .before .before .before .before .before .put-u32 .ensures)
+    let at-put-u322 = c .before .before in
+    let at-put-u32 = at-put-u322 .before .before .before .before in
+    let begin = at-put-u32 .before .before .before in
+    let a = begin .args in
+    at-put-u322 .put-u322 .ensures
+    ∙ ap (λ (l : List ℕ). put l (a .at + 4) (bytes 4 (a .v / 256 ^ 4))) (at-put-u32 .put-u32 .ensures)
     ∙ put-bytes-append (a .s .now) (a .at) 4 4 (a .v) (omega arith)
 
 pub put-u64-spec : {M : Type 1} → statement M

@@ -21,17 +21,25 @@ same-length : tie.Need-same-length
 same-length c = search needs
 
 returns : tie.Need-returns
-returns c = let a = c .before .before .before .before .before .before .before .before .args in
-    let e = c .before .before .before .entry-at .result in
-    admit-live (a .p) (a .table .now) (a .peer) (a .bytes) (a .now-ms) (c .before .before .before .before .before .before .before .before .pre .is-sound) e (known-look (a .p) (a .table .now) (a .peer .bytes) (a .index) (c .before .before .before .before .before .before .before .before .pre) e (c .before .before .before .entry-at .ensures)) (sym (c .before .before .is-banned .ensures) ∙ c .before .if1 .taken) (c .admission-of .result) (c .admission-of .ensures)
+returns c =
+    let at-if1 = c .before in
+    let at-is-banned = at-if1 .before in
+    let at-entry-at = at-is-banned .before in
+    let begin = at-entry-at .before .before .before .before .before in
+    let a = begin .args in
+    let e = at-entry-at .entry-at .result in
+    admit-live (a .p) (a .table .now) (a .peer) (a .bytes) (a .now-ms) (begin .pre .is-sound) e (known-look (a .p) (a .table .now) (a .peer .bytes) (a .index) (begin .pre) e (at-entry-at .entry-at .ensures)) (sym (at-is-banned .is-banned .ensures) ∙ at-if1 .if1 .taken) (c .admission-of .result) (c .admission-of .ensures)
 
 entry-to-judge-requires : tie.Need-entry-to-judge-requires
 entry-to-judge-requires c κs = search needs
 
 judged-requires : tie.Need-judged-requires
-judged-requires c κs = let a = c .before .before .before .before .before .before .before .before .args in
-    let e = c .before .before .before .entry-at .result in
-    judged-on-sound (a .p .config) e (a .now-ms) (c .entry-to-judge .result) (c .entry-to-judge .ensures) (known-sound (a .p) (a .table .now) (a .peer .bytes) (a .index) (c .before .before .before .before .before .before .before .before .pre) e (c .before .before .before .entry-at .ensures))
+judged-requires c κs =
+    let at-entry-at = c .before .before .before in
+    let begin = at-entry-at .before .before .before .before .before in
+    let a = begin .args in
+    let e = at-entry-at .entry-at .result in
+    judged-on-sound (a .p .config) e (a .now-ms) (c .entry-to-judge .result) (c .entry-to-judge .ensures) (known-sound (a .p) (a .table .now) (a .peer .bytes) (a .index) (begin .pre) e (at-entry-at .entry-at .ensures))
 
 overflows-requires : tie.Need-overflows-requires
 overflows-requires c κs = search needs
@@ -43,11 +51,20 @@ same-length-2 : tie.Need-same-length-2
 same-length-2 c = search needs
 
 returns-2 : tie.Need-returns-2
-returns-2 c = let a = c .before .before .before .before .before .before .before .before .before .before .before .before .args in
-    let e = c .before .before .before .before .before .before .before .entry-at .result in
-    let x = c .before .before .before .before .entry-to-judge .result in
-    let u = update-known (a .p .config) (a .now-ms) (rowsOf (a .p) (a .table .now)) (a .peer .bytes) (few-read (a .p) (a .table .now) (c .before .before .before .before .before .before .before .before .before .before .before .before .pre .is-sound)) (in-order (a .p) (a .table .now) (c .before .before .before .before .before .before .before .before .before .before .before .before .pre .is-sound)) e (known-look (a .p) (a .table .now) (a .peer .bytes) (a .index) (c .before .before .before .before .before .before .before .before .before .before .before .before .pre) e (c .before .before .before .before .before .before .before .entry-at .ensures)) (sym (c .before .before .before .before .before .before .is-banned .ensures) ∙ c .before .before .before .before .before .if1 .left) x (c .before .before .before .before .entry-to-judge .ensures) in
-    admit-overflow (a .p) (a .table .now) (a .peer) (a .bytes) (a .now-ms) (c .before .before .before .before .before .before .before .before .before .before .before .before .pre .is-sound) x (u .among) (u .found) (c .before .before .before .judged .result) (c .before .before .before .judged .ensures) (sym (c .before .before .overflows .ensures) ∙ c .before .if2 .taken) (c .admission-of2 .result) (c .admission-of2 .ensures)
+returns-2 c =
+    let at-if2 = c .before in
+    let at-overflows = at-if2 .before in
+    let at-judged = at-overflows .before in
+    let at-entry-to-judge = at-judged .before in
+    let at-if1 = at-entry-to-judge .before in
+    let at-is-banned = at-if1 .before in
+    let at-entry-at = at-is-banned .before in
+    let begin = at-entry-at .before .before .before .before .before in
+    let a = begin .args in
+    let e = at-entry-at .entry-at .result in
+    let x = at-entry-to-judge .entry-to-judge .result in
+    let u = update-known (a .p .config) (a .now-ms) (rowsOf (a .p) (a .table .now)) (a .peer .bytes) (few-read (a .p) (a .table .now) (begin .pre .is-sound)) (in-order (a .p) (a .table .now) (begin .pre .is-sound)) e (known-look (a .p) (a .table .now) (a .peer .bytes) (a .index) (begin .pre) e (at-entry-at .entry-at .ensures)) (sym (at-is-banned .is-banned .ensures) ∙ at-if1 .if1 .left) x (at-entry-to-judge .entry-to-judge .ensures) in
+    admit-overflow (a .p) (a .table .now) (a .peer) (a .bytes) (a .now-ms) (begin .pre .is-sound) x (u .among) (u .found) (at-judged .judged .result) (at-judged .judged .ensures) (sym (at-overflows .overflows .ensures) ∙ at-if2 .if2 .taken) (c .admission-of2 .result) (c .admission-of2 .ensures)
 
 store-known-requires : tie.Need-store-known-requires
 store-known-requires c κs = search needs
@@ -59,11 +76,21 @@ same-length-3 : tie.Need-same-length-3
 same-length-3 c = search needs
 
 returns-3 : tie.Need-returns-3
-returns-3 c = let a = c .before .before .before .before .before .before .before .before .before .before .before .before .before .before .before .before .before .before .args in
-    let e = c .before .before .before .before .before .before .before .before .before .before .before .before .before .entry-at .result in
-    let x = c .before .before .before .before .before .before .before .before .before .before .entry-to-judge .result in
-    let u = update-known (a .p .config) (a .now-ms) (rowsOf (a .p) (a .table .now)) (a .peer .bytes) (few-read (a .p) (a .table .now) (c .before .before .before .before .before .before .before .before .before .before .before .before .before .before .before .before .before .before .pre .is-sound)) (in-order (a .p) (a .table .now) (c .before .before .before .before .before .before .before .before .before .before .before .before .before .before .before .before .before .before .pre .is-sound)) e (known-look (a .p) (a .table .now) (a .peer .bytes) (a .index) (c .before .before .before .before .before .before .before .before .before .before .before .before .before .before .before .before .before .before .pre) e (c .before .before .before .before .before .before .before .before .before .before .before .before .before .entry-at .ensures)) (sym (c .before .before .before .before .before .before .before .before .before .before .before .before .is-banned .ensures) ∙ c .before .before .before .before .before .before .before .before .before .before .before .if1 .left) x (c .before .before .before .before .before .before .before .before .before .before .entry-to-judge .ensures) in
-    admit-carried (a .p) (a .table .now) (a .peer) (a .bytes) (a .now-ms) (c .before .before .before .before .before .before .before .before .before .before .before .before .before .before .before .before .before .before .pre .is-sound) x (u .among) (u .found) (c .before .before .before .before .before .before .before .before .before .judged .result) (c .before .before .before .before .before .before .before .before .before .judged .ensures) (sym (c .before .before .before .before .before .before .before .before .overflows .ensures) ∙ c .before .before .before .before .before .before .before .if2 .left) (c .before .before .before .store-known .result) _ (left-same (u .stores _) (c .before .before .before .store-known .ensures)) (c .admission-of3 .result) (c .admission-of3 .ensures)
+returns-3 c =
+    let at-store-known = c .before .before .before in
+    let at-if2 = at-store-known .before .before .before .before in
+    let at-overflows = at-if2 .before in
+    let at-judged = at-overflows .before in
+    let at-entry-to-judge = at-judged .before in
+    let at-if1 = at-entry-to-judge .before in
+    let at-is-banned = at-if1 .before in
+    let at-entry-at = at-is-banned .before in
+    let begin = at-entry-at .before .before .before .before .before in
+    let a = begin .args in
+    let e = at-entry-at .entry-at .result in
+    let x = at-entry-to-judge .entry-to-judge .result in
+    let u = update-known (a .p .config) (a .now-ms) (rowsOf (a .p) (a .table .now)) (a .peer .bytes) (few-read (a .p) (a .table .now) (begin .pre .is-sound)) (in-order (a .p) (a .table .now) (begin .pre .is-sound)) e (known-look (a .p) (a .table .now) (a .peer .bytes) (a .index) (begin .pre) e (at-entry-at .entry-at .ensures)) (sym (at-is-banned .is-banned .ensures) ∙ at-if1 .if1 .left) x (at-entry-to-judge .entry-to-judge .ensures) in
+    admit-carried (a .p) (a .table .now) (a .peer) (a .bytes) (a .now-ms) (begin .pre .is-sound) x (u .among) (u .found) (at-judged .judged .result) (at-judged .judged .ensures) (sym (at-overflows .overflows .ensures) ∙ at-if2 .if2 .left) (at-store-known .store-known .result) _ (left-same (u .stores _) (at-store-known .store-known .ensures)) (c .admission-of3 .result) (c .admission-of3 .ensures)
 
 pub admit-known-spec : {M : Type 1} → statement M
 admit-known-spec =

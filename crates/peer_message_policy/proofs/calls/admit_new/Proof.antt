@@ -22,10 +22,16 @@ admission-of-requires : tie.Need-admission-of-requires
 admission-of-requires c κs = search needs
 
 returns : tie.Need-returns
-returns c = let a = c .before .before .before .before .before .before .before .before .args in
-    let x = c .before .before .before .before .new .result in
+returns c =
+    let at-if1 = c .before in
+    let at-overflows = at-if1 .before in
+    let at-judged = at-overflows .before in
+    let at-new = at-judged .before in
+    let begin = at-new .before .before .before .before in
+    let a = begin .args in
+    let x = at-new .new .result in
     let rs = rowsOf (a .p) (a .table .now) in
-    admit-overflow (a .p) (a .table .now) (a .peer) (a .bytes) (a .now-ms) (c .before .before .before .before .before .before .before .before .pre .is-sound) x (makeRoom (a .p .config) (a .now-ms) rs) (update-new (a .p .config) (a .now-ms) rs (a .peer .bytes) (unknown-look (a .p) (a .table .now) (a .peer .bytes) (a .gap) (c .before .before .before .before .before .before .before .before .pre)) x (c .before .before .before .before .new .ensures)) (c .before .before .before .judged .result) (c .before .before .before .judged .ensures) (sym (c .before .before .overflows .ensures) ∙ c .before .if1 .taken) (c .admission-of .result) (c .admission-of .ensures)
+    admit-overflow (a .p) (a .table .now) (a .peer) (a .bytes) (a .now-ms) (begin .pre .is-sound) x (makeRoom (a .p .config) (a .now-ms) rs) (update-new (a .p .config) (a .now-ms) rs (a .peer .bytes) (unknown-look (a .p) (a .table .now) (a .peer .bytes) (a .gap) (begin .pre)) x (at-new .new .ensures)) (at-judged .judged .result) (at-judged .judged .ensures) (sym (at-overflows .overflows .ensures) ∙ at-if1 .if1 .taken) (c .admission-of .result) (c .admission-of .ensures)
 
 store-new-requires : tie.Need-store-new-requires
 store-new-requires c κs = search needs
@@ -37,10 +43,17 @@ same-length : tie.Need-same-length
 same-length c = search needs
 
 returns-2 : tie.Need-returns-2
-returns-2 c = let a = c .before .before .before .before .before .before .before .before .before .before .before .before .before .before .args in
-    let x = c .before .before .before .before .before .before .before .before .before .before .new .result in
+returns-2 c =
+    let at-store-new = c .before .before .before in
+    let at-if1 = at-store-new .before .before .before .before in
+    let at-overflows = at-if1 .before in
+    let at-judged = at-overflows .before in
+    let at-new = at-judged .before in
+    let begin = at-new .before .before .before .before in
+    let a = begin .args in
+    let x = at-new .new .result in
     let rs = rowsOf (a .p) (a .table .now) in
-    admit-carried (a .p) (a .table .now) (a .peer) (a .bytes) (a .now-ms) (c .before .before .before .before .before .before .before .before .before .before .before .before .before .before .pre .is-sound) x (makeRoom (a .p .config) (a .now-ms) rs) (update-new (a .p .config) (a .now-ms) rs (a .peer .bytes) (unknown-look (a .p) (a .table .now) (a .peer .bytes) (a .gap) (c .before .before .before .before .before .before .before .before .before .before .before .before .before .before .pre)) x (c .before .before .before .before .before .before .before .before .before .before .new .ensures)) (c .before .before .before .before .before .before .before .before .before .judged .result) (c .before .before .before .before .before .before .before .before .before .judged .ensures) (sym (c .before .before .before .before .before .before .before .before .overflows .ensures) ∙ c .before .before .before .before .before .before .before .if1 .left) (c .before .before .before .store-new .result) _ (c .before .before .before .store-new .ensures) (c .admission-of2 .result) (c .admission-of2 .ensures)
+    admit-carried (a .p) (a .table .now) (a .peer) (a .bytes) (a .now-ms) (begin .pre .is-sound) x (makeRoom (a .p .config) (a .now-ms) rs) (update-new (a .p .config) (a .now-ms) rs (a .peer .bytes) (unknown-look (a .p) (a .table .now) (a .peer .bytes) (a .gap) (begin .pre)) x (at-new .new .ensures)) (at-judged .judged .result) (at-judged .judged .ensures) (sym (at-overflows .overflows .ensures) ∙ at-if1 .if1 .left) (at-store-new .store-new .result) _ (at-store-new .store-new .ensures) (c .admission-of2 .result) (c .admission-of2 .ensures)
 
 pub admit-new-spec : {M : Type 1} → statement M
 admit-new-spec =

@@ -31,9 +31,17 @@ same-length-2 : tie.Need-same-length-2
 same-length-2 c = search needs
 
 returns-2 : tie.Need-returns-2
-returns-2 c = let a = c .before .before .before .before .before .before .before .before .before .before .before .args in
-    let e = c .before .before .before .before .before .before .before .before .entry-at .result in
-    disconnected-dropped (a .p) (a .table .now) (a .peer) (a .now-ms) (c .before .before .before .before .before .before .before .before .before .before .before .pre .is-sound) e (known-look (a .p) (a .table .now) (a .peer .bytes) (a .index) (c .before .before .before .before .before .before .before .before .before .before .before .pre) e (c .before .before .before .before .before .before .before .before .entry-at .ensures)) (sym (c .before .before .before .before .before .before .before .is-banned .ensures) ∙ c .before .before .before .before .before .before .if1 .left) (sym (c .before .before .before .before .before .is-spent .ensures) ∙ c .before .before .before .before .if2 .taken) (c .before .before .drop-known .result) _ (c .before .before .drop-known .ensures)
+returns-2 c =
+    let at-drop-known = c .before .before in
+    let at-if2 = at-drop-known .before .before in
+    let at-is-spent = at-if2 .before in
+    let at-if1 = at-is-spent .before in
+    let at-is-banned = at-if1 .before in
+    let at-entry-at = at-is-banned .before in
+    let begin = at-entry-at .before .before .before in
+    let a = begin .args in
+    let e = at-entry-at .entry-at .result in
+    disconnected-dropped (a .p) (a .table .now) (a .peer) (a .now-ms) (begin .pre .is-sound) e (known-look (a .p) (a .table .now) (a .peer .bytes) (a .index) (begin .pre) e (at-entry-at .entry-at .ensures)) (sym (at-is-banned .is-banned .ensures) ∙ at-if1 .if1 .left) (sym (at-is-spent .is-spent .ensures) ∙ at-if2 .if2 .taken) (at-drop-known .drop-known .result) _ (at-drop-known .drop-known .ensures)
 
 expire-known-requires : tie.Need-expire-known-requires
 expire-known-requires c κs = search needs
@@ -42,9 +50,17 @@ same-length-3 : tie.Need-same-length-3
 same-length-3 c = search needs
 
 returns-3 : tie.Need-returns-3
-returns-3 c = let a = c .before .before .before .before .before .before .before .before .before .before .before .args in
-    let e = c .before .before .before .before .before .before .before .before .entry-at .result in
-    disconnected-expired (a .p) (a .table .now) (a .peer) (a .now-ms) (c .before .before .before .before .before .before .before .before .before .before .before .pre .is-sound) e (known-look (a .p) (a .table .now) (a .peer .bytes) (a .index) (c .before .before .before .before .before .before .before .before .before .before .before .pre) e (c .before .before .before .before .before .before .before .before .entry-at .ensures)) (sym (c .before .before .before .before .before .before .before .is-banned .ensures) ∙ c .before .before .before .before .before .before .if1 .left) (sym (c .before .before .before .before .before .is-spent .ensures) ∙ c .before .before .before .before .if2 .left) (c .before .before .expire-known .result) _ (c .before .before .expire-known .ensures)
+returns-3 c =
+    let at-expire-known = c .before .before in
+    let at-if2 = at-expire-known .before .before in
+    let at-is-spent = at-if2 .before in
+    let at-if1 = at-is-spent .before in
+    let at-is-banned = at-if1 .before in
+    let at-entry-at = at-is-banned .before in
+    let begin = at-entry-at .before .before .before in
+    let a = begin .args in
+    let e = at-entry-at .entry-at .result in
+    disconnected-expired (a .p) (a .table .now) (a .peer) (a .now-ms) (begin .pre .is-sound) e (known-look (a .p) (a .table .now) (a .peer .bytes) (a .index) (begin .pre) e (at-entry-at .entry-at .ensures)) (sym (at-is-banned .is-banned .ensures) ∙ at-if1 .if1 .left) (sym (at-is-spent .is-spent .ensures) ∙ at-if2 .if2 .left) (at-expire-known .expire-known .result) _ (at-expire-known .expire-known .ensures)
 
 pub disconnected-known-spec : {M : Type 1} → statement M
 disconnected-known-spec =

@@ -21,9 +21,14 @@ same-length : tie.Need-same-length
 same-length c = search needs
 
 returns : tie.Need-returns
-returns c = let a = c .before .before .before .before .before .before .before .before .args in
-    let e = c .before .before .before .entry-at .result in
-    invalid-live (a .p) (a .table .now) (a .peer) (a .now-ms) (c .before .before .before .before .before .before .before .before .pre .is-sound) e (known-look (a .p) (a .table .now) (a .peer .bytes) (a .index) (c .before .before .before .before .before .before .before .before .pre) e (c .before .before .before .entry-at .ensures)) (sym (c .before .before .is-banned .ensures) ∙ c .before .if1 .taken) (c .invalid-of .result) (c .invalid-of .ensures)
+returns c =
+    let at-if1 = c .before in
+    let at-is-banned = at-if1 .before in
+    let at-entry-at = at-is-banned .before in
+    let begin = at-entry-at .before .before .before .before .before in
+    let a = begin .args in
+    let e = at-entry-at .entry-at .result in
+    invalid-live (a .p) (a .table .now) (a .peer) (a .now-ms) (begin .pre .is-sound) e (known-look (a .p) (a .table .now) (a .peer .bytes) (a .index) (begin .pre) e (at-entry-at .entry-at .ensures)) (sym (at-is-banned .is-banned .ensures) ∙ at-if1 .if1 .taken) (c .invalid-of .result) (c .invalid-of .ensures)
 
 entry-to-judge-requires : tie.Need-entry-to-judge-requires
 entry-to-judge-requires c κs = search needs
@@ -41,11 +46,19 @@ same-length-2 : tie.Need-same-length-2
 same-length-2 c = search needs
 
 returns-2 : tie.Need-returns-2
-returns-2 c = let a = c .before .before .before .before .before .before .before .before .before .before .before .before .before .before .before .args in
-    let e = c .before .before .before .before .before .before .before .before .before .before .entry-at .result in
-    let x = c .before .before .before .before .before .before .before .entry-to-judge .result in
-    let u = update-known (a .p .config) (a .now-ms) (rowsOf (a .p) (a .table .now)) (a .peer .bytes) (few-read (a .p) (a .table .now) (c .before .before .before .before .before .before .before .before .before .before .before .before .before .before .before .pre .is-sound)) (in-order (a .p) (a .table .now) (c .before .before .before .before .before .before .before .before .before .before .before .before .before .before .before .pre .is-sound)) e (known-look (a .p) (a .table .now) (a .peer .bytes) (a .index) (c .before .before .before .before .before .before .before .before .before .before .before .before .before .before .before .pre) e (c .before .before .before .before .before .before .before .before .before .before .entry-at .ensures)) (sym (c .before .before .before .before .before .before .before .before .before .is-banned .ensures) ∙ c .before .before .before .before .before .before .before .before .if1 .left) x (c .before .before .before .before .before .before .before .entry-to-judge .ensures) in
-    invalid-carried (a .p) (a .table .now) (a .peer) (a .now-ms) (c .before .before .before .before .before .before .before .before .before .before .before .before .before .before .before .pre .is-sound) x (u .among) (u .found) (c .before .before .before .before .before .before .judged-invalid .result) (c .before .before .before .before .before .before .judged-invalid .ensures) (c .before .before .before .store-known .result) _ (left-same (u .stores _) (c .before .before .before .store-known .ensures)) (c .invalid-of2 .result) (c .invalid-of2 .ensures)
+returns-2 c =
+    let at-store-known = c .before .before .before in
+    let at-judged-invalid = at-store-known .before .before .before in
+    let at-entry-to-judge = at-judged-invalid .before in
+    let at-if1 = at-entry-to-judge .before in
+    let at-is-banned = at-if1 .before in
+    let at-entry-at = at-is-banned .before in
+    let begin = at-entry-at .before .before .before .before .before in
+    let a = begin .args in
+    let e = at-entry-at .entry-at .result in
+    let x = at-entry-to-judge .entry-to-judge .result in
+    let u = update-known (a .p .config) (a .now-ms) (rowsOf (a .p) (a .table .now)) (a .peer .bytes) (few-read (a .p) (a .table .now) (begin .pre .is-sound)) (in-order (a .p) (a .table .now) (begin .pre .is-sound)) e (known-look (a .p) (a .table .now) (a .peer .bytes) (a .index) (begin .pre) e (at-entry-at .entry-at .ensures)) (sym (at-is-banned .is-banned .ensures) ∙ at-if1 .if1 .left) x (at-entry-to-judge .entry-to-judge .ensures) in
+    invalid-carried (a .p) (a .table .now) (a .peer) (a .now-ms) (begin .pre .is-sound) x (u .among) (u .found) (at-judged-invalid .judged-invalid .result) (at-judged-invalid .judged-invalid .ensures) (at-store-known .store-known .result) _ (left-same (u .stores _) (at-store-known .store-known .ensures)) (c .invalid-of2 .result) (c .invalid-of2 .ensures)
 
 pub invalid-known-spec : {M : Type 1} → statement M
 invalid-known-spec =

@@ -23,10 +23,15 @@ same-length : tie.Need-same-length
 same-length c = search needs
 
 returns : tie.Need-returns
-returns c = let a = c .before .before .before .before .before .before .before .before .before .before .before .args in
-    let x = c .before .before .before .before .before .before .before .new .result in
+returns c =
+    let at-store-new = c .before .before .before in
+    let at-judged-invalid = at-store-new .before .before .before in
+    let at-new = at-judged-invalid .before in
+    let begin = at-new .before .before .before .before in
+    let a = begin .args in
+    let x = at-new .new .result in
     let rs = rowsOf (a .p) (a .table .now) in
-    invalid-carried (a .p) (a .table .now) (a .peer) (a .now-ms) (c .before .before .before .before .before .before .before .before .before .before .before .pre .is-sound) x (makeRoom (a .p .config) (a .now-ms) rs) (update-new (a .p .config) (a .now-ms) rs (a .peer .bytes) (unknown-look (a .p) (a .table .now) (a .peer .bytes) (a .gap) (c .before .before .before .before .before .before .before .before .before .before .before .pre)) x (c .before .before .before .before .before .before .before .new .ensures)) (c .before .before .before .before .before .before .judged-invalid .result) (c .before .before .before .before .before .before .judged-invalid .ensures) (c .before .before .before .store-new .result) _ (c .before .before .before .store-new .ensures) (c .invalid-of .result) (c .invalid-of .ensures)
+    invalid-carried (a .p) (a .table .now) (a .peer) (a .now-ms) (begin .pre .is-sound) x (makeRoom (a .p .config) (a .now-ms) rs) (update-new (a .p .config) (a .now-ms) rs (a .peer .bytes) (unknown-look (a .p) (a .table .now) (a .peer .bytes) (a .gap) (begin .pre)) x (at-new .new .ensures)) (at-judged-invalid .judged-invalid .result) (at-judged-invalid .judged-invalid .ensures) (at-store-new .store-new .result) _ (at-store-new .store-new .ensures) (c .invalid-of .result) (c .invalid-of .ensures)
 
 pub invalid-new-spec : {M : Type 1} → statement M
 invalid-new-spec =

@@ -21,8 +21,11 @@ same-length : tie.Need-same-length
 same-length c = search needs
 
 returns : tie.Need-returns
-returns c = let a = c .before .before .before .before .before .before .before .before .args in
-    rw (c .after .ensures) (left-out (a .p) (a .table .now) (a .peer .bytes) (a .index) (c .before .before .before .before .before .before .before .before .pre) _ (c .before .before .before .before .remove-at .ensures))
+returns c =
+    let at-remove-at = c .before .before .before .before in
+    let begin = at-remove-at .before .before .before .before in
+    let a = begin .args in
+    rw (c .after .ensures) (left-out (a .p) (a .table .now) (a .peer .bytes) (a .index) (begin .pre) _ (at-remove-at .remove-at .ensures))
 
 pub drop-known-spec : {M : Type 1} → statement M
 drop-known-spec = tie.close (tie.spec remove-at-requires sub-after after-requires same-length returns)

@@ -25,8 +25,12 @@ same-length : tie.Need-same-length
 same-length c = search needs
 
 returns-2 : tie.Need-returns-2
-returns-2 c = let a = c .before .before .before .before .before .before .before .before .before .args in
-    left-over (a .p) (a .table .now) (a .peer .bytes) (a .index) (c .before .before .before .before .before .before .before .before .before .pre .0) (a .p .ingress) _ (c .before .before .before .before .before .before .entry-left .result) (entryExpireWindows (a .entry) (a .now-ms) (a .p .config .«ban_duration_ms»)) (c .before .before .before .before .before .before .entry-left .ensures) (c .before .before .overwrite-at .ensures)
+returns-2 c =
+    let at-overwrite-at = c .before .before in
+    let at-entry-left = at-overwrite-at .before .before .before .before in
+    let begin = at-entry-left .before .before .before in
+    let a = begin .args in
+    left-over (a .p) (a .table .now) (a .peer .bytes) (a .index) (begin .pre .0) (a .p .ingress) _ (at-entry-left .entry-left .result) (entryExpireWindows (a .entry) (a .now-ms) (a .p .config .«ban_duration_ms»)) (at-entry-left .entry-left .ensures) (at-overwrite-at .overwrite-at .ensures)
 
 pub expire-known-spec : {M : Type 1} → statement M
 expire-known-spec =

@@ -26,17 +26,25 @@ same-length : tie.Need-same-length
 same-length c = search needs
 
 returns : tie.Need-returns
-returns c = let a = c .before .before .before .before .before .before .before .before .before .before .before .args in
-    let free : a .p .rows < limit (a .p .config) = omega (arith, c .before .before .before .before .before .before .if1 .taken, c .before .before .before .before .before .before .before .before .limit .ensures) in
-    rw (c .after .ensures) (left-gap (a .p) (a .table .now) (a .peer .bytes) (a .gap) (c .before .before .before .before .before .before .before .before .before .before .before .pre) (a .now-ms) (a .ingress) _ (a .entry) free (c .before .before .before .before .insert-at .ensures))
+returns c =
+    let at-insert-at = c .before .before .before .before in
+    let at-if1 = at-insert-at .before .before in
+    let at-limit = at-if1 .before .before in
+    let begin = at-limit .before .before .before in
+    let a = begin .args in
+    let free : a .p .rows < limit (a .p .config) = omega (arith, at-if1 .if1 .taken, at-limit .limit .ensures) in
+    rw (c .after .ensures) (left-gap (a .p) (a .table .now) (a .peer .bytes) (a .gap) (begin .pre) (a .now-ms) (a .ingress) _ (a .entry) free (at-insert-at .insert-at .ensures))
 
 make-room-requires : tie.Need-make-room-requires
 make-room-requires c κs = let a = c .before .before .before .before .before .before .args in
     rows-fit (a .p) (a .table .now) (c .before .before .before .before .before .before .pre .is-sound)
 
 store-requires : tie.Need-store-requires
-store-requires c κs = let a = c .before .before .before .before .before .before .before .before .before .before .args in
-    omega (arith, one-more-fits (a .p) (a .table .now) (a .peer .bytes) (a .gap) (c .before .before .before .before .before .before .before .before .before .before .pre) (a .now-ms) (c .before .before .before .make-room .result) (c .before .before .before .make-room .ensures .1))
+store-requires c κs =
+    let at-make-room = c .before .before .before in
+    let begin = at-make-room .before .before .before .before .before .before .before in
+    let a = begin .args in
+    omega (arith, one-more-fits (a .p) (a .table .now) (a .peer .bytes) (a .gap) (begin .pre) (a .now-ms) (at-make-room .make-room .result) (at-make-room .make-room .ensures .1))
 
 after-requires-2 : tie.Need-after-requires-2
 after-requires-2 c κs = search needs
@@ -45,8 +53,13 @@ same-length-2 : tie.Need-same-length-2
 same-length-2 c = search needs
 
 returns-2 : tie.Need-returns-2
-returns-2 c = let a = c .before .before .before .before .before .before .before .before .before .before .before .before .before .before .args in
-    rw (c .after2 .ensures) (left-new (a .p) (a .table .now) (a .peer .bytes) (a .gap) (c .before .before .before .before .before .before .before .before .before .before .before .before .before .before .pre) (a .now-ms) (a .ingress) (λ i. c .before .before .before .before .before .before .before .before .before .before .before .before .before .slice-known .given i .fits) _ (c .before .before .before .before .before .before .before .make-room .result) (c .before .before .before .before .before .before .before .make-room .ensures) _ (c .before .before .before .store .result) (a .entry) (c .before .before .before .store .ensures))
+returns-2 c =
+    let at-store = c .before .before .before in
+    let at-make-room = at-store .before .before .before .before in
+    let at-slice-known = at-make-room .before .before .before .before .before .before in
+    let begin = at-slice-known .before in
+    let a = begin .args in
+    rw (c .after2 .ensures) (left-new (a .p) (a .table .now) (a .peer .bytes) (a .gap) (begin .pre) (a .now-ms) (a .ingress) (λ i. at-slice-known .slice-known .given i .fits) _ (at-make-room .make-room .result) (at-make-room .make-room .ensures) _ (at-store .store .result) (a .entry) (at-store .store .ensures))
 
 pub store-new-spec : {M : Type 1} → statement M
 store-new-spec =

@@ -26,18 +26,32 @@ is-unlimited-requires c κs = search needs
 
 returns-3 : tie.Need-returns-3
 unfolding policySound
-returns-3 c = let p = c .before .before .before .before .before .before .before .before .before .args .p in
-    rw (le-leb (p .config .«max_tracked_peers») 1024 (omega arith), le-leb (p .rows) (limit (p .config)) (omega (arith, c .before .before .before .before .limit .ensures)), sym (c .before .is-unlimited .ensures) ∙ c .if3 .taken)
+returns-3 c =
+    let at-is-unlimited = c .before in
+    let at-limit = at-is-unlimited .before .before .before in
+    let begin = at-limit .before .before .before .before .before in
+    let p = begin .args .p in
+    rw (le-leb (p .config .«max_tracked_peers») 1024 (omega arith), le-leb (p .rows) (limit (p .config)) (omega (arith, at-limit .limit .ensures)), sym (at-is-unlimited .is-unlimited .ensures) ∙ c .if3 .taken)
 
 returns-4 : tie.Need-returns-4
 unfolding policySound
-returns-4 c = let p = c .before .before .before .before .before .before .before .before .before .before .before .before .args .p in
-    rw (le-leb (p .config .«max_tracked_peers») 1024 (omega arith), le-leb (p .rows) (limit (p .config)) (omega (arith, c .before .before .before .before .before .before .before .limit .ensures)), sym (c .before .before .before .before .is-unlimited .ensures) ∙ c .before .before .before .if3 .left, lt-leb (p .ingress .«in_flight_messages») (p .config .«max_in_flight_messages») (omega arith))
+returns-4 c =
+    let at-if3 = c .before .before .before in
+    let at-is-unlimited = at-if3 .before in
+    let at-limit = at-is-unlimited .before .before .before in
+    let begin = at-limit .before .before .before .before .before in
+    let p = begin .args .p in
+    rw (le-leb (p .config .«max_tracked_peers») 1024 (omega arith), le-leb (p .rows) (limit (p .config)) (omega (arith, at-limit .limit .ensures)), sym (at-is-unlimited .is-unlimited .ensures) ∙ at-if3 .if3 .left, lt-leb (p .ingress .«in_flight_messages») (p .config .«max_in_flight_messages») (omega arith))
 
 returns-5 : tie.Need-returns-5
 unfolding policySound
-returns-5 c = let p = c .before .before .before .before .before .before .before .before .before .before .before .before .before .before .args .p in
-    rw (le-leb (p .config .«max_tracked_peers») 1024 (omega arith), le-leb (p .rows) (limit (p .config)) (omega (arith, c .before .before .before .before .before .before .before .before .before .limit .ensures)), sym (c .before .before .before .before .before .before .is-unlimited .ensures) ∙ c .before .before .before .before .before .if3 .left, le-leb (p .ingress .«in_flight_messages») (p .config .«max_in_flight_messages») (omega arith))
+returns-5 c =
+    let at-if3 = c .before .before .before .before .before in
+    let at-is-unlimited = at-if3 .before in
+    let at-limit = at-is-unlimited .before .before .before in
+    let begin = at-limit .before .before .before .before .before in
+    let p = begin .args .p in
+    rw (le-leb (p .config .«max_tracked_peers») 1024 (omega arith), le-leb (p .rows) (limit (p .config)) (omega (arith, at-limit .limit .ensures)), sym (at-is-unlimited .is-unlimited .ensures) ∙ at-if3 .if3 .left, le-leb (p .ingress .«in_flight_messages») (p .config .«max_in_flight_messages») (omega arith))
 
 pub is-sound-spec : {M : Type 1} → statement M
 is-sound-spec =

@@ -37,14 +37,21 @@ get-u64-requires-3 : tie.Need-get-u64-requires-3
 get-u64-requires-3 c κs = search needs
 
 returns-3 : tie.Need-returns-3
-returns-3 c = let a = c .before .before .before .before .before .before .before .before .args in
+returns-3 c =
+    let at-get-u643 = c .before in
+    let at-if2 = at-get-u643 .before in
+    let at-get-u642 = at-if2 .before in
+    let at-if1 = at-get-u642 .before in
+    let at-get-u64 = at-if1 .before in
+    let begin = at-get-u64 .before .before .before in
+    let a = begin .args in
     sym (sound-places (a .config) (a .table .now) (a .at)
     ∙ rw (
-      ← c .before .before .before .before .before .get-u64 .ensures,
-      le-leb _ _ (c .before .before .before .before .if1 .left),
-      ← c .before .before .before .get-u642 .ensures,
-      le-leb _ _ (c .before .before .if2 .left),
-      ← c .before .get-u643 .ensures,
+      ← at-get-u64 .get-u64 .ensures,
+      le-leb _ _ (at-if1 .if1 .left),
+      ← at-get-u642 .get-u642 .ensures,
+      le-leb _ _ (at-if2 .if2 .left),
+      ← at-get-u643 .get-u643 .ensures,
       lt-leb _ _ (c .if3 .taken),
     ))
 
@@ -55,16 +62,25 @@ get-u64-requires-4 : tie.Need-get-u64-requires-4
 get-u64-requires-4 c κs = search needs
 
 returns-4 : tie.Need-returns-4
-returns-4 c = let a = c .before .before .before .before .before .before .before .before .before .before .args in
+returns-4 c =
+    let at-get-u644 = c .before in
+    let at-if3 = at-get-u644 .before in
+    let at-get-u643 = at-if3 .before in
+    let at-if2 = at-get-u643 .before in
+    let at-get-u642 = at-if2 .before in
+    let at-if1 = at-get-u642 .before in
+    let at-get-u64 = at-if1 .before in
+    let begin = at-get-u64 .before .before .before in
+    let a = begin .args in
     sym (sound-places (a .config) (a .table .now) (a .at)
     ∙ rw (
-      ← c .before .before .before .before .before .before .before .get-u64 .ensures,
-      le-leb _ _ (c .before .before .before .before .before .before .if1 .left),
-      ← c .before .before .before .before .before .get-u642 .ensures,
-      le-leb _ _ (c .before .before .before .before .if2 .left),
-      ← c .before .before .before .get-u643 .ensures,
-      le-leb _ _ (c .before .before .if3 .left),
-      ← c .before .get-u644 .ensures,
+      ← at-get-u64 .get-u64 .ensures,
+      le-leb _ _ (at-if1 .if1 .left),
+      ← at-get-u642 .get-u642 .ensures,
+      le-leb _ _ (at-if2 .if2 .left),
+      ← at-get-u643 .get-u643 .ensures,
+      le-leb _ _ (at-if3 .if3 .left),
+      ← at-get-u644 .get-u644 .ensures,
       lt-leb _ _ (c .if4 .taken),
     ))
 
@@ -75,18 +91,28 @@ ban-sound-requires : tie.Need-ban-sound-requires
 ban-sound-requires c κs = search needs
 
 returns-5 : tie.Need-returns-5
-returns-5 c = let a = c .before .before .before .before .before .before .before .before .before .before .before .args in
+returns-5 c =
+    let at-if4 = c .before in
+    let at-get-u644 = at-if4 .before in
+    let at-if3 = at-get-u644 .before in
+    let at-get-u643 = at-if3 .before in
+    let at-if2 = at-get-u643 .before in
+    let at-get-u642 = at-if2 .before in
+    let at-if1 = at-get-u642 .before in
+    let at-get-u64 = at-if1 .before in
+    let begin = at-get-u64 .before .before .before in
+    let a = begin .args in
     c .ban-sound .ensures
     ∙ sym (sound-places (a .config) (a .table .now) (a .at)
     ∙ rw (
-      ← c .before .before .before .before .before .before .before .before .get-u64 .ensures,
-      le-leb _ _ (c .before .before .before .before .before .before .before .if1 .left),
-      ← c .before .before .before .before .before .before .get-u642 .ensures,
-      le-leb _ _ (c .before .before .before .before .before .if2 .left),
-      ← c .before .before .before .before .get-u643 .ensures,
-      le-leb _ _ (c .before .before .before .if3 .left),
-      ← c .before .before .get-u644 .ensures,
-      le-leb _ _ (c .before .if4 .left),
+      ← at-get-u64 .get-u64 .ensures,
+      le-leb _ _ (at-if1 .if1 .left),
+      ← at-get-u642 .get-u642 .ensures,
+      le-leb _ _ (at-if2 .if2 .left),
+      ← at-get-u643 .get-u643 .ensures,
+      le-leb _ _ (at-if3 .if3 .left),
+      ← at-get-u644 .get-u644 .ensures,
+      le-leb _ _ (at-if4 .if4 .left),
     ))
 
 pub row-sound-spec : {M : Type 1} → statement M

@@ -28,22 +28,34 @@ same-length c = search needs
 
 returns-2 : tie.Need-returns-2
 unfolding makeRoom
-returns-2 c = let a = c .before .before .before .before .before .before .before .before .args in
-    made-pruned peer-faithful (a .table .now) (a .count) (λ i. c .before .before .before .before .before .before .before .slice-known .given i .fits) (omega (arith, c .before .before .before .before .before .before .before .before .pre))
-    (limit (a .config)) (unspent (a .now-ms)) evict (omega arith) _ (c .before .before .before .remove-spent .result) (c .before .before .before .remove-spent .ensures) (omega arith)
+returns-2 c =
+    let at-remove-spent = c .before .before .before in
+    let at-slice-known = at-remove-spent .before .before .before .before in
+    let begin = at-slice-known .before in
+    let a = begin .args in
+    made-pruned peer-faithful (a .table .now) (a .count) (λ i. at-slice-known .slice-known .given i .fits) (omega (arith, begin .pre))
+    (limit (a .config)) (unspent (a .now-ms)) evict (omega arith) _ (at-remove-spent .remove-spent .result) (at-remove-spent .remove-spent .ensures) (omega arith)
 
 evict-requires : tie.Need-evict-requires
-evict-requires c κs = let a = c .before .before .before .before .before .before .before .before .before .args in
-    omega (arith, c .before .before .before .before .before .before .before .before .before .pre, c .before .before .before .before .remove-spent .ensures .1, length-prune (a .now-ms) (rows peerLayout (a .table .now) (a .count)), length-rows peerLayout (a .table .now) (a .count))
+evict-requires c κs =
+    let at-remove-spent = c .before .before .before .before in
+    let begin = at-remove-spent .before .before .before .before .before in
+    let a = begin .args in
+    omega (arith, begin .pre, at-remove-spent .remove-spent .ensures .1, length-prune (a .now-ms) (rows peerLayout (a .table .now) (a .count)), length-rows peerLayout (a .table .now) (a .count))
 
 same-length-2 : tie.Need-same-length-2
 same-length-2 c = search needs
 
 returns-3 : tie.Need-returns-3
 unfolding makeRoom
-returns-3 c = let a = c .before .before .before .before .before .before .before .before .before .before .before .before .args in
-    made-evicted peer-faithful (a .table .now) (a .count) (λ i. c .before .before .before .before .before .before .before .before .before .before .before .slice-known .given i .fits) (omega (arith, c .before .before .before .before .before .before .before .before .before .before .before .before .pre))
-    (limit (a .config)) (unspent (a .now-ms)) evict (omega arith) _ (c .before .before .before .before .before .before .before .remove-spent .result) (c .before .before .before .before .before .before .before .remove-spent .ensures) (omega arith) _ (c .before .before .evict .result) (c .before .before .evict .ensures)
+returns-3 c =
+    let at-evict = c .before .before in
+    let at-remove-spent = at-evict .before .before .before .before .before in
+    let at-slice-known = at-remove-spent .before .before .before .before in
+    let begin = at-slice-known .before in
+    let a = begin .args in
+    made-evicted peer-faithful (a .table .now) (a .count) (λ i. at-slice-known .slice-known .given i .fits) (omega (arith, begin .pre))
+    (limit (a .config)) (unspent (a .now-ms)) evict (omega arith) _ (at-remove-spent .remove-spent .result) (at-remove-spent .remove-spent .ensures) (omega arith) _ (at-evict .evict .result) (at-evict .evict .ensures)
 
 pub make-room-spec : {M : Type 1} → statement M
 make-room-spec =

@@ -26,10 +26,15 @@ same-length : tie.Need-same-length
 same-length c = search needs
 
 returns : tie.Need-returns
-returns c = let a = c .before .before .before .before .before .before .before .before .before .args in (
-  plain-removed peer-faithful (unspent (a .now-ms)) (a .table .now) (a .count) (λ i. c .before .before .before .before .before .before .before .before .slice-known .given i .fits) (omega (arith, c .before .before .before .before .before .before .before .before .before .pre))
-      _ _ (c .before .before .before .before .before .before .gather-unspent .result) (c .before .before .before .before .before .before .gather-unspent .ensures .0) (c .before .before .before .before .before .before .gather-unspent .ensures .1) (c .before .before .zero-rows .ensures),
-  c .before .before .before .before .before .before .gather-unspent .ensures .1,
+returns c =
+    let at-zero-rows = c .before .before in
+    let at-gather-unspent = at-zero-rows .before .before .before .before in
+    let at-slice-known = at-gather-unspent .before .before in
+    let begin = at-slice-known .before in
+    let a = begin .args in (
+  plain-removed peer-faithful (unspent (a .now-ms)) (a .table .now) (a .count) (λ i. at-slice-known .slice-known .given i .fits) (omega (arith, begin .pre))
+      _ _ (at-gather-unspent .gather-unspent .result) (at-gather-unspent .gather-unspent .ensures .0) (at-gather-unspent .gather-unspent .ensures .1) (at-zero-rows .zero-rows .ensures),
+  at-gather-unspent .gather-unspent .ensures .1,
 )
 
 pub remove-spent-spec : {M : Type 1} → statement M

@@ -33,7 +33,13 @@ cast-t12 c = search needs
 returns-2 : tie.Need-returns-2
 unfolding takeMessage DiscreteTryConsumeMeets
 returns-2 c =
-    rw (sym (c .before .before .before .before .before .before .before .message-limit-disabled .ensures) ∙ c .before .before .before .before .before .before .if1 .left, c .before .missing .ensures, c .before .before .passes .ensures, c .before .before .before .before .try-consume .ensures, le-leb _ _ (c .before .before .before .before .before .before .before .before .pre))
+    let at-missing = c .before in
+    let at-passes = at-missing .before in
+    let at-try-consume = at-passes .before .before in
+    let at-if1 = at-try-consume .before .before in
+    let at-message-limit-disabled = at-if1 .before in
+    let begin = at-message-limit-disabled .before in
+    rw (sym (at-message-limit-disabled .message-limit-disabled .ensures) ∙ at-if1 .if1 .left, at-missing .missing .ensures, at-passes .passes .ensures, at-try-consume .try-consume .ensures, le-leb _ _ (begin .pre))
 
 pub take-message-spec : {M : Type 1} → statement M
 take-message-spec =

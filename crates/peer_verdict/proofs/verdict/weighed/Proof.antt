@@ -27,7 +27,12 @@ violated-requires-2 c κs = search needs
 
 returns-2 : tie.Need-returns-2
 unfolding weighed
-returns-2 c = rw (c .violated2 .ensures, rw (c .before .before .before .before .before .before .before .before .take-message .ensures) at (not-false (c .before .before .before .before .before .before .before .before .take-message .result .passes) (c .before .before .before .before .before .before .if1 .left)), rw (c .before .before .before .before .take-bytes .ensures) at (not-true (c .before .before .before .before .take-bytes .result .passes) (c .before .if2 .taken)), c .before .before .before .before .take-bytes .ensures)
+returns-2 c =
+    let at-if2 = c .before in
+    let at-take-bytes = at-if2 .before .before .before in
+    let at-if1 = at-take-bytes .before .before in
+    let at-take-message = at-if1 .before .before in
+    rw (c .violated2 .ensures, rw (at-take-message .take-message .ensures) at (not-false (at-take-message .take-message .result .passes) (at-if1 .if1 .left)), rw (at-take-bytes .take-bytes .ensures) at (not-true (at-take-bytes .take-bytes .result .passes) (at-if2 .if2 .taken)), at-take-bytes .take-bytes .ensures)
 
 try-reserve-requires : tie.Need-try-reserve-requires
 try-reserve-requires c κs = search needs
@@ -37,7 +42,14 @@ roomed-requires c κs = rw (c .before .before .before .with-levels .ensures)
 
 returns-3 : tie.Need-returns-3
 unfolding weighed
-returns-3 c = rw (c .roomed .ensures, c .before .try-reserve .ensures, c .before .before .before .before .with-levels .ensures, c .before .before .before .before .before .take-bytes .ensures, c .before .before .before .before .before .before .before .before .before .take-message .ensures, rw (c .before .before .before .before .before .before .before .before .before .take-message .ensures) at (not-false (c .before .before .before .before .before .before .before .before .before .take-message .result .passes) (c .before .before .before .before .before .before .before .if1 .left)), rw (c .before .before .before .before .before .take-bytes .ensures) at (not-false (c .before .before .before .before .before .take-bytes .result .passes) (c .before .before .if2 .left)))
+returns-3 c =
+    let at-try-reserve = c .before in
+    let at-if2 = at-try-reserve .before in
+    let at-with-levels = at-if2 .before .before in
+    let at-take-bytes = at-with-levels .before in
+    let at-if1 = at-take-bytes .before .before in
+    let at-take-message = at-if1 .before .before in
+    rw (c .roomed .ensures, at-try-reserve .try-reserve .ensures, at-with-levels .with-levels .ensures, at-take-bytes .take-bytes .ensures, at-take-message .take-message .ensures, rw (at-take-message .take-message .ensures) at (not-false (at-take-message .take-message .result .passes) (at-if1 .if1 .left)), rw (at-take-bytes .take-bytes .ensures) at (not-false (at-take-bytes .take-bytes .result .passes) (at-if2 .if2 .left)))
 
 pub weighed-spec : {M : Type 1} → statement M
 weighed-spec =

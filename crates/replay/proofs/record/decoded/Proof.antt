@@ -30,7 +30,15 @@ get-u64-requires-8 c κs = search needs
 
 returns : tie.Need-returns
 unfolding recordOf
-returns c = λ i. record { operation = c .before .before .before .before .before .before .before .before .before .before .before .before .before .before .get-u64 .ensures i; first = c .before .before .before .before .before .before .before .before .before .before .before .before .get-u642 .ensures i; second = c .before .before .before .before .before .before .before .before .before .before .get-u643 .ensures i; third = c .before .before .before .before .before .before .before .before .get-u644 .ensures i; fourth = c .before .before .before .before .before .before .get-u645 .ensures i; fifth = c .before .before .before .before .get-u646 .ensures i; sixth = c .before .before .get-u647 .ensures i; seventh = c .get-u648 .ensures i }
+returns c =
+    let at-get-u647 = c .before .before in
+    let at-get-u646 = at-get-u647 .before .before in
+    let at-get-u645 = at-get-u646 .before .before in
+    let at-get-u644 = at-get-u645 .before .before in
+    let at-get-u643 = at-get-u644 .before .before in
+    let at-get-u642 = at-get-u643 .before .before in
+    let at-get-u64 = at-get-u642 .before .before in
+    λ i. record { operation = at-get-u64 .get-u64 .ensures i; first = at-get-u642 .get-u642 .ensures i; second = at-get-u643 .get-u643 .ensures i; third = at-get-u644 .get-u644 .ensures i; fourth = at-get-u645 .get-u645 .ensures i; fifth = at-get-u646 .get-u646 .ensures i; sixth = at-get-u647 .get-u647 .ensures i; seventh = c .get-u648 .ensures i }
 
 pub decoded-spec : {M : Type 1} → statement M
 decoded-spec =

@@ -37,7 +37,12 @@ array-write-bytes c = search needs
 
 returns : tie.Need-returns
 unfolding keyOf put
-returns c = rw (c .before .put-u644 .ensures, c .before .before .before .before .put-u643 .ensures, c .before .before .before .before .before .before .before .put-u642 .ensures, c .before .before .before .before .before .before .before .before .before .before .put-u64 .ensures)
+returns c =
+    let at-put-u644 = c .before in
+    let at-put-u643 = at-put-u644 .before .before .before in
+    let at-put-u642 = at-put-u643 .before .before .before in
+    let at-put-u64 = at-put-u642 .before .before .before in
+    rw (at-put-u644 .put-u644 .ensures, at-put-u643 .put-u643 .ensures, at-put-u642 .put-u642 .ensures, at-put-u64 .put-u64 .ensures)
 
 pub key-of-spec : {M : Type 1} → statement M
 key-of-spec =

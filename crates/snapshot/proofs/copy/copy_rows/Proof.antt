@@ -39,12 +39,17 @@ same-length : tie.Need-same-length
 same-length c = search needs
 
 returns : tie.Need-returns
-returns c = let a = c .before .before .before .before .before .before .before .before .before .before .before .args in
+returns c =
+    let at-zero-rows = c .before .before in
+    let at-put-slice = at-zero-rows .before .before .before .before in
+    let at-shared-slice-known = at-put-slice .before .before .before .before in
+    let begin = at-shared-slice-known .before in
+    let a = begin .args in
     let size : (120 + 121 * a .count) - 120 ≡ 121 * a .count = omega arith in
-    copied-rows first (a .snapshot .now) (a .table .now) _ (a .count) (a .limit) (λ i. c .before .before .before .before .before .before .before .before .before .before .shared-slice-known .given i .fits) (omega arith) (omega arith)
-    (c .before .before .zero-rows .ensures
+    copied-rows first (a .snapshot .now) (a .table .now) _ (a .count) (a .limit) (λ i. at-shared-slice-known .shared-slice-known .given i .fits) (omega arith) (omega arith)
+    (at-zero-rows .zero-rows .ensures
     ∙ ap (λ (l : List ℕ). put l (121 * a .count) (zeros (121 * (a .limit - a .count))))
-    (c .before .before .before .before .before .before .put-slice .ensures ∙ ap (λ (n : ℕ). put (a .table .now) 0 (take n (drop 120 (a .snapshot .now)))) size))
+    (at-put-slice .put-slice .ensures ∙ ap (λ (n : ℕ). put (a .table .now) 0 (take n (drop 120 (a .snapshot .now)))) size))
 
 pub copy-rows-spec : {M : Type 1} → statement M
 copy-rows-spec =

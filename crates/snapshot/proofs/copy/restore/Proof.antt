@@ -31,10 +31,15 @@ same-length : tie.Need-same-length
 same-length c = search needs
 
 returns-2 : tie.Need-returns-2
-returns-2 c = let a = c .before .before .before .before .before .before .before .before .before .args in
-    read-done first (a .snapshot .now) (a .table .now) (a .policy) (c .before .before .before .before .before .before .before .before .before .pre)
-    (omega (arith, c .before .before .before .before .if1 .left, c .before .before .before .before .before .limit .ensures)) _
-    (c .before .before .before .before .before .limit .ensures) _ (c .before .before .copy-rows .ensures)
+returns-2 c =
+    let at-copy-rows = c .before .before in
+    let at-if1 = at-copy-rows .before .before in
+    let at-limit = at-if1 .before in
+    let begin = at-limit .before .before .before .before in
+    let a = begin .args in
+    read-done first (a .snapshot .now) (a .table .now) (a .policy) (begin .pre)
+    (omega (arith, at-if1 .if1 .left, at-limit .limit .ensures)) _
+    (at-limit .limit .ensures) _ (at-copy-rows .copy-rows .ensures)
 
 pub restore-spec : {M : Type 1} → statement M
 restore-spec = tie.close (tie.spec limit-requires returns copy-rows-requires same-length returns-2)

@@ -33,11 +33,16 @@ returns-2 c = let a = c .before .before .before .before .before .before .before 
     sym (load-refused first (a .snapshot .now) (a .config) (omega arith) (sym (c .before .before .read-load .ensures) ∙ c .enum-told .given .1))
 
 returns-3 : tie.Need-returns-3
-returns-3 c = let a = c .before .before .before .before .before .before .before .before .before .args in
-    let i = c .before .before .load .given .0 .0 in
+returns-3 c =
+    let at-load = c .before .before in
+    let at-read-load = at-load .before .before in
+    let at-rows-in = at-read-load .before in
+    let begin = at-rows-in .before .before .before .before in
+    let a = begin .args in
+    let i = at-load .load .given .0 .0 in
     c .record-in .ensures
-    ∙ ap (λ (n : ℕ). recordIn first (a .snapshot .now) (record { config = a .config; ingress = i; rows = n })) (c .before .before .before .before .before .rows-in .ensures)
-    ∙ sym (load-told first (a .snapshot .now) (a .config) (omega arith) i (sym (c .before .before .before .before .read-load .ensures) ∙ c .before .before .load .given .1))
+    ∙ ap (λ (n : ℕ). recordIn first (a .snapshot .now) (record { config = a .config; ingress = i; rows = n })) (at-rows-in .rows-in .ensures)
+    ∙ sym (load-told first (a .snapshot .now) (a .config) (omega arith) i (sym (at-read-load .read-load .ensures) ∙ at-load .load .given .1))
 
 pub policy-with-spec : {M : Type 1} → statement M
 policy-with-spec =

@@ -29,19 +29,38 @@ laid-out-requires : tie.Need-laid-out-requires
 laid-out-requires c κs = search needs
 
 returns : tie.Need-returns
-returns c = let z = c .before .before .before .before .before .before .before .before .args .snapshot .now in
-    let told = slots-are first (c .before .before .before .before .before .before .kinds .result) (c .before .before .before .before .lengths .result) (c .before .before .before .before .before .rows-in .result) (rowsIn first z) (c .before .before .before .before .before .before .kinds .ensures) (c .before .before .before .before .lengths .ensures) (c .before .before .before .before .before .rows-in .ensures) in
-    sym (settings-refused first z (ap (laidOut z) (sym told) ∙ sym (c .before .laid-out .ensures) ∙ not-true (c .before .laid-out .result) (c .if1 .taken)))
+returns c =
+    let at-laid-out = c .before in
+    let at-lengths = at-laid-out .before .before .before in
+    let at-rows-in = at-lengths .before in
+    let at-kinds = at-rows-in .before in
+    let begin = at-kinds .before .before in
+    let z = begin .args .snapshot .now in
+    let told = slots-are first (at-kinds .kinds .result) (at-lengths .lengths .result) (at-rows-in .rows-in .result) (rowsIn first z) (at-kinds .kinds .ensures) (at-lengths .lengths .ensures) (at-rows-in .rows-in .ensures) in
+    sym (settings-refused first z (ap (laidOut z) (sym told) ∙ sym (at-laid-out .laid-out .ensures) ∙ not-true (at-laid-out .laid-out .result) (c .if1 .taken)))
 
 read-settings-requires : tie.Need-read-settings-requires
-read-settings-requires c κs = let z = c .before .before .before .before .before .before .before .before .args .snapshot .now in
-    let told = slots-are first (c .before .before .before .before .before .before .kinds .result) (c .before .before .before .before .lengths .result) (c .before .before .before .before .before .rows-in .result) (rowsIn first z) (c .before .before .before .before .before .before .kinds .ensures) (c .before .before .before .before .lengths .ensures) (c .before .before .before .before .before .rows-in .ensures) in
-    omega (arith, laid-length first first-fits z (ap (laidOut z) (sym told) ∙ sym (c .before .laid-out .ensures) ∙ not-false (c .before .laid-out .result) (c .if1 .left)))
+read-settings-requires c κs =
+    let at-laid-out = c .before in
+    let at-lengths = at-laid-out .before .before .before in
+    let at-rows-in = at-lengths .before in
+    let at-kinds = at-rows-in .before in
+    let begin = at-kinds .before .before in
+    let z = begin .args .snapshot .now in
+    let told = slots-are first (at-kinds .kinds .result) (at-lengths .lengths .result) (at-rows-in .rows-in .result) (rowsIn first z) (at-kinds .kinds .ensures) (at-lengths .lengths .ensures) (at-rows-in .rows-in .ensures) in
+    omega (arith, laid-length first first-fits z (ap (laidOut z) (sym told) ∙ sym (at-laid-out .laid-out .ensures) ∙ not-false (at-laid-out .laid-out .result) (c .if1 .left)))
 
 returns-2 : tie.Need-returns-2
-returns-2 c = let z = c .before .before .before .before .before .before .before .before .before .args .snapshot .now in
-    let told = slots-are first (c .before .before .before .before .before .before .before .kinds .result) (c .before .before .before .before .before .lengths .result) (c .before .before .before .before .before .before .rows-in .result) (rowsIn first z) (c .before .before .before .before .before .before .before .kinds .ensures) (c .before .before .before .before .before .lengths .ensures) (c .before .before .before .before .before .before .rows-in .ensures) in
-    c .read-settings .ensures ∙ sym (settings-told first z (ap (laidOut z) (sym told) ∙ sym (c .before .before .laid-out .ensures) ∙ not-false (c .before .before .laid-out .result) (c .before .if1 .left)))
+returns-2 c =
+    let at-if1 = c .before in
+    let at-laid-out = at-if1 .before in
+    let at-lengths = at-laid-out .before .before .before in
+    let at-rows-in = at-lengths .before in
+    let at-kinds = at-rows-in .before in
+    let begin = at-kinds .before .before in
+    let z = begin .args .snapshot .now in
+    let told = slots-are first (at-kinds .kinds .result) (at-lengths .lengths .result) (at-rows-in .rows-in .result) (rowsIn first z) (at-kinds .kinds .ensures) (at-lengths .lengths .ensures) (at-rows-in .rows-in .ensures) in
+    c .read-settings .ensures ∙ sym (settings-told first z (ap (laidOut z) (sym told) ∙ sym (at-laid-out .laid-out .ensures) ∙ not-false (at-laid-out .laid-out .result) (at-if1 .if1 .left)))
 
 pub settings-in-spec : {M : Type 1} → statement M
 settings-in-spec =

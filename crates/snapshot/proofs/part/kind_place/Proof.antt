@@ -33,14 +33,27 @@ enum-told : tie.Need-enum-told
 enum-told c = search needs
 
 returns : tie.Need-returns
-returns c = let a = c .before .before .before .before .before .before .before .before .before .before .args in
-    let told = slots-are first (c .before .before .before .before .before .before .before .before .kinds .result) (c .before .before .before .before .before .before .lengths .result) (c .before .before .before .before .before .before .before .rows-in .result) (rowsIn first (a .snapshot .now)) (c .before .before .before .before .before .before .before .before .kinds .ensures) (c .before .before .before .before .before .before .lengths .ensures) (c .before .before .before .before .before .before .before .rows-in .ensures) in
-    sym (ap placed (ap (placeOf (a .kind)) (sym told) ∙ sym (c .before .before .before .place-of .ensures) ∙ c .before .found .given .1))
+returns c =
+    let at-found = c .before in
+    let at-place-of = at-found .before .before in
+    let at-lengths = at-place-of .before .before .before in
+    let at-rows-in = at-lengths .before in
+    let at-kinds = at-rows-in .before in
+    let begin = at-kinds .before .before in
+    let a = begin .args in
+    let told = slots-are first (at-kinds .kinds .result) (at-lengths .lengths .result) (at-rows-in .rows-in .result) (rowsIn first (a .snapshot .now)) (at-kinds .kinds .ensures) (at-lengths .lengths .ensures) (at-rows-in .rows-in .ensures) in
+    sym (ap placed (ap (placeOf (a .kind)) (sym told) ∙ sym (at-place-of .place-of .ensures) ∙ at-found .found .given .1))
 
 returns-2 : tie.Need-returns-2
-returns-2 c = let a = c .before .before .before .before .before .before .before .before .before .args in
-    let told = slots-are first (c .before .before .before .before .before .before .before .kinds .result) (c .before .before .before .before .before .lengths .result) (c .before .before .before .before .before .before .rows-in .result) (rowsIn first (a .snapshot .now)) (c .before .before .before .before .before .before .before .kinds .ensures) (c .before .before .before .before .before .lengths .ensures) (c .before .before .before .before .before .before .rows-in .ensures) in
-    sym (ap placed (ap (placeOf (a .kind)) (sym told) ∙ sym (c .before .before .place-of .ensures) ∙ c .enum-told .given .1))
+returns-2 c =
+    let at-place-of = c .before .before in
+    let at-lengths = at-place-of .before .before .before in
+    let at-rows-in = at-lengths .before in
+    let at-kinds = at-rows-in .before in
+    let begin = at-kinds .before .before in
+    let a = begin .args in
+    let told = slots-are first (at-kinds .kinds .result) (at-lengths .lengths .result) (at-rows-in .rows-in .result) (rowsIn first (a .snapshot .now)) (at-kinds .kinds .ensures) (at-lengths .lengths .ensures) (at-rows-in .rows-in .ensures) in
+    sym (ap placed (ap (placeOf (a .kind)) (sym told) ∙ sym (at-place-of .place-of .ensures) ∙ c .enum-told .given .1))
 
 pub kind-place-spec : {M : Type 1} → statement M
 kind-place-spec =

@@ -35,8 +35,13 @@ same-length : tie.Need-same-length
 same-length c = search needs
 
 returns-3 : tie.Need-returns-3
-returns-3 c = let a = c .before .before .before .before .before .before .before .before .before .args in
-    write-done (a .policy) (a .table .now) (a .output .now) (sym (c .before .before .before .before .before .before .is-sound-in .ensures) ∙ not-false (c .before .before .before .before .before .before .is-sound-in .result) (c .before .before .before .before .before .if1 .left)) (omega arith) _ (omega arith) _ (c .before .before .put-snapshot .ensures)
+returns-3 c =
+    let at-put-snapshot = c .before .before in
+    let at-if1 = at-put-snapshot .before .before .before in
+    let at-is-sound-in = at-if1 .before in
+    let begin = at-is-sound-in .before .before .before in
+    let a = begin .args in
+    write-done (a .policy) (a .table .now) (a .output .now) (sym (at-is-sound-in .is-sound-in .ensures) ∙ not-false (at-is-sound-in .is-sound-in .result) (at-if1 .if1 .left)) (omega arith) _ (omega arith) _ (at-put-snapshot .put-snapshot .ensures)
 
 pub write-spec : {M : Type 1} → statement M
 write-spec =

@@ -33,10 +33,15 @@ same-length : tie.Need-same-length
 same-length c = search needs
 
 returns : tie.Need-returns
-returns c = let a = c .before .before .before .before .before .before .before .before .before .before .before .before .before .before .before .before .before .args in
-    c .before .before .put-slice .ensures
+returns c =
+    let at-put-slice = c .before .before in
+    let at-put-load = at-put-slice .before .before .before .before .before in
+    let at-put-settings = at-put-load .before .before .before .before in
+    let begin = at-put-settings .before .before .before .before .before .before in
+    let a = begin .args in
+    at-put-slice .put-slice .ensures
     ∙ ap (λ (l : List ℕ). put l 120 (take (121 * a .policy .rows) (a .table .now)))
-    (c .before .before .before .before .before .before .before .put-load .ensures ∙ ap (λ (l : List ℕ). put l 104 (loadBytes (a .policy .ingress))) (c .before .before .before .before .before .before .before .before .before .before .before .put-settings .ensures))
+    (at-put-load .put-load .ensures ∙ ap (λ (l : List ℕ). put l 104 (loadBytes (a .policy .ingress))) (at-put-settings .put-settings .ensures))
     ∙ put-parts (a .policy) (a .table .now) (omega arith) (a .output .now) (omega arith)
 
 pub put-bodies-spec : {M : Type 1} → statement M

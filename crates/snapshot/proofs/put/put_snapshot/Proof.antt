@@ -36,11 +36,17 @@ same-length : tie.Need-same-length
 same-length c = search needs
 
 returns : tie.Need-returns
-returns c = let a = c .before .before .before .before .before .before .before .before .before .before .before .before .before .before .args in
-    c .before .before .put-bodies .ensures
+returns c =
+    let at-put-bodies = c .before .before in
+    let at-put-contents = at-put-bodies .before .before .before .before in
+    let at-lengths = at-put-contents .before .before .before .before in
+    let at-kinds = at-lengths .before in
+    let begin = at-kinds .before .before .before in
+    let a = begin .args in
+    at-put-bodies .put-bodies .ensures
     ∙ ap (λ (l : List ℕ). put l 32 (bodies (policyParts first (a .policy) (a .table .now) [])))
-    (c .before .before .before .before .before .before .put-contents .ensures
-    ∙ ap (λ (q : List Slot). put (a .output .now) 0 (contents q)) (slots-are first (c .before .before .before .before .before .before .before .before .before .before .before .kinds .result) (c .before .before .before .before .before .before .before .before .before .before .lengths .result) (a .policy .rows) (a .policy .rows) (c .before .before .before .before .before .before .before .before .before .before .before .kinds .ensures) (c .before .before .before .before .before .before .before .before .before .before .lengths .ensures) refl))
+    (at-put-contents .put-contents .ensures
+    ∙ ap (λ (q : List Slot). put (a .output .now) 0 (contents q)) (slots-are first (at-kinds .kinds .result) (at-lengths .lengths .result) (a .policy .rows) (a .policy .rows) (at-kinds .kinds .ensures) (at-lengths .lengths .ensures) refl))
     ∙ put-whole (a .policy) (a .table .now) (omega arith) first first-fits [] refl (a .output .now)
 
 pub put-snapshot-spec : {M : Type 1} → statement M

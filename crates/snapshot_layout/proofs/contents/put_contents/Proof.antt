@@ -57,8 +57,10 @@ cast-put-slot c = omega arith
 
 cast-put-slot-2 : tie.Need-cast-put-slot-2 Inv-loop μ-loop
 cast-put-slot-2 c =
-    let a = c .before .before .before .before .before .before .before .before .before .before .before .before .before .args in
-    let turn = c .before .before .before .before .loop in
+    let at-loop = c .before .before .before .before in
+    let begin = at-loop .before .before .before .before .before .before .before .before .before in
+    let a = begin .args in
+    let turn = at-loop .loop in
     omega (arith, sizes-step (a .kinds .now) (a .lengths .now) (turn .i) (omega arith) (omega arith))
 
 put-slot-requires : tie.Need-put-slot-requires Inv-loop μ-loop
@@ -66,8 +68,10 @@ put-slot-requires c κs = omega arith
 
 add-from : tie.Need-add-from Inv-loop μ-loop
 add-from c =
-    let a = c .before .before .before .before .before .before .before .before .before .before .before .before .before .before .before .before .args in
-    let turn = c .before .before .before .before .before .before .before .loop in
+    let at-loop = c .before .before .before .before .before .before .before in
+    let begin = at-loop .before .before .before .before .before .before .before .before .before in
+    let a = begin .args in
+    let turn = at-loop .loop in
     omega (arith, sizes-step (a .kinds .now) (a .lengths .now) (turn .i) (omega arith) (omega arith))
 
 add-i : tie.Need-add-i Inv-loop μ-loop
@@ -78,11 +82,14 @@ loop-less c = omega arith
 
 loop-again : tie.Need-loop-again Inv-loop μ-loop
 loop-again c =
-    let a = c .before .before .before .before .before .before .before .before .before .before .before .before .before .before .before .before .args in
-    let turn = c .before .before .before .before .before .before .before .loop in
+    let at-put-slot = c .before .before in
+    let at-loop = at-put-slot .before .before .before .before .before in
+    let begin = at-loop .before .before .before .before .before .before .before .before .before in
+    let a = begin .args in
+    let turn = at-loop .loop in
     let ks = a .kinds .now in
     let ns = a .lengths .now in
-    let written = c .before .before .put-slot in (
+    let written = at-put-slot .put-slot in (
       omega arith,
       (
         omega (arith, sizes-step ks ns (turn .i) (omega arith) (omega arith)),
@@ -100,12 +107,16 @@ same-length c = omega arith
 returns : tie.Need-returns Inv-loop μ-loop
 unfolding contentsFrom
 returns c =
-    let a = c .before .before .before .before .before .before .before .before .before .before .args in
-    let last = c .before .loop in
+    let at-loop = c .before in
+    let at-contents-size = at-loop .before in
+    let at-put-u16 = at-contents-size .before .before .before in
+    let begin = at-put-u16 .before .before .before .before .before in
+    let a = begin .args in
+    let last = at-loop .loop in
     let ks = a .kinds .now in
     let ns = a .lengths .now in
-    let counted = c .before .before .before .before .before .put-u16 in
-    let from = c .before .before .contents-size in
+    let counted = at-put-u16 .put-u16 in
+    let from = at-contents-size .contents-size in
     sym (put-nil (last .output) (slotPlace (last .i)))
     ∙ ap (λ (l : List Slot). put (last .output) (slotPlace (last .i)) (contentsFrom (last .from) l)) (sym (none-left ks ns (last .i) (omega arith)))
     ∙ last .inv .1 .1 .1

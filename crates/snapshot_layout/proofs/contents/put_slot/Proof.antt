@@ -33,10 +33,14 @@ same-length c = search needs
 
 returns : tie.Need-returns
 returns c =
-    let a = c .before .before .before .before .before .before .before .before .before .before .before .before .before .args in
-    let kind = c .before .before .before .before .before .before .before .before .before .before .put-u16 .ensures in
-    let place = c .before .before .before .before .before .before .put-u32 .ensures in
-    let size = c .before .before .put-u322 .ensures in
+    let at-put-u322 = c .before .before in
+    let at-put-u32 = at-put-u322 .before .before .before .before in
+    let at-put-u16 = at-put-u32 .before .before .before .before in
+    let begin = at-put-u16 .before .before .before in
+    let a = begin .args in
+    let kind = at-put-u16 .put-u16 .ensures in
+    let place = at-put-u32 .put-u32 .ensures in
+    let size = at-put-u322 .put-u322 .ensures in
     size
     ∙ ap (λ (l : List ℕ). put l (a .at + kindSize + numberSize) (bytes numberSize (a .size)))
     (place ∙ ap (λ (l : List ℕ). put l (a .at + kindSize) (bytes numberSize (a .from))) kind)

@@ -47,9 +47,12 @@ slot-says-requires c κs = omega arith
 
 returns : tie.Need-returns Inv-loop μ-loop
 returns c =
-    let a = c .before .before .before .before .before .before .before .before .before .before .args in
-    let turn = c .before .before .before .before .before .loop in
-    let told = c .before .slot-says in
+    let at-slot-says = c .before in
+    let at-loop = at-slot-says .before .before .before .before in
+    let begin = at-loop .before .before .before .before .before in
+    let a = begin .args in
+    let turn = at-loop .loop in
+    let told = at-slot-says .slot-says in
     sym
     (says-not (a .kinds .now) (a .lengths .now) (turn .i) (omega arith) (omega arith) (a .snapshot .now) (turn .from) _ (turn .inv .1 .1)
     (told .result) (told .ensures) (not-true (told .result) (c .if1 .taken)))
@@ -59,8 +62,10 @@ sub-if2 c = omega arith
 
 returns-2 : tie.Need-returns-2 Inv-loop μ-loop
 returns-2 c =
-    let a = c .before .before .before .before .before .before .before .before .before .before .before .args in
-    let turn = c .before .before .before .before .before .before .loop in
+    let at-loop = c .before .before .before .before .before .before in
+    let begin = at-loop .before .before .before .before .before in
+    let a = begin .args in
+    let turn = at-loop .loop in
     sym
     (says-past (a .kinds .now) (a .lengths .now) (turn .i) (omega arith) (omega arith) (a .snapshot .now) (turn .from) _ (turn .inv .1 .1)
     (omega arith))
@@ -76,14 +81,18 @@ loop-less c = omega arith
 
 loop-again : tie.Need-loop-again Inv-loop μ-loop
 loop-again c =
-    let a = c .before .before .before .before .before .before .before .before .before .before .before .args in
-    let turn = c .before .before .before .before .before .before .loop in
-    let told = c .before .before .slot-says in (
+    let at-if1 = c .before in
+    let at-slot-says = at-if1 .before in
+    let at-loop = at-slot-says .before .before .before .before in
+    let begin = at-loop .before .before .before .before .before in
+    let a = begin .args in
+    let turn = at-loop .loop in
+    let told = at-slot-says .slot-says in (
       omega arith,
       (
         omega arith,
         says-goes-on (a .kinds .now) (a .lengths .now) (turn .i) (omega arith) (omega arith) (a .snapshot .now) (turn .from) _ (turn .inv .1 .1)
-            (told .result) (told .ensures) (not-false (told .result) (c .before .if1 .left)),
+            (told .result) (told .ensures) (not-false (told .result) (at-if1 .if1 .left)),
       ),
     )
 

@@ -52,8 +52,10 @@ shared-slice-read-if1 c = omega arith
 
 returns : tie.Need-returns Inv-loop μ-loop
 returns c =
-    let a = c .before .before .before .before .before .before .before .before .args in
-    let turn = c .before .before .before .before .loop in
+    let at-loop = c .before .before .before .before in
+    let begin = at-loop .before .before .before .before in
+    let a = begin .args in
+    let turn = at-loop .loop in
     let ks = a .kinds .now in
     let ns = a .lengths .now in
     let later : Place = placeFrom (a .kind) (turn .from + getD ns (turn .i) 0) (slotsLeft ks ns (turn .i + 1)) in
@@ -69,8 +71,10 @@ loop-less c = omega arith
 
 loop-again : tie.Need-loop-again Inv-loop μ-loop
 loop-again c =
-    let a = c .before .before .before .before .before .before .before .before .args in
-    let turn = c .before .before .before .before .loop in
+    let at-loop = c .before .before .before .before in
+    let begin = at-loop .before .before .before .before in
+    let a = begin .args in
+    let turn = at-loop .loop in
     let ks = a .kinds .now in
     let ns = a .lengths .now in
     let later : Place = placeFrom (a .kind) (turn .from + getD ns (turn .i) 0) (slotsLeft ks ns (turn .i + 1)) in (

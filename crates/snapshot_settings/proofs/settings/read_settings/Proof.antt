@@ -106,20 +106,29 @@ get-u64-requires-9 c κs = search needs
 
 returns-4 : tie.Need-returns-4
 returns-4 c =
-    let a = c .before .before .before .before .before .before .before .before .before .before .before .before .before .args in
-    let burst = c .before .before .before .before .before .before .before .before .before .before .before .get-u64 in
-    let threshold = c .before .before .before .before .before .before .before .before .before .get-u642 in
-    let messages = c .before .before .before .before .before .before .before .get-u643 in
+    let at-get-u648 = c .before in
+    let at-get-u647 = at-get-u648 .before in
+    let at-get-u646 = at-get-u647 .before in
+    let at-get-u645 = at-get-u646 .before in
+    let at-get-u644 = at-get-u645 .before in
+    let at-get-u643 = at-get-u644 .before .before in
+    let at-get-u642 = at-get-u643 .before .before in
+    let at-get-u64 = at-get-u642 .before .before in
+    let begin = at-get-u64 .before .before in
+    let a = begin .args in
+    let burst = at-get-u64 .get-u64 in
+    let threshold = at-get-u642 .get-u642 in
+    let messages = at-get-u643 .get-u643 in
     sym
     (settings-places (a .bytes .now) (a .at)
     ∙ rw (
-      ← c .before .before .before .before .before .get-u644 .ensures,
+      ← at-get-u644 .get-u644 .ensures,
       ← burst .ensures,
-      ← c .before .before .before .before .get-u645 .ensures,
-      ← c .before .before .before .get-u646 .ensures,
+      ← at-get-u645 .get-u645 .ensures,
+      ← at-get-u646 .get-u646 .ensures,
       ← threshold .ensures,
-      ← c .before .before .get-u647 .ensures,
-      ← c .before .get-u648 .ensures,
+      ← at-get-u647 .get-u647 .ensures,
+      ← at-get-u648 .get-u648 .ensures,
       ← messages .ensures,
       ← c .get-u649 .ensures,
       le-leb (burst .result) 4294967295 (omega arith),

@@ -19,8 +19,12 @@ use Rattle.snapshot_text.proofs.line.row_line.Tie as tie
 row-written : (c : tie.After-out4)
     → Wrote (zeros 300) 0 (hexText (c .before .before .before .before .before .before .before .before .before .before .before .before .args .row .key .bytes) ++ columnsText 13 (entryWords (c .before .before .before .before .before .before .before .before .before .before .before .before .args .row .entry))) (c .before .put-columns .result) (c .before .put-columns .last .0)
 row-written c =
-    wrote-as (ap (λ (ns : List ℕ). hexText (c .before .before .before .before .before .before .before .before .before .before .before .before .args .row .key .bytes) ++ columnsText 13 ns) (c .before .before .before .before .words-of .ensures))
-    (more-over 300 (c .before .before .before .before .before .before .before .put-hex .ensures) (c .before .put-columns .ensures))
+    let at-put-columns = c .before in
+    let at-words-of = at-put-columns .before .before .before in
+    let at-put-hex = at-words-of .before .before .before in
+    let begin = at-put-hex .before .before .before .before .before in
+    wrote-as (ap (λ (ns : List ℕ). hexText (begin .args .row .key .bytes) ++ columnsText 13 ns) (at-words-of .words-of .ensures))
+    (more-over 300 (at-put-hex .put-hex .ensures) (at-put-columns .put-columns .ensures))
 
 slice-aggregate-put-hex : tie.Need-slice-aggregate-put-hex
 slice-aggregate-put-hex c = search needs
@@ -41,10 +45,14 @@ slice-aggregate-put-columns-2 : tie.Need-slice-aggregate-put-columns-2
 slice-aggregate-put-columns-2 c = search needs
 
 put-columns-requires : tie.Need-put-columns-requires
-put-columns-requires c κs = let row = c .before .before .before .before .before .before .before .before .before .before .args .row in
+put-columns-requires c κs =
+    let at-words-of = c .before .before in
+    let at-put-hex = at-words-of .before .before .before in
+    let begin = at-put-hex .before .before .before .before .before in
+    let row = begin .args .row in
     let h : length (row .key .bytes) ≡ 33 = search needs in
-    let eleven : length (c .before .before .words-of .result) ≡ 11 = ap length (c .before .before .words-of .ensures) ∙ length-entryWords (row .entry) in
-    (omega arith, omega (arith, room-over 300 (c .before .before .before .before .before .put-hex .ensures) 231 (omega (arith, length-hex (row .key .bytes)))))
+    let eleven : length (at-words-of .words-of .result) ≡ 11 = ap length (at-words-of .words-of .ensures) ∙ length-entryWords (row .entry) in
+    (omega arith, omega (arith, room-over 300 (at-put-hex .put-hex .ensures) 231 (omega (arith, length-hex (row .key .bytes)))))
 
 array-write-out : tie.Need-array-write-out
 array-write-out c = let row = c .before .before .before .before .before .before .before .before .before .before .before .before .args .row in

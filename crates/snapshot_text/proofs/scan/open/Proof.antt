@@ -27,7 +27,10 @@ same-length c = search needs
 
 returns-2 : tie.Need-returns-2
 unfolding OpenMeets
-returns-2 c = rw (le-ltb longestSnapshot (length (c .before .before .before .before .before .before .before .before .args .input .now)) (omega arith)) (c .before .before .before .read .result, c .begun2 .ensures, c .before .before .before .read .ensures)
+returns-2 c =
+    let at-read = c .before .before .before in
+    let begin = at-read .before .before .before .before .before in
+    rw (le-ltb longestSnapshot (length (begin .args .input .now)) (omega arith)) (at-read .read .result, c .begun2 .ensures, at-read .read .ensures)
 
 pub open-spec : {M : Type 1} → statement M
 open-spec =

@@ -43,12 +43,17 @@ same-length : tie.Need-same-length
 same-length c = search needs
 
 returns : tie.Need-returns
-returns c = let a = c .before .before .before .before .before .before .before .before .before .before .before .before .before .before .before .args in
+returns c =
+    let at-put-words = c .before .before in
+    let at-put-slice = at-put-words .before .before .before .before in
+    let at-move-up = at-put-slice .before .before .before .before in
+    let begin = at-move-up .before .before .before .before .before in
+    let a = begin .args in
     let at : ℕ = a .width * a .index in
     let key = a .key .now in
     let numbers : List ℕ = wordBytes (a .words .now) in
-    c .before .before .put-words .ensures ∙ ap (λ (l : List ℕ). put l (at + length key) numbers) (c .before .before .before .before .before .before .put-slice .ensures)
-    ∙ ap (λ (l : List ℕ). put (put l at key) (at + length key) numbers) (c .before .before .before .before .before .before .before .before .before .before .move-up .ensures)
+    at-put-words .put-words .ensures ∙ ap (λ (l : List ℕ). put l (at + length key) numbers) (at-put-slice .put-slice .ensures)
+    ∙ ap (λ (l : List ℕ). put (put l at key) (at + length key) numbers) (at-move-up .move-up .ensures)
     ∙ inserted (a .table .now) (a .width) (a .count) (a .index) key numbers (omega arith) (omega arith) (omega (arith, length-wordBytes (a .words .now)))
 
 pub insert-row-spec : {M : Type 1} → statement M

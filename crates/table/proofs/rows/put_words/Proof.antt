@@ -46,15 +46,19 @@ loop-less : tie.Need-loop-less Inv-loop μ-loop
 loop-less c = omega arith
 
 loop-again : tie.Need-loop-again Inv-loop μ-loop
-loop-again c = let a = c .before .before .before .before .before .before .before .before .before .args in
-    let turn = c .before .before .before .before .before .before .loop in
+loop-again c =
+    let at-put-u64 = c .before .before in
+    let at-loop = at-put-u64 .before .before .before .before in
+    let begin = at-loop .before .before .before in
+    let a = begin .args in
+    let turn = at-loop .loop in
     let s = a .table .now in
     let vs = a .words .now in (
       omega arith,
       (
-        c .before .before .put-u64 .ensures ∙ ap (λ (l : List ℕ). put l (a .at + 8 * turn .i) (bytes 8 (getD vs (turn .i) 0))) (turn .inv .1 .0)
+        at-put-u64 .put-u64 .ensures ∙ ap (λ (l : List ℕ). put l (a .at + 8 * turn .i) (bytes 8 (getD vs (turn .i) 0))) (turn .inv .1 .0)
             ∙ words-more s (a .at) vs (turn .i) (omega arith) (omega arith),
-        c .before .before .put-u64 .kept .0 ∙ turn .inv .1 .1,
+        at-put-u64 .put-u64 .kept .0 ∙ turn .inv .1 .1,
       ),
     )
 

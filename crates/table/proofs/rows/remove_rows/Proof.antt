@@ -51,9 +51,13 @@ same-length : tie.Need-same-length
 same-length c = search needs
 
 returns : tie.Need-returns
-returns c = let a = c .before .before .before .before .before .before .before .before .before .args in
-    c .before .before .fill-zeros .ensures
-    ∙ ap (λ (l : List ℕ). put l (a .width * a .index + a .width * (a .count - (a .index + a .run))) (zeros (a .width * a .run))) (c .before .before .before .before .before .before .move-down .ensures)
+returns c =
+    let at-fill-zeros = c .before .before in
+    let at-move-down = at-fill-zeros .before .before .before .before in
+    let begin = at-move-down .before .before .before in
+    let a = begin .args in
+    at-fill-zeros .fill-zeros .ensures
+    ∙ ap (λ (l : List ℕ). put l (a .width * a .index + a .width * (a .count - (a .index + a .run))) (zeros (a .width * a .run))) (at-move-down .move-down .ensures)
     ∙ removed (a .table .now) (a .width) (a .count) (a .index) (a .run) (omega arith) (omega arith)
 
 pub remove-rows-spec : {M : Type 1} → statement M

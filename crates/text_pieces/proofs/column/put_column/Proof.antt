@@ -21,11 +21,16 @@ put-blanks-requires : tie.Need-put-blanks-requires
 put-blanks-requires c κs = let a = c .before .before .before .before .args in omega (arith, length-column (a .width) (a .n), c .before .before .width .ensures, c .before .left-of .ensures)
 
 put-number-requires : tie.Need-put-number-requires
-put-number-requires c κs = let a = c .before .before .before .before .before .before .before .before .args in let w = c .before .before .before .put-blanks .ensures in
-    let size = length-replicate {A = ℕ} (c .before .before .before .before .before .left-of .result) 32 in
+put-number-requires c κs =
+    let at-put-blanks = c .before .before .before in
+    let at-left-of = at-put-blanks .before .before in
+    let at-width = at-left-of .before in
+    let begin = at-width .before .before in
+    let a = begin .args in let w = at-put-blanks .put-blanks .ensures in
+    let size = length-replicate {A = ℕ} (at-left-of .left-of .result) 32 in
     let column = length-column (a .width) (a .n) in
-    let digits = c .before .before .before .before .before .before .width .ensures in
-    let left = c .before .before .before .before .before .left-of .ensures in
+    let digits = at-width .width .ensures in
+    let left = at-left-of .left-of .ensures in
     omega (arith, w .behind, wrote-length w (omega arith))
 
 same-length : tie.Need-same-length
@@ -33,9 +38,15 @@ same-length c = search needs
 
 returns : tie.Need-returns
 unfolding columnText
-returns c = let a = c .before .before .before .before .before .before .before .before .before .before .before .args in
-    let left : c .before .before .before .before .before .before .before .before .left-of .result ≡ a .width - length (digitsOf (a .n)) = c .before .before .before .before .before .before .before .before .left-of .ensures ∙ ap (λ (k : ℕ). a .width - k) (c .before .before .before .before .before .before .before .before .before .width .ensures) in
-    wrote-as (ap (λ (k : ℕ). blanks k ++ numberText (a .n)) left) (wrote-more (c .before .before .before .before .before .before .put-blanks .ensures) (omega arith) (c .before .before .put-number .ensures))
+returns c =
+    let at-put-number = c .before .before in
+    let at-put-blanks = at-put-number .before .before .before .before in
+    let at-left-of = at-put-blanks .before .before in
+    let at-width = at-left-of .before in
+    let begin = at-width .before .before in
+    let a = begin .args in
+    let left : at-left-of .left-of .result ≡ a .width - length (digitsOf (a .n)) = at-left-of .left-of .ensures ∙ ap (λ (k : ℕ). a .width - k) (at-width .width .ensures) in
+    wrote-as (ap (λ (k : ℕ). blanks k ++ numberText (a .n)) left) (wrote-more (at-put-blanks .put-blanks .ensures) (omega arith) (at-put-number .put-number .ensures))
 
 pub put-column-spec : {M : Type 1} → statement M
 put-column-spec =

@@ -36,13 +36,17 @@ loop-less : tie.Need-loop-less Inv-loop μ-loop
 loop-less c = omega arith
 
 loop-again : tie.Need-loop-again Inv-loop μ-loop
-loop-again c = let a = c .before .before .before .before .before .before .before .before .before .args in let turn = c .before .before .before .before .before .before .loop in let w = c .before .before .put-column .ensures in (
+loop-again c =
+    let at-put-column = c .before .before in
+    let at-loop = at-put-column .before .before .before .before in
+    let begin = at-loop .before .before .before in
+    let a = begin .args in let turn = at-loop .loop in let w = at-put-column .put-column .ensures in (
   omega arith,
   (
     omega (arith, w .behind, column-fits (a .width) (getD (a .numbers .now) (turn .i) 0) (omega arith)),
     (
       wrote-as (sym (columns-more (a .width) (a .numbers .now) (turn .i) (omega arith))) (wrote-more (turn .inv .1 .1 .0) (omega arith) w),
-      c .before .before .put-column .kept .0 ∙ turn .inv .1 .1 .1,
+      at-put-column .put-column .kept .0 ∙ turn .inv .1 .1 .1,
     ),
   ),
 )

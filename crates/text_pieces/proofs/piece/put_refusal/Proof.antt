@@ -27,8 +27,10 @@ refusal-written : (c : tie.After-slice-known3)
     → Wrote (c .before .before .before .before .before .before .before .before .before .before .args .out .now) 0 (refusalText (c .before .before .before .before .before .before .before .before .before .before .args .number)) (c .before .before .put-number .result + 1) (set (c .before .before .put-number .last .0) (c .before .before .put-number .result) 10)
 unfolding refusalText
 refusal-written c =
-    wrote-as (append-assoc refusalWord (numberText (c .before .before .before .before .before .before .before .before .before .before .args .number)) (10 ∷ []))
-    (wrote-more (number-written c) (omega arith) (wrote-byte (c .before .before .put-number .last .0) (c .before .before .put-number .result) 10 (omega (arith, newline-room c))))
+    let at-put-number = c .before .before in
+    let begin = at-put-number .before .before .before .before .before .before .before .before in
+    wrote-as (append-assoc refusalWord (numberText (begin .args .number)) (10 ∷ []))
+    (wrote-more (number-written c) (omega arith) (wrote-byte (at-put-number .put-number .last .0) (at-put-number .put-number .result) 10 (omega (arith, newline-room c))))
 
 slice-aggregate-put-text : tie.Need-slice-aggregate-put-text
 slice-aggregate-put-text c = search needs

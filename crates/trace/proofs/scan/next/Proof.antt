@@ -41,15 +41,23 @@ same-length : tie.Need-same-length
 same-length c = search needs
 
 returns-2 : tie.Need-returns-2
-returns-2 c = let a = c .before .before .before .before .before .before .before .before .args in
-    next-in (a .scan) (a .input .now) (a .table .now) (c .before .before .next-settings .result) _ (c .before .before .before .before .enum-told2 .given .1) (c .before .before .next-settings .ensures)
+returns-2 c =
+    let at-next-settings = c .before .before in
+    let at-enum-told2 = at-next-settings .before .before in
+    let begin = at-enum-told2 .before .before .before .before in
+    let a = begin .args in
+    next-in (a .scan) (a .input .now) (a .table .now) (at-next-settings .next-settings .result) _ (at-enum-told2 .enum-told2 .given .1) (at-next-settings .next-settings .ensures)
 
 same-length-2 : tie.Need-same-length-2
 same-length-2 c = search needs
 
 returns-3 : tie.Need-returns-3
-returns-3 c = let a = c .before .before .before .before .before .before .before .before .args in
-    next-in (a .scan) (a .input .now) (a .table .now) (c .before .before .next-event .result) _ (c .before .before .before .before .enum-told3 .given .1) (c .before .before .next-event .ensures)
+returns-3 c =
+    let at-next-event = c .before .before in
+    let at-enum-told3 = at-next-event .before .before in
+    let begin = at-enum-told3 .before .before .before .before in
+    let a = begin .args in
+    next-in (a .scan) (a .input .now) (a .table .now) (at-next-event .next-event .result) _ (at-enum-told3 .enum-told3 .given .1) (at-next-event .next-event .ensures)
 
 returns-4 : tie.Need-returns-4
 returns-4 c = let a = c .before .before .before .before .before .args in

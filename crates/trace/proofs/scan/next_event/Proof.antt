@@ -49,22 +49,39 @@ step-requires : tie.Need-step-requires
 step-requires c κs = search needs
 
 add-moved : tie.Need-add-moved
-add-moved c = let a = c .before .before .before .before .before .before .before .before .before .before .before .before .before .before .args in let f = found (a .input .now) (a .scan .at) (c .before .before .before .before .before .before .before .before .found .given .0 .0) (sym (c .before .before .before .before .before .before .before .before .before .before .line-end .ensures) ∙ c .before .before .before .before .before .before .before .before .found .given .1) in
-    omega (arith, c .before .before .before .before .before .before .before .before .before .before .before .before .before .before .good)
+add-moved c =
+    let at-found = c .before .before .before .before .before .before .before .before in
+    let at-line-end = at-found .before .before in
+    let begin = at-line-end .before .before .before .before in
+    let a = begin .args in let f = found (a .input .now) (a .scan .at) (at-found .found .given .0 .0) (sym (at-line-end .line-end .ensures) ∙ at-found .found .given .1) in
+    omega (arith, begin .good)
 
 moved-requires : tie.Need-moved-requires
 moved-requires c κs = search needs
 
 returns-2 : tie.Need-returns-2
-returns-2 c = let a = c .before .before .before .before .before .before .before .before .args in
-    events-unended (a .scan) (a .input .now) (a .table .now) (omega (arith, c .before .before .before .before .before .if1 .left)) (sym (c .before .before .before .before .line-end .ensures) ∙ c .before .before .enum-told .given .1) (c .last .ensures ∙ ap (last (a .scan)) (c .before .bad-line .ensures))
+returns-2 c =
+    let at-bad-line = c .before in
+    let at-enum-told = at-bad-line .before in
+    let at-line-end = at-enum-told .before .before in
+    let at-if1 = at-line-end .before in
+    let begin = at-if1 .before .before .before in
+    let a = begin .args in
+    events-unended (a .scan) (a .input .now) (a .table .now) (omega (arith, at-if1 .if1 .left)) (sym (at-line-end .line-end .ensures) ∙ at-enum-told .enum-told .given .1) (c .last .ensures ∙ ap (last (a .scan)) (at-bad-line .bad-line .ensures))
 
 same-length : tie.Need-same-length
 same-length c = search needs
 
 returns-3 : tie.Need-returns-3
-returns-3 c = let a = c .before .before .before .before .before .before .before .before .before .before .before .before .before .before .before .args in
-    events-moved (a .scan) (a .input .now) (a .table .now) (omega (arith, c .before .before .before .before .before .before .before .before .before .before .before .before .if1 .left)) (c .before .before .before .before .before .before .before .before .before .found .given .0 .0) (sym (c .before .before .before .before .before .before .before .before .before .before .before .line-end .ensures) ∙ c .before .before .before .before .before .before .before .before .before .found .given .1) (c .before .before .before .before .before .before .parse-event .result) (c .before .before .before .before .before .before .parse-event .ensures) (c .before .before .before .step .result) _ (c .before .before .before .step .ensures) (c .moved .ensures)
+returns-3 c =
+    let at-step = c .before .before .before in
+    let at-parse-event = at-step .before .before .before in
+    let at-found = at-parse-event .before .before .before in
+    let at-line-end = at-found .before .before in
+    let at-if1 = at-line-end .before in
+    let begin = at-if1 .before .before .before in
+    let a = begin .args in
+    events-moved (a .scan) (a .input .now) (a .table .now) (omega (arith, at-if1 .if1 .left)) (at-found .found .given .0 .0) (sym (at-line-end .line-end .ensures) ∙ at-found .found .given .1) (at-parse-event .parse-event .result) (at-parse-event .parse-event .ensures) (at-step .step .result) _ (at-step .step .ensures) (c .moved .ensures)
 
 pub next-event-spec : {M : Type 1} → statement M
 next-event-spec =

@@ -60,8 +60,12 @@ enum-known-settled-2 : tie.Need-enum-known-settled-2
 enum-known-settled-2 c = search needs
 
 add-t22 : tie.Need-add-t22
-add-t22 c = let a = c .before .before .before .before .before .before .before .before .before .before .before .before .before .before .args in let f = found (a .input .now) (a .scan .at) (c .before .before .before .before .before .before .before .before .before .found .given .0 .0) (sym (c .before .before .before .before .before .before .before .before .before .before .before .line-end .ensures) ∙ c .before .before .before .before .before .before .before .before .before .found .given .1) in
-    omega (arith, c .before .before .before .before .before .before .before .before .before .before .before .before .before .before .good)
+add-t22 c =
+    let at-found = c .before .before .before .before .before .before .before .before .before in
+    let at-line-end = at-found .before .before in
+    let begin = at-line-end .before .before .before in
+    let a = begin .args in let f = found (a .input .now) (a .scan .at) (at-found .found .given .0 .0) (sym (at-line-end .line-end .ensures) ∙ at-found .found .given .1) in
+    omega (arith, begin .good)
 
 following-requires : tie.Need-following-requires
 following-requires c κs = search needs
@@ -77,22 +81,44 @@ same-length : tie.Need-same-length
 same-length c = search needs
 
 returns-2 : tie.Need-returns-2
-returns-2 c = let a = c .before .before .before .before .before .before .before .before .before .before .before .before .before .before .before .args in
-    settings-bad (a .scan) (a .input .now) (a .table .now) (c .before .before .before .before .before .before .before .before .before .before .found .given .0 .0) (sym (c .before .before .before .before .before .before .before .before .before .before .before .before .line-end .ensures) ∙ c .before .before .before .before .before .before .before .before .before .before .found .given .1) (c .before .before .before .before .before .before .settle .result) _ (c .before .before .before .before .before .before .settle .ensures) (c .before .before .enum-told2 .given .1) (c .last2 .ensures ∙ ap (last (a .scan)) (c .before .bad-line2 .ensures))
+returns-2 c =
+    let at-bad-line2 = c .before in
+    let at-enum-told2 = at-bad-line2 .before in
+    let at-settle = at-enum-told2 .before .before .before .before in
+    let at-found = at-settle .before .before .before .before in
+    let at-line-end = at-found .before .before in
+    let begin = at-line-end .before .before .before in
+    let a = begin .args in
+    settings-bad (a .scan) (a .input .now) (a .table .now) (at-found .found .given .0 .0) (sym (at-line-end .line-end .ensures) ∙ at-found .found .given .1) (at-settle .settle .result) _ (at-settle .settle .ensures) (at-enum-told2 .enum-told2 .given .1) (c .last2 .ensures ∙ ap (last (a .scan)) (at-bad-line2 .bad-line2 .ensures))
 
 same-length-2 : tie.Need-same-length-2
 same-length-2 c = search needs
 
 returns-3 : tie.Need-returns-3
-returns-3 c = let a = c .before .before .before .before .before .before .before .before .before .before .before .before .before .before .before .before .args in
-    settings-refused (a .scan) (a .input .now) (a .table .now) (c .before .before .before .before .before .before .before .before .before .before .before .found .given .0 .0) (sym (c .before .before .before .before .before .before .before .before .before .before .before .before .before .line-end .ensures) ∙ c .before .before .before .before .before .before .before .before .before .before .before .found .given .1) (c .before .before .before .before .before .before .before .settle .result) _ (c .before .before .before .before .before .before .before .settle .ensures) (c .before .before .before .settled .given .0 .0) (c .before .before .before .settled .given .1) (c .last3 .ensures ∙ ap (last (a .scan)) (c .before .refusal-line .ensures))
+returns-3 c =
+    let at-refusal-line = c .before in
+    let at-settled = at-refusal-line .before .before in
+    let at-settle = at-settled .before .before .before .before in
+    let at-found = at-settle .before .before .before .before in
+    let at-line-end = at-found .before .before in
+    let begin = at-line-end .before .before .before in
+    let a = begin .args in
+    settings-refused (a .scan) (a .input .now) (a .table .now) (at-found .found .given .0 .0) (sym (at-line-end .line-end .ensures) ∙ at-found .found .given .1) (at-settle .settle .result) _ (at-settle .settle .ensures) (at-settled .settled .given .0 .0) (at-settled .settled .given .1) (c .last3 .ensures ∙ ap (last (a .scan)) (at-refusal-line .refusal-line .ensures))
 
 same-length-3 : tie.Need-same-length-3
 same-length-3 c = search needs
 
 returns-4 : tie.Need-returns-4
-returns-4 c = let a = c .before .before .before .before .before .before .before .before .before .before .before .before .before .before .before .before .before .before .before .args in
-    settings-good (a .scan) (a .input .now) (a .table .now) (c .before .before .before .before .before .before .before .before .before .before .before .before .before .before .found .given .0 .0) (sym (c .before .before .before .before .before .before .before .before .before .before .before .before .before .before .before .before .line-end .ensures) ∙ c .before .before .before .before .before .before .before .before .before .before .before .before .before .before .found .given .1) (c .before .before .before .before .before .before .before .before .before .before .settle .result) _ (c .before .before .before .before .before .before .before .before .before .before .settle .ensures) (c .before .before .before .before .before .before .settled2 .given .0 .0) (c .before .before .before .before .before .before .settled2 .given .1) (c .before .before .next-event .result) _ (rw (c .before .before .before .before .following .ensures) at (c .before .before .next-event .ensures))
+returns-4 c =
+    let at-next-event = c .before .before in
+    let at-following = at-next-event .before .before in
+    let at-settled2 = at-following .before .before in
+    let at-settle = at-settled2 .before .before .before .before in
+    let at-found = at-settle .before .before .before .before in
+    let at-line-end = at-found .before .before in
+    let begin = at-line-end .before .before .before in
+    let a = begin .args in
+    settings-good (a .scan) (a .input .now) (a .table .now) (at-found .found .given .0 .0) (sym (at-line-end .line-end .ensures) ∙ at-found .found .given .1) (at-settle .settle .result) _ (at-settle .settle .ensures) (at-settled2 .settled2 .given .0 .0) (at-settled2 .settled2 .given .1) (at-next-event .next-event .result) _ (rw (at-following .following .ensures) at (at-next-event .next-event .ensures))
 
 pub next-settings-spec : {M : Type 1} → statement M
 next-settings-spec =

@@ -32,15 +32,27 @@ same-length : tie.Need-same-length
 same-length c = search needs
 
 returns-2 : tie.Need-returns-2
-returns-2 c = let a = c .before .before .before .before .before .before .before .before .before .before .before .before .before .args in
-    settled-good (a .line .now) (a .table .now) _ (c .before .before .before .before .before .before .before .before .settings .given .0 .0) (sym (c .before .before .before .before .before .before .before .before .before .before .parse-settings .ensures) ∙ c .before .before .before .before .before .before .before .before .settings .given .1) (c .before .before .before .before .before .new .result) (c .before .before .before .before .before .new .ensures) (ap madeSettled (sym (c .before .made .given .1)))
+returns-2 c =
+    let at-made = c .before in
+    let at-new = at-made .before .before .before .before in
+    let at-settings = at-new .before .before .before in
+    let at-parse-settings = at-settings .before .before in
+    let begin = at-parse-settings .before .before .before in
+    let a = begin .args in
+    settled-good (a .line .now) (a .table .now) _ (at-settings .settings .given .0 .0) (sym (at-parse-settings .parse-settings .ensures) ∙ at-settings .settings .given .1) (at-new .new .result) (at-new .new .ensures) (ap madeSettled (sym (at-made .made .given .1)))
 
 same-length-2 : tie.Need-same-length-2
 same-length-2 c = search needs
 
 returns-3 : tie.Need-returns-3
-returns-3 c = let a = c .before .before .before .before .before .before .before .before .before .before .before .before .before .args in
-    settled-good (a .line .now) (a .table .now) _ (c .before .before .before .before .before .before .before .before .settings .given .0 .0) (sym (c .before .before .before .before .before .before .before .before .before .before .parse-settings .ensures) ∙ c .before .before .before .before .before .before .before .before .settings .given .1) (c .before .before .before .before .before .new .result) (c .before .before .before .before .before .new .ensures) (ap madeSettled (sym (c .before .made2 .given .1)))
+returns-3 c =
+    let at-made2 = c .before in
+    let at-new = at-made2 .before .before .before .before in
+    let at-settings = at-new .before .before .before in
+    let at-parse-settings = at-settings .before .before in
+    let begin = at-parse-settings .before .before .before in
+    let a = begin .args in
+    settled-good (a .line .now) (a .table .now) _ (at-settings .settings .given .0 .0) (sym (at-parse-settings .parse-settings .ensures) ∙ at-settings .settings .given .1) (at-new .new .result) (at-new .new .ensures) (ap madeSettled (sym (at-made2 .made2 .given .1)))
 
 pub settle-spec : {M : Type 1} → statement M
 settle-spec =

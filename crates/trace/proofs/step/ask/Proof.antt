@@ -56,29 +56,45 @@ same-length : tie.Need-same-length
 same-length c = search needs
 
 returns : tie.Need-returns
-returns c = let a = c .before .before .before .before .before .before .before .before .before .args in
-    asked-admit (a .policy) (a .event) (a .table .now) _ (c .before .before .before .before .before .enum-told .given .1) (c .before .before .before .admit .result) (c .before .before .before .admit .ensures) (c .admission-spoken .ensures)
+returns c =
+    let at-admit = c .before .before .before in
+    let at-enum-told = at-admit .before .before in
+    let begin = at-enum-told .before .before .before .before in
+    let a = begin .args in
+    asked-admit (a .policy) (a .event) (a .table .now) _ (at-enum-told .enum-told .given .1) (at-admit .admit .result) (at-admit .admit .ensures) (c .admission-spoken .ensures)
 
 same-length-2 : tie.Need-same-length-2
 same-length-2 c = search needs
 
 returns-2 : tie.Need-returns-2
-returns-2 c = let a = c .before .before .before .before .before .before .before .before .before .args in
-    asked-invalid (a .policy) (a .event) (a .table .now) _ (c .before .before .before .before .before .enum-told2 .given .1) (c .before .before .before .record-invalid .result) (c .before .before .before .record-invalid .ensures) (c .invalid-spoken .ensures)
+returns-2 c =
+    let at-record-invalid = c .before .before .before in
+    let at-enum-told2 = at-record-invalid .before .before in
+    let begin = at-enum-told2 .before .before .before .before in
+    let a = begin .args in
+    asked-invalid (a .policy) (a .event) (a .table .now) _ (at-enum-told2 .enum-told2 .given .1) (at-record-invalid .record-invalid .result) (at-record-invalid .record-invalid .ensures) (c .invalid-spoken .ensures)
 
 same-length-3 : tie.Need-same-length-3
 same-length-3 c = search needs
 
 returns-3 : tie.Need-returns-3
-returns-3 c = let a = c .before .before .before .before .before .before .before .before .before .args in
-    asked-ban (a .policy) (a .event) (a .table .now) _ (c .before .before .before .before .before .enum-told3 .given .1) (c .before .before .before .is-banned .result) (c .before .before .before .is-banned .ensures) (c .standing-spoken .ensures)
+returns-3 c =
+    let at-is-banned = c .before .before .before in
+    let at-enum-told3 = at-is-banned .before .before in
+    let begin = at-enum-told3 .before .before .before .before in
+    let a = begin .args in
+    asked-ban (a .policy) (a .event) (a .table .now) _ (at-enum-told3 .enum-told3 .given .1) (at-is-banned .is-banned .result) (at-is-banned .is-banned .ensures) (c .standing-spoken .ensures)
 
 same-length-4 : tie.Need-same-length-4
 same-length-4 c = search needs
 
 returns-4 : tie.Need-returns-4
-returns-4 c = let a = c .before .before .before .before .before .before .before .before .before .args in
-    asked-disconnected (a .policy) (a .event) (a .table .now) _ (c .before .before .before .before .before .enum-told4 .given .1) (c .before .before .before .on-disconnected .result) (c .before .before .before .on-disconnected .ensures) (c .changed-spoken .ensures)
+returns-4 c =
+    let at-on-disconnected = c .before .before .before in
+    let at-enum-told4 = at-on-disconnected .before .before in
+    let begin = at-enum-told4 .before .before .before .before in
+    let a = begin .args in
+    asked-disconnected (a .policy) (a .event) (a .table .now) _ (at-enum-told4 .enum-told4 .given .1) (at-on-disconnected .on-disconnected .result) (at-on-disconnected .on-disconnected .ensures) (c .changed-spoken .ensures)
 
 returns-5 : tie.Need-returns-5
 returns-5 c = let a = c .before .before .before .before .before .before .args in

@@ -42,12 +42,20 @@ value-requires-2 c κs = search needs
 
 returns-2 : tie.Need-returns-2
 unfolding admitOf
-returns-2 c = let line = now (c .before .before .before .before .before .before .before .before .before .args .line) in
-    let e : c .before .before .before .before .before .before .before .key-of .result .end ≡ keyOf line .end = ap (λ (k : KeyField). k .end) (c .before .before .before .before .before .before .before .key-of .ensures) in
-    let f : c .before .before .before .before .before .before .field .result ≡ fieldOf line (keyOf line .end) largest64 = next-field line largest64 e (c .before .before .before .before .before .before .field .ensures) in
-    let g : c .before .before .before .before .before .field2 .result ≡ fieldOf line (fieldOf line (keyOf line .end) largest64) largest64 = next-field line largest64 f (c .before .before .before .before .before .field2 .ensures) in
-    let t : endsLine line (fieldOf line (fieldOf line (keyOf line .end) largest64) largest64) ≡ true = ends-told line g (c .before .before .before .before .ends .ensures) (not-false (c .before .before .before .before .ends .result) (c .before .before .before .if1 .left)) in
-    rw (c .before .value .ensures, c .value2 .ensures, f, g, c .before .before .before .before .before .before .before .key-of .ensures, t)
+returns-2 c =
+    let at-value = c .before in
+    let at-if1 = at-value .before .before in
+    let at-ends = at-if1 .before in
+    let at-field2 = at-ends .before in
+    let at-field = at-field2 .before in
+    let at-key-of = at-field .before in
+    let begin = at-key-of .before .before in
+    let line = now (begin .args .line) in
+    let e : at-key-of .key-of .result .end ≡ keyOf line .end = ap (λ (k : KeyField). k .end) (at-key-of .key-of .ensures) in
+    let f : at-field .field .result ≡ fieldOf line (keyOf line .end) largest64 = next-field line largest64 e (at-field .field .ensures) in
+    let g : at-field2 .field2 .result ≡ fieldOf line (fieldOf line (keyOf line .end) largest64) largest64 = next-field line largest64 f (at-field2 .field2 .ensures) in
+    let t : endsLine line (fieldOf line (fieldOf line (keyOf line .end) largest64) largest64) ≡ true = ends-told line g (at-ends .ends .ensures) (not-false (at-ends .ends .result) (at-if1 .if1 .left)) in
+    rw (at-value .value .ensures, c .value2 .ensures, f, g, at-key-of .key-of .ensures, t)
 
 pub parse-admit-spec : {M : Type 1} → statement M
 parse-admit-spec =

@@ -37,15 +37,24 @@ slice-aggregate-put-number-3 : tie.Need-slice-aggregate-put-number-3
 slice-aggregate-put-number-3 c = search needs
 
 put-number-requires-3 : tie.Need-put-number-requires-3
-put-number-requires-3 c κs = let a = c .before .before .before .before .before .before .before .before .before .before .args in
-    let two-written = more-over 64 (more-over 64 (c .before .before .before .before .before .before .before .before .put-word .ensures) (c .before .before .before .before .before .put-number .ensures)) (c .before .before .put-number2 .ensures) in
+put-number-requires-3 c κs =
+    let at-put-number2 = c .before .before in
+    let at-put-number = at-put-number2 .before .before .before in
+    let at-put-word = at-put-number .before .before .before in
+    let begin = at-put-word .before .before in
+    let a = begin .args in
+    let two-written = more-over 64 (more-over 64 (at-put-word .put-word .ensures) (at-put-number .put-number .ensures)) (at-put-number2 .put-number2 .ensures) in
     room-over 64 two-written (length (numberText (a .rows))) (omega (arith, length-two (a .word) (a .messages) (a .bytes) (omega arith) (omega arith), length-digits 19 (a .rows) (omega arith)))
 
 -- the word and the three numbers stand at the front
 text-written : (c : tie.After-out8)
     → Wrote (zeros 64) 0 (three (c .before .before .before .before .before .before .before .before .before .before .before .before .args .word) (c .before .before .before .before .before .before .before .before .before .before .before .before .args .messages) (c .before .before .before .before .before .before .before .before .before .before .before .before .args .bytes) (c .before .before .before .before .before .before .before .before .before .before .before .before .args .rows)) (c .before .put-number3 .result) (c .before .put-number3 .last .0)
 text-written c =
-    more-over 64 (more-over 64 (more-over 64 (c .before .before .before .before .before .before .before .before .before .before .put-word .ensures) (c .before .before .before .before .before .before .before .put-number .ensures)) (c .before .before .before .before .put-number2 .ensures)) (c .before .put-number3 .ensures)
+    let at-put-number3 = c .before in
+    let at-put-number2 = at-put-number3 .before .before .before in
+    let at-put-number = at-put-number2 .before .before .before in
+    let at-put-word = at-put-number .before .before .before in
+    more-over 64 (more-over 64 (more-over 64 (at-put-word .put-word .ensures) (at-put-number .put-number .ensures)) (at-put-number2 .put-number2 .ensures)) (at-put-number3 .put-number3 .ensures)
 
 array-write-out : tie.Need-array-write-out
 array-write-out c = let a = c .before .before .before .before .before .before .before .before .before .before .before .before .args in

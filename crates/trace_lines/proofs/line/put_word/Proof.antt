@@ -82,49 +82,81 @@ same-length : tie.Need-same-length
 same-length c = search needs
 
 returns : tie.Need-returns
-returns c = let a = c .before .before .before .before .before .before .before .before .args in word-written (a .word) Allow (now (a .out)) (c .before .before .before .before .before .enum-told .given .1) (c .before .before .put-text .ensures)
+returns c =
+    let at-put-text = c .before .before in
+    let at-enum-told = at-put-text .before .before .before in
+    let begin = at-enum-told .before .before .before in
+    let a = begin .args in word-written (a .word) Allow (now (a .out)) (at-enum-told .enum-told .given .1) (at-put-text .put-text .ensures)
 
 same-length-2 : tie.Need-same-length-2
 same-length-2 c = search needs
 
 returns-2 : tie.Need-returns-2
-returns-2 c = let a = c .before .before .before .before .before .before .before .before .args in word-written (a .word) Disconnect (now (a .out)) (c .before .before .before .before .before .enum-told2 .given .1) (c .before .before .put-text2 .ensures)
+returns-2 c =
+    let at-put-text2 = c .before .before in
+    let at-enum-told2 = at-put-text2 .before .before .before in
+    let begin = at-enum-told2 .before .before .before in
+    let a = begin .args in word-written (a .word) Disconnect (now (a .out)) (at-enum-told2 .enum-told2 .given .1) (at-put-text2 .put-text2 .ensures)
 
 same-length-3 : tie.Need-same-length-3
 same-length-3 c = search needs
 
 returns-3 : tie.Need-returns-3
-returns-3 c = let a = c .before .before .before .before .before .before .before .before .args in word-written (a .word) Ban (now (a .out)) (c .before .before .before .before .before .enum-told3 .given .1) (c .before .before .put-text3 .ensures)
+returns-3 c =
+    let at-put-text3 = c .before .before in
+    let at-enum-told3 = at-put-text3 .before .before .before in
+    let begin = at-enum-told3 .before .before .before in
+    let a = begin .args in word-written (a .word) Ban (now (a .out)) (at-enum-told3 .enum-told3 .given .1) (at-put-text3 .put-text3 .ensures)
 
 same-length-4 : tie.Need-same-length-4
 same-length-4 c = search needs
 
 returns-4 : tie.Need-returns-4
-returns-4 c = let a = c .before .before .before .before .before .before .before .before .args in word-written (a .word) Banned (now (a .out)) (c .before .before .before .before .before .enum-told4 .given .1) (c .before .before .put-text4 .ensures)
+returns-4 c =
+    let at-put-text4 = c .before .before in
+    let at-enum-told4 = at-put-text4 .before .before .before in
+    let begin = at-enum-told4 .before .before .before in
+    let a = begin .args in word-written (a .word) Banned (now (a .out)) (at-enum-told4 .enum-told4 .given .1) (at-put-text4 .put-text4 .ensures)
 
 same-length-5 : tie.Need-same-length-5
 same-length-5 c = search needs
 
 returns-5 : tie.Need-returns-5
-returns-5 c = let a = c .before .before .before .before .before .before .before .before .args in word-written (a .word) Noted (now (a .out)) (c .before .before .before .before .before .enum-told5 .given .1) (c .before .before .put-text5 .ensures)
+returns-5 c =
+    let at-put-text5 = c .before .before in
+    let at-enum-told5 = at-put-text5 .before .before .before in
+    let begin = at-enum-told5 .before .before .before in
+    let a = begin .args in word-written (a .word) Noted (now (a .out)) (at-enum-told5 .enum-told5 .given .1) (at-put-text5 .put-text5 .ensures)
 
 same-length-6 : tie.Need-same-length-6
 same-length-6 c = search needs
 
 returns-6 : tie.Need-returns-6
-returns-6 c = let a = c .before .before .before .before .before .before .before .before .args in word-written (a .word) Free (now (a .out)) (c .before .before .before .before .before .enum-told6 .given .1) (c .before .before .put-text6 .ensures)
+returns-6 c =
+    let at-put-text6 = c .before .before in
+    let at-enum-told6 = at-put-text6 .before .before .before in
+    let begin = at-enum-told6 .before .before .before in
+    let a = begin .args in word-written (a .word) Free (now (a .out)) (at-enum-told6 .enum-told6 .given .1) (at-put-text6 .put-text6 .ensures)
 
 same-length-7 : tie.Need-same-length-7
 same-length-7 c = search needs
 
 returns-7 : tie.Need-returns-7
-returns-7 c = let a = c .before .before .before .before .before .before .before .before .args in word-written (a .word) Closed (now (a .out)) (c .before .before .before .before .before .enum-told7 .given .1) (c .before .before .put-text7 .ensures)
+returns-7 c =
+    let at-put-text7 = c .before .before in
+    let at-enum-told7 = at-put-text7 .before .before .before in
+    let begin = at-enum-told7 .before .before .before in
+    let a = begin .args in word-written (a .word) Closed (now (a .out)) (at-enum-told7 .enum-told7 .given .1) (at-put-text7 .put-text7 .ensures)
 
 same-length-8 : tie.Need-same-length-8
 same-length-8 c = search needs
 
 returns-8 : tie.Need-returns-8
-returns-8 c = let a = c .before .before .before .before .before .before .before .before .args in word-written (a .word) Released (now (a .out)) (c .before .before .before .before .before .enum-told8 .given .1) (c .before .before .put-text8 .ensures)
+returns-8 c =
+    let at-put-text8 = c .before .before in
+    let at-enum-told8 = at-put-text8 .before .before .before in
+    let begin = at-enum-told8 .before .before .before in
+    let a = begin .args in word-written (a .word) Released (now (a .out)) (at-enum-told8 .enum-told8 .given .1) (at-put-text8 .put-text8 .ensures)
 
 pub put-word-spec : {M : Type 1} → statement M
 put-word-spec =

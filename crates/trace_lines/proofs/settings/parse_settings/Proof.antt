@@ -43,17 +43,29 @@ ends-requires c κs = search needs
 
 returns : tie.Need-returns
 unfolding settingsOf
-returns c = let line = now (c .before .before .before .before .before .before .before .before .before .before .before .before .args .line) in
-    let e0 : c .before .before .before .before .before .before .before .before .before .before .scan .result ≡ interval line = c .before .before .before .before .before .before .before .before .before .before .scan .ensures in
-    let e1 : c .before .before .before .before .before .before .before .before .before .field .result ≡ burst line = next-field line largest32 e0 (c .before .before .before .before .before .before .before .before .before .field .ensures) in
-    let e2 : c .before .before .before .before .before .before .before .before .field2 .result ≡ rate line = next-field line largest64 e1 (c .before .before .before .before .before .before .before .before .field2 .ensures) in
-    let e3 : c .before .before .before .before .before .before .before .field3 .result ≡ burstBytes line = next-field line largest64 e2 (c .before .before .before .before .before .before .before .field3 .ensures) in
-    let e4 : c .before .before .before .before .before .before .field4 .result ≡ threshold line = next-field line largest32 e3 (c .before .before .before .before .before .before .field4 .ensures) in
-    let e5 : c .before .before .before .before .before .field5 .result ≡ banDuration line = next-field line largest64 e4 (c .before .before .before .before .before .field5 .ensures) in
-    let e6 : c .before .before .before .before .field6 .result ≡ maxTracked line = next-field line largest64 e5 (c .before .before .before .before .field6 .ensures) in
-    let e7 : c .before .before .before .field7 .result ≡ maxMessages line = next-field line largest32 e6 (c .before .before .before .field7 .ensures) in
-    let e8 : c .before .before .field8 .result ≡ maxBytes line = next-field line largest64 e7 (c .before .before .field8 .ensures) in
-    let t : endsLine line (maxBytes line) ≡ false = ends-told line e8 (c .before .ends .ensures) (not-true (c .before .ends .result) (c .if1 .taken)) in
+returns c =
+    let at-ends = c .before in
+    let at-field8 = at-ends .before in
+    let at-field7 = at-field8 .before in
+    let at-field6 = at-field7 .before in
+    let at-field5 = at-field6 .before in
+    let at-field4 = at-field5 .before in
+    let at-field3 = at-field4 .before in
+    let at-field2 = at-field3 .before in
+    let at-field = at-field2 .before in
+    let at-scan = at-field .before in
+    let begin = at-scan .before .before in
+    let line = now (begin .args .line) in
+    let e0 : at-scan .scan .result ≡ interval line = at-scan .scan .ensures in
+    let e1 : at-field .field .result ≡ burst line = next-field line largest32 e0 (at-field .field .ensures) in
+    let e2 : at-field2 .field2 .result ≡ rate line = next-field line largest64 e1 (at-field2 .field2 .ensures) in
+    let e3 : at-field3 .field3 .result ≡ burstBytes line = next-field line largest64 e2 (at-field3 .field3 .ensures) in
+    let e4 : at-field4 .field4 .result ≡ threshold line = next-field line largest32 e3 (at-field4 .field4 .ensures) in
+    let e5 : at-field5 .field5 .result ≡ banDuration line = next-field line largest64 e4 (at-field5 .field5 .ensures) in
+    let e6 : at-field6 .field6 .result ≡ maxTracked line = next-field line largest64 e5 (at-field6 .field6 .ensures) in
+    let e7 : at-field7 .field7 .result ≡ maxMessages line = next-field line largest32 e6 (at-field7 .field7 .ensures) in
+    let e8 : at-field8 .field8 .result ≡ maxBytes line = next-field line largest64 e7 (at-field8 .field8 .ensures) in
+    let t : endsLine line (maxBytes line) ≡ false = ends-told line e8 (at-ends .ends .ensures) (not-true (at-ends .ends .result) (c .if1 .taken)) in
     rw t
 
 value-requires : tie.Need-value-requires
@@ -63,8 +75,12 @@ value-requires-2 : tie.Need-value-requires-2
 value-requires-2 c κs = search needs
 
 cast-t15 : tie.Need-cast-t15
-cast-t15 c = let line = now (c .before .before .before .before .before .before .before .before .before .before .before .before .before .before .args .line) in
-    let b : c .value2 .result ≤ largest32 = rw (c .value2 .ensures, c .before .before .before .before .before .before .before .before .before .before .before .field .ensures) (field-bound line (c .before .before .before .before .before .before .before .before .before .before .before .before .scan .result) largest32 (omega arith)) in
+cast-t15 c =
+    let at-field = c .before .before .before .before .before .before .before .before .before .before .before in
+    let at-scan = at-field .before in
+    let begin = at-scan .before .before in
+    let line = now (begin .args .line) in
+    let b : c .value2 .result ≤ largest32 = rw (c .value2 .ensures, at-field .field .ensures) (field-bound line (at-scan .scan .result) largest32 (omega arith)) in
     omega (arith, b)
 
 value-requires-3 : tie.Need-value-requires-3
@@ -77,8 +93,12 @@ value-requires-5 : tie.Need-value-requires-5
 value-requires-5 c κs = search needs
 
 cast-t19 : tie.Need-cast-t19
-cast-t19 c = let line = now (c .before .before .before .before .before .before .before .before .before .before .before .before .before .before .before .before .before .args .line) in
-    let b : c .value5 .result ≤ largest32 = rw (c .value5 .ensures, c .before .before .before .before .before .before .before .before .before .before .before .field4 .ensures) (field-bound line (c .before .before .before .before .before .before .before .before .before .before .before .before .field3 .result) largest32 (omega arith)) in
+cast-t19 c =
+    let at-field4 = c .before .before .before .before .before .before .before .before .before .before .before in
+    let at-field3 = at-field4 .before in
+    let begin = at-field3 .before .before .before .before .before in
+    let line = now (begin .args .line) in
+    let b : c .value5 .result ≤ largest32 = rw (c .value5 .ensures, at-field4 .field4 .ensures) (field-bound line (at-field3 .field3 .result) largest32 (omega arith)) in
     omega (arith, b)
 
 value-requires-6 : tie.Need-value-requires-6
@@ -91,8 +111,12 @@ value-requires-8 : tie.Need-value-requires-8
 value-requires-8 c κs = search needs
 
 cast-t23 : tie.Need-cast-t23
-cast-t23 c = let line = now (c .before .before .before .before .before .before .before .before .before .before .before .before .before .before .before .before .before .before .before .before .args .line) in
-    let b : c .value8 .result ≤ largest32 = rw (c .value8 .ensures, c .before .before .before .before .before .before .before .before .before .before .before .field7 .ensures) (field-bound line (c .before .before .before .before .before .before .before .before .before .before .before .before .field6 .result) largest32 (omega arith)) in
+cast-t23 c =
+    let at-field7 = c .before .before .before .before .before .before .before .before .before .before .before in
+    let at-field6 = at-field7 .before in
+    let begin = at-field6 .before .before .before .before .before .before .before .before in
+    let line = now (begin .args .line) in
+    let b : c .value8 .result ≤ largest32 = rw (c .value8 .ensures, at-field7 .field7 .ensures) (field-bound line (at-field6 .field6 .result) largest32 (omega arith)) in
     omega (arith, b)
 
 value-requires-9 : tie.Need-value-requires-9
@@ -100,18 +124,39 @@ value-requires-9 c κs = search needs
 
 returns-2 : tie.Need-returns-2
 unfolding settingsOf
-returns-2 c = let line = now (c .before .before .before .before .before .before .before .before .before .before .before .before .before .before .before .before .before .before .before .before .before .args .line) in
-    let e0 : c .before .before .before .before .before .before .before .before .before .before .before .before .before .before .before .before .before .before .before .scan .result ≡ interval line = c .before .before .before .before .before .before .before .before .before .before .before .before .before .before .before .before .before .before .before .scan .ensures in
-    let e1 : c .before .before .before .before .before .before .before .before .before .before .before .before .before .before .before .before .before .before .field .result ≡ burst line = next-field line largest32 e0 (c .before .before .before .before .before .before .before .before .before .before .before .before .before .before .before .before .before .before .field .ensures) in
-    let e2 : c .before .before .before .before .before .before .before .before .before .before .before .before .before .before .before .before .before .field2 .result ≡ rate line = next-field line largest64 e1 (c .before .before .before .before .before .before .before .before .before .before .before .before .before .before .before .before .before .field2 .ensures) in
-    let e3 : c .before .before .before .before .before .before .before .before .before .before .before .before .before .before .before .before .field3 .result ≡ burstBytes line = next-field line largest64 e2 (c .before .before .before .before .before .before .before .before .before .before .before .before .before .before .before .before .field3 .ensures) in
-    let e4 : c .before .before .before .before .before .before .before .before .before .before .before .before .before .before .before .field4 .result ≡ threshold line = next-field line largest32 e3 (c .before .before .before .before .before .before .before .before .before .before .before .before .before .before .before .field4 .ensures) in
-    let e5 : c .before .before .before .before .before .before .before .before .before .before .before .before .before .before .field5 .result ≡ banDuration line = next-field line largest64 e4 (c .before .before .before .before .before .before .before .before .before .before .before .before .before .before .field5 .ensures) in
-    let e6 : c .before .before .before .before .before .before .before .before .before .before .before .before .before .field6 .result ≡ maxTracked line = next-field line largest64 e5 (c .before .before .before .before .before .before .before .before .before .before .before .before .before .field6 .ensures) in
-    let e7 : c .before .before .before .before .before .before .before .before .before .before .before .before .field7 .result ≡ maxMessages line = next-field line largest32 e6 (c .before .before .before .before .before .before .before .before .before .before .before .before .field7 .ensures) in
-    let e8 : c .before .before .before .before .before .before .before .before .before .before .before .field8 .result ≡ maxBytes line = next-field line largest64 e7 (c .before .before .before .before .before .before .before .before .before .before .before .field8 .ensures) in
-    let t : endsLine line (maxBytes line) ≡ true = ends-told line e8 (c .before .before .before .before .before .before .before .before .before .before .ends .ensures) (not-false (c .before .before .before .before .before .before .before .before .before .before .ends .result) (c .before .before .before .before .before .before .before .before .before .if1 .left)) in
-    rw (c .before .before .before .before .before .before .before .before .value .ensures, c .before .before .before .before .before .before .before .value2 .ensures, c .before .before .before .before .before .before .value3 .ensures, c .before .before .before .before .before .value4 .ensures, c .before .before .before .before .value5 .ensures, c .before .before .before .value6 .ensures, c .before .before .value7 .ensures, c .before .value8 .ensures, c .value9 .ensures, e0, e1, e2, e3, e4, e5, e6, e7, e8, t)
+returns-2 c =
+    let at-value8 = c .before in
+    let at-value7 = at-value8 .before in
+    let at-value6 = at-value7 .before in
+    let at-value5 = at-value6 .before in
+    let at-value4 = at-value5 .before in
+    let at-value3 = at-value4 .before in
+    let at-value2 = at-value3 .before in
+    let at-value = at-value2 .before in
+    let at-if1 = at-value .before in
+    let at-ends = at-if1 .before in
+    let at-field8 = at-ends .before in
+    let at-field7 = at-field8 .before in
+    let at-field6 = at-field7 .before in
+    let at-field5 = at-field6 .before in
+    let at-field4 = at-field5 .before in
+    let at-field3 = at-field4 .before in
+    let at-field2 = at-field3 .before in
+    let at-field = at-field2 .before in
+    let at-scan = at-field .before in
+    let begin = at-scan .before .before in
+    let line = now (begin .args .line) in
+    let e0 : at-scan .scan .result ≡ interval line = at-scan .scan .ensures in
+    let e1 : at-field .field .result ≡ burst line = next-field line largest32 e0 (at-field .field .ensures) in
+    let e2 : at-field2 .field2 .result ≡ rate line = next-field line largest64 e1 (at-field2 .field2 .ensures) in
+    let e3 : at-field3 .field3 .result ≡ burstBytes line = next-field line largest64 e2 (at-field3 .field3 .ensures) in
+    let e4 : at-field4 .field4 .result ≡ threshold line = next-field line largest32 e3 (at-field4 .field4 .ensures) in
+    let e5 : at-field5 .field5 .result ≡ banDuration line = next-field line largest64 e4 (at-field5 .field5 .ensures) in
+    let e6 : at-field6 .field6 .result ≡ maxTracked line = next-field line largest64 e5 (at-field6 .field6 .ensures) in
+    let e7 : at-field7 .field7 .result ≡ maxMessages line = next-field line largest32 e6 (at-field7 .field7 .ensures) in
+    let e8 : at-field8 .field8 .result ≡ maxBytes line = next-field line largest64 e7 (at-field8 .field8 .ensures) in
+    let t : endsLine line (maxBytes line) ≡ true = ends-told line e8 (at-ends .ends .ensures) (not-false (at-ends .ends .result) (at-if1 .if1 .left)) in
+    rw (at-value .value .ensures, at-value2 .value2 .ensures, at-value3 .value3 .ensures, at-value4 .value4 .ensures, at-value5 .value5 .ensures, at-value6 .value6 .ensures, at-value7 .value7 .ensures, at-value8 .value8 .ensures, c .value9 .ensures, e0, e1, e2, e3, e4, e5, e6, e7, e8, t)
 
 pub parse-settings-spec : {M : Type 1} → statement M
 parse-settings-spec =

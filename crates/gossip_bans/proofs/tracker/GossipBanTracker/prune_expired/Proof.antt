@@ -29,8 +29,13 @@ same-length-2 : tie.Need-same-length-2
 same-length-2 c = search needs
 
 returns-2 : tie.Need-returns-2
-returns-2 c = let a = c .before .before .before .before .before .before .before .before .before .args in
-    rw (c .with-rows .ensures) (pruned-done (a .self) (a .table .now) (a .now-ms) (sym (c .before .before .before .before .before .before .is-sound-in .ensures) ∙ not-false (c .before .before .before .before .before .before .is-sound-in .result) (c .before .before .before .before .before .if1 .left)) _ _ (left-counted (a .self) (a .table .now) _ (c .before .before .before .prune-expired .result) _ (c .before .before .before .prune-expired .ensures)))
+returns-2 c =
+    let at-prune-expired = c .before .before .before in
+    let at-if1 = at-prune-expired .before .before in
+    let at-is-sound-in = at-if1 .before in
+    let begin = at-is-sound-in .before .before .before in
+    let a = begin .args in
+    rw (c .with-rows .ensures) (pruned-done (a .self) (a .table .now) (a .now-ms) (sym (at-is-sound-in .is-sound-in .ensures) ∙ not-false (at-is-sound-in .is-sound-in .result) (at-if1 .if1 .left)) _ _ (left-counted (a .self) (a .table .now) _ (at-prune-expired .prune-expired .result) _ (at-prune-expired .prune-expired .ensures)))
 
 pub prune-expired-spec : {M : Type 1} → statement M
 prune-expired-spec =

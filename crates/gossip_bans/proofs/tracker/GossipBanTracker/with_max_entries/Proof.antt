@@ -26,8 +26,14 @@ same-length : tie.Need-same-length
 same-length c = search needs
 
 returns-3 : tie.Need-returns-3
-returns-3 c = let a = c .before .before .before .before .before .before .before .before .args in
-    made-fresh (a .config) (a .max-entries) (a .table .now) (c .before .before .before .before .before .before .if1 .left) (omega (arith, c .before .before .before .before .if2 .left, c .before .before .before .before .before .limit-of .ensures)) _ (c .before .before .zero-rows .ensures ∙ ap (λ (n : ℕ). put (a .table .now) 0 (zeros (65 * n))) (c .before .before .before .before .before .limit-of .ensures))
+returns-3 c =
+    let at-zero-rows = c .before .before in
+    let at-if2 = at-zero-rows .before .before in
+    let at-limit-of = at-if2 .before in
+    let at-if1 = at-limit-of .before in
+    let begin = at-if1 .before .before in
+    let a = begin .args in
+    made-fresh (a .config) (a .max-entries) (a .table .now) (at-if1 .if1 .left) (omega (arith, at-if2 .if2 .left, at-limit-of .limit-of .ensures)) _ (at-zero-rows .zero-rows .ensures ∙ ap (λ (n : ℕ). put (a .table .now) 0 (zeros (65 * n))) (at-limit-of .limit-of .ensures))
 
 pub with-max-entries-spec : {M : Type 1} → statement M
 with-max-entries-spec =

@@ -17,9 +17,13 @@ same-length : tie.Need-same-length
 same-length c = search needs
 
 returns : tie.Need-returns
-returns c = let a = c .before .before .before .before .before .before .before .before .args in
+returns c =
+    let at-allow-outbound-message = c .before .before .before .before in
+    let at-outbound-of = at-allow-outbound-message .before .before in
+    let begin = at-outbound-of .before .before in
+    let a = begin .args in
     rw (c .with-outbound .ensures)
-    (allowed (a .self) (a .outbound-table .now) _ (a .peer) (a .bytes) (a .now-ms) (c .before .before .before .before .allow-outbound-message .result) (rw (c .before .before .before .before .before .before .outbound-of .ensures) at (c .before .before .before .before .allow-outbound-message .ensures)))
+    (allowed (a .self) (a .outbound-table .now) _ (a .peer) (a .bytes) (a .now-ms) (at-allow-outbound-message .allow-outbound-message .result) (rw (at-outbound-of .outbound-of .ensures) at (at-allow-outbound-message .allow-outbound-message .ensures)))
 
 pub allow-outbound-message-spec : {M : Type 1} → statement M
 allow-outbound-message-spec = tie.close (tie.spec outbound-of-requires allow-outbound-message-requires with-outbound-requires same-length returns)

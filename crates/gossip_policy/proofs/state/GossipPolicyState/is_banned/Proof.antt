@@ -14,9 +14,12 @@ same-length : tie.Need-same-length
 same-length c = search needs
 
 returns : tie.Need-returns
-returns c = let a = c .before .before .before .before .before .before .before .before .args in
+returns c =
+    let at-is-banned = c .before .before .before .before in
+    let begin = at-is-banned .before .before .before .before in
+    let a = begin .args in
     rw (c .with-tracker .ensures)
-    (standing (a .self) (a .ban-table .now) _ (a .now-ms) (a .peer) (c .before .before .before .before .is-banned .result) (c .before .before .before .before .is-banned .ensures))
+    (standing (a .self) (a .ban-table .now) _ (a .now-ms) (a .peer) (at-is-banned .is-banned .result) (at-is-banned .is-banned .ensures))
 
 pub is-banned-spec : {M : Type 1} → statement M
 is-banned-spec = tie.close (tie.spec is-banned-requires with-tracker-requires same-length returns)

@@ -28,9 +28,16 @@ same-length-2 : tie.Need-same-length-2
 same-length-2 c = search needs
 
 returns-3 : tie.Need-returns-3
-returns-3 c = let a = c .before .before .before .before .before .before .before .before .before .before .before .before .before .args in
-    rw (c .before .before .before .before .before .before .before .before .before .before .fresh-of .ensures)
-    (both-long (a .config) (a .ban-table .now) (a .outbound-table .now) (c .before .before .before .before .before .before .before .before .before .if1 .left) (c .before .before .before .before .before .before .before .before .if2 .left) _ _ (c .before .before .before .before .before .before .zero-rows .ensures) (c .before .before .zero-rows2 .ensures))
+returns-3 c =
+    let at-zero-rows2 = c .before .before in
+    let at-zero-rows = at-zero-rows2 .before .before .before .before in
+    let at-if2 = at-zero-rows .before .before in
+    let at-if1 = at-if2 .before in
+    let at-fresh-of = at-if1 .before in
+    let begin = at-fresh-of .before .before .before in
+    let a = begin .args in
+    rw (at-fresh-of .fresh-of .ensures)
+    (both-long (a .config) (a .ban-table .now) (a .outbound-table .now) (at-if1 .if1 .left) (at-if2 .if2 .left) _ _ (at-zero-rows .zero-rows .ensures) (at-zero-rows2 .zero-rows2 .ensures))
 
 pub new-spec : {M : Type 1} → statement M
 new-spec = tie.close (tie.spec fresh-of-requires returns returns-2 zero-rows-requires zero-rows-requires-2 same-length same-length-2 returns-3)

@@ -14,9 +14,12 @@ same-length : tie.Need-same-length
 same-length c = search needs
 
 returns : tie.Need-returns
-returns c = let a = c .before .before .before .before .before .before .before .before .args in
+returns c =
+    let at-prune-expired = c .before .before .before .before in
+    let begin = at-prune-expired .before .before .before .before in
+    let a = begin .args in
     rw (c .with-tracker .ensures)
-    (pruned (a .self) (a .ban-table .now) _ (a .now-ms) (c .before .before .before .before .prune-expired .result) (c .before .before .before .before .prune-expired .ensures))
+    (pruned (a .self) (a .ban-table .now) _ (a .now-ms) (at-prune-expired .prune-expired .result) (at-prune-expired .prune-expired .ensures))
 
 pub prune-bans-spec : {M : Type 1} → statement M
 prune-bans-spec = tie.close (tie.spec prune-expired-requires with-tracker-requires same-length returns)

@@ -14,9 +14,12 @@ same-length : tie.Need-same-length
 same-length c = search needs
 
 returns : tie.Need-returns
-returns c = let a = c .before .before .before .before .before .before .before .before .args in
+returns c =
+    let at-record-violation = c .before .before .before .before in
+    let begin = at-record-violation .before .before .before .before in
+    let a = begin .args in
     rw (c .with-tracker .ensures)
-    (recorded (a .self) (a .ban-table .now) _ (a .now-ms) (a .peer) (a .violation) (c .before .before .before .before .record-violation .result) (c .before .before .before .before .record-violation .ensures))
+    (recorded (a .self) (a .ban-table .now) _ (a .now-ms) (a .peer) (a .violation) (at-record-violation .record-violation .result) (at-record-violation .record-violation .ensures))
 
 pub record-violation-spec : {M : Type 1} → statement M
 record-violation-spec = tie.close (tie.spec record-violation-requires with-tracker-requires same-length returns)

@@ -17,9 +17,13 @@ same-length : tie.Need-same-length
 same-length c = search needs
 
 returns : tie.Need-returns
-returns c = let a = c .before .before .before .before .before .before .before .before .args in
+returns c =
+    let at-refund-outbound-message = c .before .before .before .before in
+    let at-outbound-of = at-refund-outbound-message .before .before in
+    let begin = at-outbound-of .before .before in
+    let a = begin .args in
     rw (c .with-outbound .ensures)
-    (refunded (a .self) (a .outbound-table .now) _ (a .peer) (a .bytes) (a .now-ms) (c .before .before .before .before .refund-outbound-message .result) (rw (c .before .before .before .before .before .before .outbound-of .ensures) at (c .before .before .before .before .refund-outbound-message .ensures)))
+    (refunded (a .self) (a .outbound-table .now) _ (a .peer) (a .bytes) (a .now-ms) (at-refund-outbound-message .refund-outbound-message .result) (rw (at-outbound-of .outbound-of .ensures) at (at-refund-outbound-message .refund-outbound-message .ensures)))
 
 pub refund-outbound-message-spec : {M : Type 1} → statement M
 refund-outbound-message-spec = tie.close (tie.spec outbound-of-requires refund-outbound-message-requires with-outbound-requires same-length returns)

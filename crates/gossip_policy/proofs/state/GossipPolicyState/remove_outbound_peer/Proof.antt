@@ -17,9 +17,13 @@ same-length : tie.Need-same-length
 same-length c = search needs
 
 returns : tie.Need-returns
-returns c = let a = c .before .before .before .before .before .before .before .before .args in
+returns c =
+    let at-remove-outbound-peer = c .before .before .before .before in
+    let at-outbound-of = at-remove-outbound-peer .before .before in
+    let begin = at-outbound-of .before .before in
+    let a = begin .args in
     rw (c .with-outbound .ensures)
-    (removed (a .self) (a .outbound-table .now) _ (a .peer) (c .before .before .before .before .remove-outbound-peer .result) (rw (c .before .before .before .before .before .before .outbound-of .ensures) at (c .before .before .before .before .remove-outbound-peer .ensures)))
+    (removed (a .self) (a .outbound-table .now) _ (a .peer) (at-remove-outbound-peer .remove-outbound-peer .result) (rw (at-outbound-of .outbound-of .ensures) at (at-remove-outbound-peer .remove-outbound-peer .ensures)))
 
 pub remove-outbound-peer-spec : {M : Type 1} → statement M
 remove-outbound-peer-spec = tie.close (tie.spec outbound-of-requires remove-outbound-peer-requires with-outbound-requires same-length returns)

@@ -17,9 +17,13 @@ same-length : tie.Need-same-length
 same-length c = search needs
 
 returns : tie.Need-returns
-returns c = let a = c .before .before .before .before .before .before .before .before .args in
+returns c =
+    let at-reserve-outbound-message = c .before .before .before .before in
+    let at-outbound-of = at-reserve-outbound-message .before .before in
+    let begin = at-outbound-of .before .before in
+    let a = begin .args in
     rw (c .with-outbound .ensures)
-    (reserved (a .self) (a .outbound-table .now) _ (a .peer) (a .bytes) (a .now-ms) (c .before .before .before .before .reserve-outbound-message .result) (rw (c .before .before .before .before .before .before .outbound-of .ensures) at (c .before .before .before .before .reserve-outbound-message .ensures)))
+    (reserved (a .self) (a .outbound-table .now) _ (a .peer) (a .bytes) (a .now-ms) (at-reserve-outbound-message .reserve-outbound-message .result) (rw (at-outbound-of .outbound-of .ensures) at (at-reserve-outbound-message .reserve-outbound-message .ensures)))
 
 pub reserve-outbound-message-spec : {M : Type 1} → statement M
 reserve-outbound-message-spec = tie.close (tie.spec outbound-of-requires reserve-outbound-message-requires with-outbound-requires same-length returns)

@@ -29,8 +29,14 @@ same-length : tie.Need-same-length
 same-length c = search needs
 
 returns-3 : tie.Need-returns-3
-returns-3 c = let a = c .before .before .before .before .before .before .before .before .before .before .args in
-    rw (c .fresh .ensures) (new-made (a .config) (a .table .now) (c .before .before .before .before .before .before .before .if1 .left) (omega (arith, c .before .before .before .before .before .if2 .left, c .before .before .before .before .before .before .limit .ensures)) _ (c .before .before .before .zero-rows .ensures ∙ ap (λ (n : ℕ). put (a .table .now) 0 (zeros (121 * n))) (c .before .before .before .before .before .before .limit .ensures)))
+returns-3 c =
+    let at-zero-rows = c .before .before .before in
+    let at-if2 = at-zero-rows .before .before in
+    let at-limit = at-if2 .before in
+    let at-if1 = at-limit .before in
+    let begin = at-if1 .before .before .before in
+    let a = begin .args in
+    rw (c .fresh .ensures) (new-made (a .config) (a .table .now) (at-if1 .if1 .left) (omega (arith, at-if2 .if2 .left, at-limit .limit .ensures)) _ (at-zero-rows .zero-rows .ensures ∙ ap (λ (n : ℕ). put (a .table .now) 0 (zeros (121 * n))) (at-limit .limit .ensures)))
 
 pub new-spec : {M : Type 1} → statement M
 new-spec =

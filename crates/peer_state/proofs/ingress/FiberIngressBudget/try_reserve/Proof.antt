@@ -66,9 +66,13 @@ reserved-requires-2 c κs = search needs
 returns-6 : tie.Need-returns-6
 unfolding tryReserve
 returns-6 c =
-    let u : unlimited (c .before .before .before .before .before .before .before .before .args .config) ≡ false = sym (c .before .before .before .before .before .before .before .is-unlimited .ensures) ∙ c .before .before .before .before .before .before .if1 .left in
-    let a = c .before .before .before .before .before .before .before .before .args in
-    rw (u, lt-leb (a .config .«max_in_flight_messages») (a .self .«in_flight_messages») (omega arith), le-ltb (a .config .«max_in_flight_bytes» - a .self .«in_flight_bytes») (a .size) (omega (arith, c .before .before .saturating-sub .ensures)), c .reserved2 .ensures)
+    let at-saturating-sub = c .before .before in
+    let at-if1 = at-saturating-sub .before .before .before .before in
+    let at-is-unlimited = at-if1 .before in
+    let begin = at-is-unlimited .before in
+    let u : unlimited (begin .args .config) ≡ false = sym (at-is-unlimited .is-unlimited .ensures) ∙ at-if1 .if1 .left in
+    let a = begin .args in
+    rw (u, lt-leb (a .config .«max_in_flight_messages») (a .self .«in_flight_messages») (omega arith), le-ltb (a .config .«max_in_flight_bytes» - a .self .«in_flight_bytes») (a .size) (omega (arith, at-saturating-sub .saturating-sub .ensures)), c .reserved2 .ensures)
 
 pub try-reserve-spec : {M : Type 1} → statement M
 try-reserve-spec =
