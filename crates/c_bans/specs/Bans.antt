@@ -19,8 +19,8 @@ use Rattle.gossip_bans.specs.declared.answer.Pruned.the-variants as Pruned
 use Rattle.gossip_bans.specs.declared.answer.Tracked.{Tracked}
 use Rattle.gossip_bans.specs.declared.answer.Tracked.the-variants as Tracked
 use Rattle.gossip_bans.specs.Calls.{MadeMeets, RecordViolationMeets, IsBannedMeets, ScoreMeets, PruneExpiredMeets, TrackedPeersMeets}
-use Rattle.c_terms.specs.declared.said.Said.{Said}
-use Rattle.c_terms.specs.Answers.{said, toldSaid}
+use Rattle.c_terms.specs.declared.reply.Reply.{Reply}
+use Rattle.c_terms.specs.Answers.{reply, toldReply}
 use Rattle.c_bans.specs.declared.blame.Blame.{Blame}
 use Rattle.c_bans.specs.declared.blame.Blame.the-variants as Blame
 use Rattle.c_bans.specs.declared.bans.BanOperation.{BanOperation}
@@ -59,32 +59,32 @@ banShorts t = t .config .threshold ∷ []
 
 -- ════ Answers ════
 
-abbrev pub banDone : GossipBanTracker → Said → BanDone
-banDone t s = record { tracker = t; said = s }
+abbrev pub banDone : GossipBanTracker → Reply → BanDone
+banDone t s = record { tracker = t; reply = s }
 
 -- 261 and the tracker that was made; on a refusal the one that the words said
 abbrev pub madeDone : GossipBanTracker → MadeTracker → BanDone
-madeDone t (MadeTracker.Tracker q) = banDone q (said 261 0)
-madeDone t (MadeTracker.Refused n) = banDone t (said n 0)
+madeDone t (MadeTracker.Tracker q) = banDone q (reply 261 0)
+madeDone t (MadeTracker.Refused n) = banDone t (reply n 0)
 
 -- 260 for yes, 259 for no
 abbrev pub toldDone : BanTold → BanDone
-toldDone a = banDone (a .tracker) (toldSaid (a .answer))
+toldDone a = banDone (a .tracker) (toldReply (a .answer))
 
 -- 261 and the score
-abbrev pub scoredSaid : Scored → Said
-scoredSaid (Scored.Score n) = said 261 n
-scoredSaid (Scored.Refused n) = said n 0
+abbrev pub scoredReply : Scored → Reply
+scoredReply (Scored.Score n) = reply 261 n
+scoredReply (Scored.Refused n) = reply n 0
 
 -- 261 for entries that have gone
-abbrev pub prunedSaid : Pruned → Said
-prunedSaid Pruned.Done = said 261 0
-prunedSaid (Pruned.Refused n) = said n 0
+abbrev pub prunedReply : Pruned → Reply
+prunedReply Pruned.Done = reply 261 0
+prunedReply (Pruned.Refused n) = reply n 0
 
 -- 261 and how many peers have an entry
-abbrev pub trackedSaid : Tracked → Said
-trackedSaid (Tracked.Peers n) = said 261 n
-trackedSaid (Tracked.Refused n) = said n 0
+abbrev pub trackedReply : Tracked → Reply
+trackedReply (Tracked.Peers n) = reply 261 n
+trackedReply (Tracked.Refused n) = reply n 0
 
 -- ════ The calls ════
 
@@ -92,7 +92,7 @@ trackedSaid (Tracked.Refused n) = said n 0
 abbrev pub BlameDoes : Blame → GossipBanTracker → List ℕ → Pubkey → ℕ → BanDone → List ℕ → Type 0
 BlameDoes (Blame.Violation v) t before k now d after =
     Some (λ a. RecordViolationMeets t before k v now a after) (λ a. d ≡ toldDone a)
-BlameDoes Blame.Unknown t before k now d after = Untouched d (banDone t (said 0 0)) before after
+BlameDoes Blame.Unknown t before k now d after = Untouched d (banDone t (reply 0 0)) before after
 
 -- what each operation does: there is an answer that meets the call's contract, with every lent byte, and it is what is said
 abbrev pub BanDoes : BanOperation → GossipBanTracker → List ℕ → Pubkey → ℕ → ℕ → BanDone → List ℕ → Type 0
@@ -103,16 +103,16 @@ BanDoes WithMaxEntries t before k v now d after =
 BanDoes RecordViolation t before k v now d after = BlameDoes (blameOf v) t before k now d after
 BanDoes IsBanned t before k v now d after = Some (λ a. IsBannedMeets t before k now a after) (λ a. d ≡ toldDone a)
 BanDoes Score t before k v now d after =
-    Some (λ a. ScoreMeets t before k now a after) (λ a. d ≡ banDone (a .tracker) (scoredSaid (a .answer)))
+    Some (λ a. ScoreMeets t before k now a after) (λ a. d ≡ banDone (a .tracker) (scoredReply (a .answer)))
 BanDoes PruneExpired t before k v now d after =
-    Some (λ a. PruneExpiredMeets t before now a after) (λ a. d ≡ banDone (a .tracker) (prunedSaid (a .answer)))
+    Some (λ a. PruneExpiredMeets t before now a after) (λ a. d ≡ banDone (a .tracker) (prunedReply (a .answer)))
 BanDoes TrackedPeers t before k v now d after =
-    Some (λ a. TrackedPeersMeets t a) (λ a. Untouched d (banDone t (trackedSaid a)) before after)
-BanDoes Unknown t before k v now d after = Untouched d (banDone t (said 0 0)) before after
+    Some (λ a. TrackedPeersMeets t a) (λ a. Untouched d (banDone t (trackedReply a)) before after)
+BanDoes Unknown t before k v now d after = Untouched d (banDone t (reply 0 0)) before after
 
 -- the number returned, and the words and the value after the call
 abbrev pub BanLeft : BanDone → List ℕ → List ℕ → List ℕ → ℕ → List ℕ → List ℕ → List ℕ → Type 0
-BanLeft d = Left (d .said) (banLongs (d .tracker)) (banShorts (d .tracker))
+BanLeft d = Left (d .reply) (banLongs (d .tracker)) (banShorts (d .tracker))
 
 -- uglezmir_bans
 abbrev pub BanExported : ℕ → List ℕ → List ℕ → List ℕ → List ℕ → ℕ → ℕ → List ℕ → ℕ → List ℕ → List ℕ → List ℕ → List ℕ → Type 0

@@ -50,4 +50,4 @@ pub uglezmir-bans-outcome : (operation : ℕ) (longs shorts before k : List ℕ)
     → Alike r q longs' longs'' shorts' shorts'' value' value'' × (first ≡ second)
 uglezmir-bans-outcome operation longs shorts before k v now value {first = first} {second = second} =
     some-one (does-one before {first = first} {second = second} (trackerOf longs shorts) (keyOf k) now (banOperation operation) v)
-    (λ d. left-one (d .said) (banLongs (d .tracker)) (banShorts (d .tracker)) longs shorts value)
+    (λ d. left-one (d .reply) (banLongs (d .tracker)) (banShorts (d .tracker)) longs shorts value)

@@ -2,11 +2,11 @@
 // whether a peer is banned, 5 for its score, 6 forgets expired entries, 7 asks how many peers have an entry.
 ghost use mathlib.Core.Path.{_≡_};
 ghost use Rattle.c_bans.specs.Blame.{blameOf};
-ghost use Rattle.c_bans.specs.Bans.{banOperation, trackerOf, madeDone, toldDone, scoredSaid, prunedSaid, trackedSaid, BlameDoes, BanDoes, BanLeft, BanExported};
+ghost use Rattle.c_bans.specs.Bans.{banOperation, trackerOf, madeDone, toldDone, scoredReply, prunedReply, trackedReply, BlameDoes, BanDoes, BanLeft, BanExported};
 use super::blame;
 use super::blame::Blame;
-use c_terms::said;
-use c_terms::said::Said;
+use c_terms::reply;
+use c_terms::reply::Reply;
 use gossip_bans::answer::BanTold;
 use gossip_bans::answer::MadeTracker;
 use gossip_bans::answer::Pruned;
@@ -30,7 +30,7 @@ pub enum BanOperation {
 // The tracker after a call, and what the call said.
 pub struct BanDone {
     pub tracker: GossipBanTracker,
-    pub said: Said,
+    pub reply: Reply,
 }
 
 fn operation_of(n: u32) -> BanOperation
@@ -67,11 +67,11 @@ fn made(t: GossipBanTracker, a: MadeTracker) -> BanDone
     match a {
         MadeTracker::Tracker(tracker) => BanDone {
             tracker,
-            said: said::plain(said::DONE),
+            reply: reply::plain(reply::DONE),
         },
         MadeTracker::Refused(n) => BanDone {
             tracker: t,
-            said: said::plain(n),
+            reply: reply::plain(n),
         },
     }
 }
@@ -83,34 +83,34 @@ fn told(a: BanTold) -> BanDone
     let answer = a.answer;
     BanDone {
         tracker,
-        said: said::told(answer),
+        reply: reply::told(answer),
     }
 }
 
-fn scored(a: Scored) -> Said
-    ensures { λ r. ⌜ r ≡ scoredSaid a ⌝ }
+fn scored(a: Scored) -> Reply
+    ensures { λ r. ⌜ r ≡ scoredReply a ⌝ }
 {
     match a {
-        Scored::Score(n) => said::value(n as u64),
-        Scored::Refused(n) => said::plain(n),
+        Scored::Score(n) => reply::value(n as u64),
+        Scored::Refused(n) => reply::plain(n),
     }
 }
 
-pub fn pruned(a: Pruned) -> Said
-    ensures { λ r. ⌜ r ≡ prunedSaid a ⌝ }
+pub fn pruned(a: Pruned) -> Reply
+    ensures { λ r. ⌜ r ≡ prunedReply a ⌝ }
 {
     match a {
-        Pruned::Done => said::plain(said::DONE),
-        Pruned::Refused(n) => said::plain(n),
+        Pruned::Done => reply::plain(reply::DONE),
+        Pruned::Refused(n) => reply::plain(n),
     }
 }
 
-fn tracked(a: Tracked) -> Said
-    ensures { λ r. ⌜ r ≡ trackedSaid a ⌝ }
+fn tracked(a: Tracked) -> Reply
+    ensures { λ r. ⌜ r ≡ trackedReply a ⌝ }
 {
     match a {
-        Tracked::Peers(n) => said::value(n),
-        Tracked::Refused(n) => said::plain(n),
+        Tracked::Peers(n) => reply::value(n),
+        Tracked::Refused(n) => reply::plain(n),
     }
 }
 
@@ -128,7 +128,7 @@ fn blamed(
         Blame::Violation(v) => told(t.record_violation(table, peer, v, now_ms)),
         Blame::Unknown => BanDone {
             tracker: t,
-            said: said::plain(said::UNKNOWN),
+            reply: reply::plain(reply::UNKNOWN),
         },
     }
 }
@@ -163,7 +163,7 @@ fn done(
             let answer = r.answer;
             BanDone {
                 tracker,
-                said: scored(answer),
+                reply: scored(answer),
             }
         }
         BanOperation::PruneExpired => {
@@ -172,16 +172,16 @@ fn done(
             let answer = r.answer;
             BanDone {
                 tracker,
-                said: pruned(answer),
+                reply: pruned(answer),
             }
         }
         BanOperation::TrackedPeers => BanDone {
             tracker: t,
-            said: tracked(t.tracked_peers()),
+            reply: tracked(t.tracked_peers()),
         },
         BanOperation::Unknown => BanDone {
             tracker: t,
-            said: said::plain(said::UNKNOWN),
+            reply: reply::plain(reply::UNKNOWN),
         },
     }
 }
@@ -190,16 +190,16 @@ fn done(
 fn leave(longs: &mut [u64; 3], shorts: &mut [u32; 1], value: &mut [u64; 1], d: BanDone) -> u32
     ensures { λ r. ⌜ BanLeft d (now (longs .entry)) (now (shorts .entry)) (now (value .entry)) r (now (longs .exit)) (now (shorts .exit)) (now (value .exit)) ⌝ }
 {
-    let said = d.said;
-    if said.number < said::ANSWERS {
-        return said.number;
+    let reply = d.reply;
+    if reply.number < reply::ANSWERS {
+        return reply.number;
     }
     let t = d.tracker;
     let config = t.config;
     *longs = [config.duration_ms, t.max_entries, t.rows];
     *shorts = [config.threshold];
-    *value = [said.value];
-    said.number
+    *value = [reply.value];
+    reply.number
 }
 
 #[no_mangle]

@@ -10,11 +10,11 @@ use Rattle.bucket_bytes.specs.declared.bytes.ByteTokenBucket.{ByteTokenBucket}
 use Rattle.bucket_terms.specs.Limit.{byteLimit, byteDisabled}
 use Rattle.bucket_bytes.specs.ByteBucket.{byteNew}
 use Rattle.bucket_bytes.specs.ByteBucket.{ByteRefillMeets, ByteTryConsumeMeets, ByteReserveMeets, BytePeekDelayMeets, ByteRefundMeets, ByteHasDebtMeets}
-use Rattle.c_terms.specs.declared.said.Said.{Said}
+use Rattle.c_terms.specs.declared.reply.Reply.{Reply}
 use Rattle.c_buckets.specs.declared.bytes.ByteOperation.{ByteOperation}
 use Rattle.c_buckets.specs.declared.bytes.ByteOperation.the-variants.{New, Refill, TryConsume, Reserve, PeekDelay, Refund, HasDebt, BurstBytes, IsDisabled, Unknown}
 use Rattle.c_buckets.specs.declared.bytes.ByteDone.{ByteDone}
-use Rattle.c_terms.specs.Answers.{said, truthSaid, refilledSaid, consumedSaid, delaySaid, toldSaid, kept}
+use Rattle.c_terms.specs.Answers.{reply, truthReply, refilledReply, consumedReply, delayReply, toldReply, kept}
 use Rattle.c_terms.specs.AmountWords.{amountOfWords, amountWords}
 
 -- the operation of a number
@@ -40,33 +40,33 @@ byteOf longs available =
 abbrev pub byteLongs : ByteTokenBucket → List ℕ
 byteLongs b = b .config .«rate_bytes_per_sec» ∷ b .config .«burst_bytes» ∷ b .«last_refill_ms» ∷ []
 
-abbrev pub byteDone : ByteTokenBucket → Said → ByteDone
-byteDone b s = record { bucket = b; said = s }
+abbrev pub byteDone : ByteTokenBucket → Reply → ByteDone
+byteDone b s = record { bucket = b; reply = s }
 
 -- what each operation does: there is an answer that meets the call's contract, and it is what is said
 abbrev pub ByteDoes : ByteOperation → ByteTokenBucket → ℕ → ℕ → ByteDone → Type 0
-ByteDoes New b bytes now d = d ≡ byteDone (byteNew (b .config)) (said 261 0)
+ByteDoes New b bytes now d = d ≡ byteDone (byteNew (b .config)) (reply 261 0)
 ByteDoes Refill b bytes now d =
-    Some (λ a. ByteRefillMeets b now a) (λ a. d ≡ byteDone (a .bucket) (refilledSaid (a .answer)))
+    Some (λ a. ByteRefillMeets b now a) (λ a. d ≡ byteDone (a .bucket) (refilledReply (a .answer)))
 ByteDoes TryConsume b bytes now d =
-    Some (λ a. ByteTryConsumeMeets b bytes now a) (λ a. d ≡ byteDone (a .bucket) (consumedSaid (a .answer)))
+    Some (λ a. ByteTryConsumeMeets b bytes now a) (λ a. d ≡ byteDone (a .bucket) (consumedReply (a .answer)))
 ByteDoes Reserve b bytes now d =
-    Some (λ a. ByteReserveMeets b bytes now a) (λ a. d ≡ byteDone (a .bucket) (delaySaid (a .answer)))
-ByteDoes PeekDelay b bytes now d = Some (λ a. BytePeekDelayMeets b bytes now a) (λ a. d ≡ byteDone b (delaySaid a))
+    Some (λ a. ByteReserveMeets b bytes now a) (λ a. d ≡ byteDone (a .bucket) (delayReply (a .answer)))
+ByteDoes PeekDelay b bytes now d = Some (λ a. BytePeekDelayMeets b bytes now a) (λ a. d ≡ byteDone b (delayReply a))
 ByteDoes Refund b bytes now d =
-    Some (λ a. ByteRefundMeets b bytes now a) (λ a. d ≡ byteDone (a .bucket) (refilledSaid (a .answer)))
-ByteDoes HasDebt b bytes now d = Some (λ a. ByteHasDebtMeets b now a) (λ a. d ≡ byteDone b (toldSaid a))
-ByteDoes BurstBytes b bytes now d = d ≡ byteDone b (said 261 (b .config .«burst_bytes»))
-ByteDoes IsDisabled b bytes now d = d ≡ byteDone b (truthSaid (byteDisabled (b .config)))
-ByteDoes Unknown b bytes now d = d ≡ byteDone b (said 0 0)
+    Some (λ a. ByteRefundMeets b bytes now a) (λ a. d ≡ byteDone (a .bucket) (refilledReply (a .answer)))
+ByteDoes HasDebt b bytes now d = Some (λ a. ByteHasDebtMeets b now a) (λ a. d ≡ byteDone b (toldReply a))
+ByteDoes BurstBytes b bytes now d = d ≡ byteDone b (reply 261 (b .config .«burst_bytes»))
+ByteDoes IsDisabled b bytes now d = d ≡ byteDone b (truthReply (byteDisabled (b .config)))
+ByteDoes Unknown b bytes now d = d ≡ byteDone b (reply 0 0)
 
 -- the number returned, and the words and the value after the call
 abbrev pub ByteLeft : ByteDone → List ℕ → List ℕ → ℕ → ℕ → List ℕ → List ℕ → ℕ → Type 0
 ByteLeft d longs available value r longs' available' value' =
-    (r ≡ d .said .number)
-    × (longs' ≡ kept (d .said .number) longs (byteLongs (d .bucket)))
-    × (available' ≡ kept (d .said .number) available (amountWords (d .bucket .«available_bytes»)))
-    × (value' ≡ kept (d .said .number) value (d .said .value))
+    (r ≡ d .reply .number)
+    × (longs' ≡ kept (d .reply .number) longs (byteLongs (d .bucket)))
+    × (available' ≡ kept (d .reply .number) available (amountWords (d .bucket .«available_bytes»)))
+    × (value' ≡ kept (d .reply .number) value (d .reply .value))
 
 -- uglezmir_byte
 abbrev pub ByteExported : ℕ → List ℕ → List ℕ → ℕ → ℕ → ℕ → ℕ → List ℕ → List ℕ → ℕ → Type 0

@@ -7,11 +7,11 @@ use lib.Dec.{eqb}
 use lib.ListN.{getD}
 use Rattle.bucket_terms.specs.declared.limit.ByteRateLimitConfig.{ByteRateLimitConfig}
 use Rattle.bucket_terms.specs.Limit.{byteLimit, byteDisabled}
-use Rattle.c_terms.specs.declared.said.Said.{Said}
+use Rattle.c_terms.specs.declared.reply.Reply.{Reply}
 use Rattle.c_buckets.specs.declared.limits.LimitOperation.{LimitOperation}
 use Rattle.c_buckets.specs.declared.limits.LimitOperation.the-variants.{DefaultGlobal, DefaultPeer, IsDisabled, Unknown}
 use Rattle.c_buckets.specs.declared.limits.LimitDone.{LimitDone}
-use Rattle.c_terms.specs.Answers.{said, truthSaid, kept}
+use Rattle.c_terms.specs.Answers.{reply, truthReply, kept}
 
 -- the operation of a number
 abbrev pub limitOperation : ℕ → LimitOperation
@@ -25,19 +25,19 @@ limitOf words = byteLimit (getD words 0 0) (getD words 1 0)
 abbrev pub limitWords : ByteRateLimitConfig → List ℕ
 limitWords c = c .«rate_bytes_per_sec» ∷ c .«burst_bytes» ∷ []
 
-abbrev pub limitSays : ByteRateLimitConfig → Said → LimitDone
-limitSays c s = record { limit = c; said = s }
+abbrev pub limitSays : ByteRateLimitConfig → Reply → LimitDone
+limitSays c s = record { limit = c; reply = s }
 
 -- what each operation does
 abbrev pub limitDone : LimitOperation → ByteRateLimitConfig → LimitDone
-limitDone DefaultGlobal c = limitSays (byteLimit 1024000 2048000) (said 261 0)
-limitDone DefaultPeer c = limitSays (byteLimit 51200 102400) (said 261 0)
-limitDone IsDisabled c = limitSays c (truthSaid (byteDisabled c))
-limitDone Unknown c = limitSays c (said 0 0)
+limitDone DefaultGlobal c = limitSays (byteLimit 1024000 2048000) (reply 261 0)
+limitDone DefaultPeer c = limitSays (byteLimit 51200 102400) (reply 261 0)
+limitDone IsDisabled c = limitSays c (truthReply (byteDisabled c))
+limitDone Unknown c = limitSays c (reply 0 0)
 
 -- the number returned, and the words after the call
 abbrev pub LimitLeft : LimitDone → List ℕ → ℕ → List ℕ → Type 0
-LimitLeft d words r words' = (r ≡ d .said .number) × (words' ≡ kept (d .said .number) words (limitWords (d .limit)))
+LimitLeft d words r words' = (r ≡ d .reply .number) × (words' ≡ kept (d .reply .number) words (limitWords (d .limit)))
 
 -- uglezmir_limit
 abbrev pub LimitExported : ℕ → List ℕ → ℕ → List ℕ → Type 0

@@ -7,11 +7,11 @@ use lib.Dec.{eqb}
 use lib.ListN.{getD}
 use Rattle.peer_settings.specs.declared.config.PeerMessagePolicyConfig.{PeerMessagePolicyConfig}
 use Rattle.peer_settings.specs.Config.{configDefault, configWithLimits, messageLimitDisabled, banDisabled, unlimited}
-use Rattle.c_terms.specs.declared.said.Said.{Said}
+use Rattle.c_terms.specs.declared.reply.Reply.{Reply}
 use Rattle.c_buckets.specs.declared.settings.SettingsOperation.{SettingsOperation}
 use Rattle.c_buckets.specs.declared.settings.SettingsOperation.the-variants.{Default, WithLimits, MessageLimitDisabled, BanDisabled, IsUnlimited, Unknown}
 use Rattle.c_buckets.specs.declared.settings.SettingsDone.{SettingsDone}
-use Rattle.c_terms.specs.Answers.{said, truthSaid, kept}
+use Rattle.c_terms.specs.Answers.{reply, truthReply, kept}
 
 -- the operation of a number
 abbrev pub settingsOperation : ℕ → SettingsOperation
@@ -50,25 +50,25 @@ settingsLongs c =
 abbrev pub settingsShorts : PeerMessagePolicyConfig → List ℕ
 settingsShorts c = c .«peer_message_burst» ∷ c .«violation_ban_threshold» ∷ c .«max_in_flight_messages» ∷ []
 
-abbrev pub settingsSay : PeerMessagePolicyConfig → Said → SettingsDone
-settingsSay c s = record { config = c; said = s }
+abbrev pub settingsSay : PeerMessagePolicyConfig → Reply → SettingsDone
+settingsSay c s = record { config = c; reply = s }
 
 -- what each operation does
 abbrev pub settingsDone : SettingsOperation → PeerMessagePolicyConfig → SettingsDone
-settingsDone Default c = settingsSay configDefault (said 261 0)
+settingsDone Default c = settingsSay configDefault (reply 261 0)
 settingsDone WithLimits c =
-    settingsSay (configWithLimits (c .«max_tracked_peers») (c .«max_in_flight_messages») (c .«max_in_flight_bytes»)) (said 261 0)
-settingsDone MessageLimitDisabled c = settingsSay c (truthSaid (messageLimitDisabled c))
-settingsDone BanDisabled c = settingsSay c (truthSaid (banDisabled c))
-settingsDone IsUnlimited c = settingsSay c (truthSaid (unlimited c))
-settingsDone Unknown c = settingsSay c (said 0 0)
+    settingsSay (configWithLimits (c .«max_tracked_peers») (c .«max_in_flight_messages») (c .«max_in_flight_bytes»)) (reply 261 0)
+settingsDone MessageLimitDisabled c = settingsSay c (truthReply (messageLimitDisabled c))
+settingsDone BanDisabled c = settingsSay c (truthReply (banDisabled c))
+settingsDone IsUnlimited c = settingsSay c (truthReply (unlimited c))
+settingsDone Unknown c = settingsSay c (reply 0 0)
 
 -- the number returned, and the words after the call
 abbrev pub SettingsLeft : SettingsDone → List ℕ → List ℕ → ℕ → List ℕ → List ℕ → Type 0
 SettingsLeft d longs shorts r longs' shorts' =
-    (r ≡ d .said .number)
-    × (longs' ≡ kept (d .said .number) longs (settingsLongs (d .config)))
-    × (shorts' ≡ kept (d .said .number) shorts (settingsShorts (d .config)))
+    (r ≡ d .reply .number)
+    × (longs' ≡ kept (d .reply .number) longs (settingsLongs (d .config)))
+    × (shorts' ≡ kept (d .reply .number) shorts (settingsShorts (d .config)))
 
 -- uglezmir_settings
 abbrev pub SettingsExported : ℕ → List ℕ → List ℕ → ℕ → List ℕ → List ℕ → Type 0

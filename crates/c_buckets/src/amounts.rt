@@ -1,11 +1,11 @@
 // Amounts, under the numbers of the recorded lists: 0 from_u64, 1 is_negative, 2 is_below, 3 is_above, 4 lesser, 5 saturating_add,
 // 6 saturating_sub, 7 deficit, 8 to_u64, 9 is_i128, 10 product_over 1,000, 11 times 1,000, 12 div_ceil_low.
 ghost use mathlib.Core.Path.{_≡_};
-ghost use Rattle.c_buckets.specs.Amounts.{amountOperation, quotientSaid, amountDone, AmountLeft, AmountExported};
+ghost use Rattle.c_buckets.specs.Amounts.{amountOperation, quotientReply, amountDone, AmountLeft, AmountExported};
 use amount::Amount;
 use c_terms::amount_words;
-use c_terms::said;
-use c_terms::said::Said;
+use c_terms::reply;
+use c_terms::reply::Reply;
 use token_bucket::bytes::ByteTokenBucket;
 
 pub enum AmountOperation {
@@ -28,7 +28,7 @@ pub enum AmountOperation {
 // The amount that a call answers, or its first operand where it answers no amount, and what the call said.
 pub struct AmountDone {
     pub amount: Amount,
-    pub said: Said,
+    pub reply: Reply,
 }
 
 fn operation_of(n: u32) -> AmountOperation
@@ -53,13 +53,13 @@ fn operation_of(n: u32) -> AmountOperation
 }
 
 // No number is divided by 0.
-fn quotient(a: Amount, divisor: u64) -> Said
-    ensures { λ r. ⌜ r ≡ quotientSaid a divisor ⌝ }
+fn quotient(a: Amount, divisor: u64) -> Reply
+    ensures { λ r. ⌜ r ≡ quotientReply a divisor ⌝ }
 {
     if divisor == 0 {
-        return said::plain(said::UNKNOWN);
+        return reply::plain(reply::UNKNOWN);
     }
-    said::value(a.div_ceil_low(divisor))
+    reply::value(a.div_ceil_low(divisor))
 }
 
 fn done(operation: AmountOperation, a: Amount, b: Amount, n: u64, m: u64) -> AmountDone
@@ -68,59 +68,59 @@ fn done(operation: AmountOperation, a: Amount, b: Amount, n: u64, m: u64) -> Amo
     match operation {
         AmountOperation::FromU64 => AmountDone {
             amount: Amount::from_u64(n),
-            said: said::plain(said::DONE),
+            reply: reply::plain(reply::DONE),
         },
         AmountOperation::IsNegative => AmountDone {
             amount: a,
-            said: said::truth(a.is_negative()),
+            reply: reply::truth(a.is_negative()),
         },
         AmountOperation::IsBelow => AmountDone {
             amount: a,
-            said: said::truth(a.is_below(b)),
+            reply: reply::truth(a.is_below(b)),
         },
         AmountOperation::IsAbove => AmountDone {
             amount: a,
-            said: said::truth(a.is_above(n)),
+            reply: reply::truth(a.is_above(n)),
         },
         AmountOperation::Lesser => AmountDone {
             amount: a.lesser(n),
-            said: said::plain(said::DONE),
+            reply: reply::plain(reply::DONE),
         },
         AmountOperation::SaturatingAdd => AmountDone {
             amount: a.saturating_add(b),
-            said: said::plain(said::DONE),
+            reply: reply::plain(reply::DONE),
         },
         AmountOperation::SaturatingSub => AmountDone {
             amount: a.saturating_sub(n),
-            said: said::plain(said::DONE),
+            reply: reply::plain(reply::DONE),
         },
         AmountOperation::Deficit => AmountDone {
             amount: a.deficit(n),
-            said: said::plain(said::DONE),
+            reply: reply::plain(reply::DONE),
         },
         AmountOperation::ToU64 => AmountDone {
             amount: a,
-            said: said::value(a.to_u64()),
+            reply: reply::value(a.to_u64()),
         },
         AmountOperation::IsI128 => AmountDone {
             amount: a,
-            said: said::truth(a.is_i128()),
+            reply: reply::truth(a.is_i128()),
         },
         AmountOperation::ProductPerThousand => AmountDone {
             amount: Amount::product_over(n, m, ByteTokenBucket::MS_PER_SEC),
-            said: said::plain(said::DONE),
+            reply: reply::plain(reply::DONE),
         },
         AmountOperation::TimesThousand => AmountDone {
             amount: a.times(ByteTokenBucket::MS_PER_SEC),
-            said: said::plain(said::DONE),
+            reply: reply::plain(reply::DONE),
         },
         AmountOperation::DivCeilLow => AmountDone {
             amount: a,
-            said: quotient(a, n),
+            reply: quotient(a, n),
         },
         AmountOperation::Unknown => AmountDone {
             amount: a,
-            said: said::plain(said::UNKNOWN),
+            reply: reply::plain(reply::UNKNOWN),
         },
     }
 }
@@ -129,14 +129,14 @@ fn done(operation: AmountOperation, a: Amount, b: Amount, n: u64, m: u64) -> Amo
 fn leave(result: &mut [u32; 5], value: &mut u64, d: AmountDone) -> u32
     ensures { λ r. ⌜ AmountLeft d (now (result .entry)) (now (value .entry)) r (now (result .exit)) (now (value .exit)) ⌝ }
 {
-    let said = d.said;
-    if said.number < said::ANSWERS {
-        return said.number;
+    let reply = d.reply;
+    if reply.number < reply::ANSWERS {
+        return reply.number;
     }
     let amount = d.amount;
     *result = amount_words::words_of(amount);
-    *value = said.value;
-    said.number
+    *value = reply.value;
+    reply.number
 }
 
 #[no_mangle]

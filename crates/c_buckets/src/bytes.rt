@@ -3,8 +3,8 @@
 ghost use mathlib.Core.Path.{_≡_};
 ghost use Rattle.c_buckets.specs.Bytes.{byteOperation, byteOf, ByteDoes, ByteLeft, ByteExported};
 use c_terms::amount_words;
-use c_terms::said;
-use c_terms::said::Said;
+use c_terms::reply;
+use c_terms::reply::Reply;
 use token_bucket::bytes::ByteRateLimitConfig;
 use token_bucket::bytes::ByteTokenBucket;
 
@@ -24,7 +24,7 @@ pub enum ByteOperation {
 // The bucket after a call, and what the call said.
 pub struct ByteDone {
     pub bucket: ByteTokenBucket,
-    pub said: Said,
+    pub reply: Reply,
 }
 
 fn operation_of(n: u32) -> ByteOperation
@@ -66,7 +66,7 @@ fn done(operation: ByteOperation, b: ByteTokenBucket, bytes: u64, now_ms: u64) -
             let config = b.config;
             ByteDone {
                 bucket: ByteTokenBucket::new(config),
-                said: said::plain(said::DONE),
+                reply: reply::plain(reply::DONE),
             }
         }
         ByteOperation::Refill => {
@@ -75,7 +75,7 @@ fn done(operation: ByteOperation, b: ByteTokenBucket, bytes: u64, now_ms: u64) -
             let answer = r.answer;
             ByteDone {
                 bucket,
-                said: said::refilled(answer),
+                reply: reply::refilled(answer),
             }
         }
         ByteOperation::TryConsume => {
@@ -84,7 +84,7 @@ fn done(operation: ByteOperation, b: ByteTokenBucket, bytes: u64, now_ms: u64) -
             let answer = r.answer;
             ByteDone {
                 bucket,
-                said: said::consumed(answer),
+                reply: reply::consumed(answer),
             }
         }
         ByteOperation::Reserve => {
@@ -93,12 +93,12 @@ fn done(operation: ByteOperation, b: ByteTokenBucket, bytes: u64, now_ms: u64) -
             let answer = r.answer;
             ByteDone {
                 bucket,
-                said: said::delay(answer),
+                reply: reply::delay(answer),
             }
         }
         ByteOperation::PeekDelay => ByteDone {
             bucket: b,
-            said: said::delay(b.peek_delay_after_refill(bytes, now_ms)),
+            reply: reply::delay(b.peek_delay_after_refill(bytes, now_ms)),
         },
         ByteOperation::Refund => {
             let r = b.refund(bytes, now_ms);
@@ -106,24 +106,24 @@ fn done(operation: ByteOperation, b: ByteTokenBucket, bytes: u64, now_ms: u64) -
             let answer = r.answer;
             ByteDone {
                 bucket,
-                said: said::refilled(answer),
+                reply: reply::refilled(answer),
             }
         }
         ByteOperation::HasDebt => ByteDone {
             bucket: b,
-            said: said::told(b.has_debt(now_ms)),
+            reply: reply::told(b.has_debt(now_ms)),
         },
         ByteOperation::BurstBytes => ByteDone {
             bucket: b,
-            said: said::value(b.burst_bytes()),
+            reply: reply::value(b.burst_bytes()),
         },
         ByteOperation::IsDisabled => ByteDone {
             bucket: b,
-            said: said::truth(b.is_disabled()),
+            reply: reply::truth(b.is_disabled()),
         },
         ByteOperation::Unknown => ByteDone {
             bucket: b,
-            said: said::plain(said::UNKNOWN),
+            reply: reply::plain(reply::UNKNOWN),
         },
     }
 }
@@ -132,9 +132,9 @@ fn done(operation: ByteOperation, b: ByteTokenBucket, bytes: u64, now_ms: u64) -
 fn leave(longs: &mut [u64; 3], available: &mut [u32; 5], value: &mut u64, d: ByteDone) -> u32
     ensures { λ r. ⌜ ByteLeft d (now (longs .entry)) (now (available .entry)) (now (value .entry)) r (now (longs .exit)) (now (available .exit)) (now (value .exit)) ⌝ }
 {
-    let said = d.said;
-    if said.number < said::ANSWERS {
-        return said.number;
+    let reply = d.reply;
+    if reply.number < reply::ANSWERS {
+        return reply.number;
     }
     let b = d.bucket;
     let config = b.config;
@@ -145,8 +145,8 @@ fn leave(longs: &mut [u64; 3], available: &mut [u32; 5], value: &mut u64, d: Byt
         b.last_refill_ms,
     ];
     *available = amount_words::words_of(amount);
-    *value = said.value;
-    said.number
+    *value = reply.value;
+    reply.number
 }
 
 #[no_mangle]

@@ -1,8 +1,8 @@
 // The discrete bucket: 0 makes a full one of the words' interval and capacity, 1 refills, 2 takes a token, 3 asks whether it is full.
 ghost use mathlib.Core.Path.{_≡_};
 ghost use Rattle.c_buckets.specs.Discrete.{discreteOperation, discreteOf, discreteLongs, discreteShorts, DiscreteDoes, DiscreteLeft, DiscreteExported};
-use c_terms::said;
-use c_terms::said::Said;
+use c_terms::reply;
+use c_terms::reply::Reply;
 use token_bucket::discrete::DiscreteTokenBucket;
 
 pub enum DiscreteOperation {
@@ -16,7 +16,7 @@ pub enum DiscreteOperation {
 // The bucket after a call, and what the call said.
 pub struct DiscreteDone {
     pub bucket: DiscreteTokenBucket,
-    pub said: Said,
+    pub reply: Reply,
 }
 
 fn operation_of(n: u32) -> DiscreteOperation
@@ -48,7 +48,7 @@ fn done(operation: DiscreteOperation, b: DiscreteTokenBucket, now_ms: u64) -> Di
     match operation {
         DiscreteOperation::New => DiscreteDone {
             bucket: DiscreteTokenBucket::new(b.interval_ms, b.capacity),
-            said: said::plain(said::DONE),
+            reply: reply::plain(reply::DONE),
         },
         DiscreteOperation::Refill => {
             let r = b.refill(now_ms);
@@ -56,7 +56,7 @@ fn done(operation: DiscreteOperation, b: DiscreteTokenBucket, now_ms: u64) -> Di
             let answer = r.answer;
             DiscreteDone {
                 bucket,
-                said: said::refilled(answer),
+                reply: reply::refilled(answer),
             }
         }
         DiscreteOperation::TryConsume => {
@@ -65,16 +65,16 @@ fn done(operation: DiscreteOperation, b: DiscreteTokenBucket, now_ms: u64) -> Di
             let answer = r.answer;
             DiscreteDone {
                 bucket,
-                said: said::consumed(answer),
+                reply: reply::consumed(answer),
             }
         }
         DiscreteOperation::IsFull => DiscreteDone {
             bucket: b,
-            said: said::told(b.is_full()),
+            reply: reply::told(b.is_full()),
         },
         DiscreteOperation::Unknown => DiscreteDone {
             bucket: b,
-            said: said::plain(said::UNKNOWN),
+            reply: reply::plain(reply::UNKNOWN),
         },
     }
 }
@@ -83,15 +83,15 @@ fn done(operation: DiscreteOperation, b: DiscreteTokenBucket, now_ms: u64) -> Di
 fn leave(longs: &mut [u64; 2], shorts: &mut [u32; 2], value: &mut u64, d: DiscreteDone) -> u32
     ensures { λ r. ⌜ DiscreteLeft d (now (longs .entry)) (now (shorts .entry)) (now (value .entry)) r (now (longs .exit)) (now (shorts .exit)) (now (value .exit)) ⌝ }
 {
-    let said = d.said;
-    if said.number < said::ANSWERS {
-        return said.number;
+    let reply = d.reply;
+    if reply.number < reply::ANSWERS {
+        return reply.number;
     }
     let b = d.bucket;
     *longs = [b.interval_ms, b.last_refill_ms];
     *shorts = [b.capacity, b.available];
-    *value = said.value;
-    said.number
+    *value = reply.value;
+    reply.number
 }
 
 #[no_mangle]

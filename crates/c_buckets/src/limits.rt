@@ -1,8 +1,8 @@
 // The settings of a byte bucket: 0 leaves the global default, 1 the peers' default, 2 asks whether the limit is off.
 ghost use mathlib.Core.Path.{_≡_};
 ghost use Rattle.c_buckets.specs.Limits.{limitOperation, limitOf, limitDone, LimitLeft, LimitExported};
-use c_terms::said;
-use c_terms::said::Said;
+use c_terms::reply;
+use c_terms::reply::Reply;
 use token_bucket::bytes::ByteRateLimitConfig;
 
 pub enum LimitOperation {
@@ -15,7 +15,7 @@ pub enum LimitOperation {
 // The limit after a call, and what the call said.
 pub struct LimitDone {
     pub limit: ByteRateLimitConfig,
-    pub said: Said,
+    pub reply: Reply,
 }
 
 fn operation_of(n: u32) -> LimitOperation
@@ -44,19 +44,19 @@ fn done(operation: LimitOperation, limit: ByteRateLimitConfig) -> LimitDone
     match operation {
         LimitOperation::DefaultGlobal => LimitDone {
             limit: ByteRateLimitConfig::default_global(),
-            said: said::plain(said::DONE),
+            reply: reply::plain(reply::DONE),
         },
         LimitOperation::DefaultPeer => LimitDone {
             limit: ByteRateLimitConfig::default_peer(),
-            said: said::plain(said::DONE),
+            reply: reply::plain(reply::DONE),
         },
         LimitOperation::IsDisabled => LimitDone {
             limit,
-            said: said::truth(limit.is_disabled()),
+            reply: reply::truth(limit.is_disabled()),
         },
         LimitOperation::Unknown => LimitDone {
             limit,
-            said: said::plain(said::UNKNOWN),
+            reply: reply::plain(reply::UNKNOWN),
         },
     }
 }
@@ -65,13 +65,13 @@ fn done(operation: LimitOperation, limit: ByteRateLimitConfig) -> LimitDone
 fn leave(words: &mut [u64; 2], d: LimitDone) -> u32
     ensures { λ r. ⌜ LimitLeft d (now (words .entry)) r (now (words .exit)) ⌝ }
 {
-    let said = d.said;
-    if said.number < said::ANSWERS {
-        return said.number;
+    let reply = d.reply;
+    if reply.number < reply::ANSWERS {
+        return reply.number;
     }
     let limit = d.limit;
     *words = [limit.rate_bytes_per_sec, limit.burst_bytes];
-    said.number
+    reply.number
 }
 
 #[no_mangle]

@@ -2,8 +2,8 @@
 // the message limit is off, 3 whether bans are, 4 whether the ceiling is.
 ghost use mathlib.Core.Path.{_≡_};
 ghost use Rattle.c_buckets.specs.Settings.{settingsOperation, settingsOf, settingsLongs, settingsShorts, settingsDone, SettingsLeft, SettingsExported};
-use c_terms::said;
-use c_terms::said::Said;
+use c_terms::reply;
+use c_terms::reply::Reply;
 use peer_settings::config::PeerMessagePolicyConfig;
 
 pub enum SettingsOperation {
@@ -18,7 +18,7 @@ pub enum SettingsOperation {
 // The settings after a call, and what the call said.
 pub struct SettingsDone {
     pub config: PeerMessagePolicyConfig,
-    pub said: Said,
+    pub reply: Reply,
 }
 
 fn operation_of(n: u32) -> SettingsOperation
@@ -56,7 +56,7 @@ fn done(operation: SettingsOperation, c: PeerMessagePolicyConfig) -> SettingsDon
     match operation {
         SettingsOperation::Default => SettingsDone {
             config: PeerMessagePolicyConfig::default(),
-            said: said::plain(said::DONE),
+            reply: reply::plain(reply::DONE),
         },
         SettingsOperation::WithLimits => SettingsDone {
             config: PeerMessagePolicyConfig::with_limits(
@@ -64,23 +64,23 @@ fn done(operation: SettingsOperation, c: PeerMessagePolicyConfig) -> SettingsDon
                 c.max_in_flight_messages,
                 c.max_in_flight_bytes,
             ),
-            said: said::plain(said::DONE),
+            reply: reply::plain(reply::DONE),
         },
         SettingsOperation::MessageLimitDisabled => SettingsDone {
             config: c,
-            said: said::truth(c.message_limit_disabled()),
+            reply: reply::truth(c.message_limit_disabled()),
         },
         SettingsOperation::BanDisabled => SettingsDone {
             config: c,
-            said: said::truth(c.ban_disabled()),
+            reply: reply::truth(c.ban_disabled()),
         },
         SettingsOperation::IsUnlimited => SettingsDone {
             config: c,
-            said: said::truth(c.is_unlimited()),
+            reply: reply::truth(c.is_unlimited()),
         },
         SettingsOperation::Unknown => SettingsDone {
             config: c,
-            said: said::plain(said::UNKNOWN),
+            reply: reply::plain(reply::UNKNOWN),
         },
     }
 }
@@ -112,14 +112,14 @@ fn shorts_of(c: PeerMessagePolicyConfig) -> [u32; 3]
 fn leave(longs: &mut [u64; 6], shorts: &mut [u32; 3], d: SettingsDone) -> u32
     ensures { λ r. ⌜ SettingsLeft d (now (longs .entry)) (now (shorts .entry)) r (now (longs .exit)) (now (shorts .exit)) ⌝ }
 {
-    let said = d.said;
-    if said.number < said::ANSWERS {
-        return said.number;
+    let reply = d.reply;
+    if reply.number < reply::ANSWERS {
+        return reply.number;
     }
     let config = d.config;
     *longs = longs_of(config);
     *shorts = shorts_of(config);
-    said.number
+    reply.number
 }
 
 #[no_mangle]

@@ -19,8 +19,8 @@ use Rattle.gossip_policy.specs.declared.answer.DelayedByteCapacity.{DelayedByte
 use Rattle.gossip_policy.specs.declared.answer.DelayedByteCapacity.the-variants as DelayedByteCapacity
 use Rattle.gossip_policy.specs.State.{outboundOf, delayedByteCapacity}
 use Rattle.gossip_policy.specs.Calls.{NewMeets, RecordViolationMeets, IsBannedMeets, PruneBansMeets, AllowMeets, EstimateMeets, RemoveMeets, ReserveMeets, RefundMeets, BypassMeets}
-use Rattle.c_terms.specs.declared.said.Said.{Said}
-use Rattle.c_terms.specs.Answers.{said, truthSaid, toldSaid, delaySaid}
+use Rattle.c_terms.specs.declared.reply.Reply.{Reply}
+use Rattle.c_terms.specs.Answers.{reply, truthReply, toldReply, delayReply}
 use Rattle.c_bans.specs.declared.blame.Blame.{Blame}
 use Rattle.c_bans.specs.declared.blame.Blame.the-variants as Blame
 use Rattle.c_gossip.specs.declared.gossip.GossipOperation.{GossipOperation}
@@ -29,7 +29,7 @@ use Rattle.c_gossip.specs.declared.gossip.GossipDone.{GossipDone}
 use Rattle.c_terms.specs.Left.{Left, Untouched}
 use Rattle.c_terms.specs.Keys.{keyOf}
 use Rattle.c_bans.specs.Blame.{blameOf}
-use Rattle.c_bans.specs.Bans.{prunedSaid}
+use Rattle.c_bans.specs.Bans.{prunedReply}
 use Rattle.c_gossip.specs.GossipWords.{stateOf, configOf, gossipLongs, gossipShorts}
 
 -- the operation of a number
@@ -51,33 +51,33 @@ gossipOperation n =
 
 -- ════ Answers ════
 
-abbrev pub gossipDone : GossipPolicyState → Said → GossipDone
-gossipDone s x = record { state = s; said = x }
+abbrev pub gossipDone : GossipPolicyState → Reply → GossipDone
+gossipDone s x = record { state = s; reply = x }
 
 -- 260 for yes, 259 for no
 abbrev pub toldDone : GossipTold → GossipDone
-toldDone a = gossipDone (a .state) (toldSaid (a .answer))
+toldDone a = gossipDone (a .state) (toldReply (a .answer))
 
 -- 261 for entries that have gone
 abbrev pub prunedDone : GossipPruned → GossipDone
-prunedDone a = gossipDone (a .state) (prunedSaid (a .answer))
+prunedDone a = gossipDone (a .state) (prunedReply (a .answer))
 
 -- 261 for what was carried out
-abbrev pub settledSaid : Settled → Said
-settledSaid Settled.Done = said 261 0
-settledSaid (Settled.Refused n) = said n 0
+abbrev pub settledReply : Settled → Reply
+settledReply Settled.Done = reply 261 0
+settledReply (Settled.Refused n) = reply n 0
 
 abbrev pub settledDone : GossipSettled → GossipDone
-settledDone a = gossipDone (a .state) (settledSaid (a .answer))
+settledDone a = gossipDone (a .state) (settledReply (a .answer))
 
 -- 261 and the milliseconds
 abbrev pub reservedDone : GossipReserved → GossipDone
-reservedDone a = gossipDone (a .state) (delaySaid (a .answer))
+reservedDone a = gossipDone (a .state) (delayReply (a .answer))
 
 -- 259 for unlimited; 261 and the bytes
-abbrev pub capacitySaid : DelayedByteCapacity → Said
-capacitySaid DelayedByteCapacity.Unlimited = said 259 0
-capacitySaid (DelayedByteCapacity.Bytes n) = said 261 n
+abbrev pub capacityReply : DelayedByteCapacity → Reply
+capacityReply DelayedByteCapacity.Unlimited = reply 259 0
+capacityReply (DelayedByteCapacity.Bytes n) = reply 261 n
 
 -- ════ The calls ════
 
@@ -85,7 +85,7 @@ capacitySaid (DelayedByteCapacity.Bytes n) = said 261 n
 abbrev pub BlameDoes : Blame → GossipPolicyState → List ℕ → Pubkey → ℕ → GossipDone → List ℕ → Type 0
 BlameDoes (Blame.Violation v) s before k now d after =
     Some (λ a. RecordViolationMeets s before k v now a after) (λ a. d ≡ toldDone a)
-BlameDoes Blame.Unknown s before k now d after = Untouched d (gossipDone s (said 0 0)) before after
+BlameDoes Blame.Unknown s before k now d after = Untouched d (gossipDone s (reply 0 0)) before after
 
 -- a call that changes neither table
 abbrev pub Reads : GossipDone → GossipDone → List ℕ → List ℕ → List ℕ → List ℕ → Type 0
@@ -100,23 +100,23 @@ GossipDoes IsBanned s b o k v n now d b' o' = Some (λ a. IsBannedMeets s b k no
 GossipDoes PruneBans s b o k v n now d b' o' = Some (λ a. PruneBansMeets s b now a b') (λ a. d ≡ prunedDone a) × (o' ≡ o)
 GossipDoes Allow s b o k v n now d b' o' = Some (λ a. AllowMeets s o k n now a o') (λ a. d ≡ toldDone a) × (b' ≡ b)
 GossipDoes EstimateDelay s b o k v n now d b' o' =
-    Some (λ a. EstimateMeets s o k n now a) (λ a. Reads d (gossipDone s (delaySaid a)) b o b' o')
+    Some (λ a. EstimateMeets s o k n now a) (λ a. Reads d (gossipDone s (delayReply a)) b o b' o')
 GossipDoes RemovePeer s b o k v n now d b' o' = Some (λ a. RemoveMeets s o k a o') (λ a. d ≡ settledDone a) × (b' ≡ b)
 GossipDoes Reserve s b o k v n now d b' o' = Some (λ a. ReserveMeets s o k n now a o') (λ a. d ≡ reservedDone a) × (b' ≡ b)
 GossipDoes Refund s b o k v n now d b' o' = Some (λ a. RefundMeets s o k n now a o') (λ a. d ≡ settledDone a) × (b' ≡ b)
 GossipDoes ShouldBypass s b o k v n now d b' o' =
-    Some (λ a. BypassMeets s o k n now a) (λ a. Reads d (gossipDone s (toldSaid a)) b o b' o')
-GossipDoes Exceeds s b o k v n now d b' o' = Reads d (gossipDone s (truthSaid (exceeds (outboundOf s) n))) b o b' o'
-GossipDoes QueueCapacity s b o k v n now d b' o' = Reads d (gossipDone s (said 261 (s .«outbound_delay_queue_capacity»))) b o b' o'
+    Some (λ a. BypassMeets s o k n now a) (λ a. Reads d (gossipDone s (toldReply a)) b o b' o')
+GossipDoes Exceeds s b o k v n now d b' o' = Reads d (gossipDone s (truthReply (exceeds (outboundOf s) n))) b o b' o'
+GossipDoes QueueCapacity s b o k v n now d b' o' = Reads d (gossipDone s (reply 261 (s .«outbound_delay_queue_capacity»))) b o b' o'
 GossipDoes GlobalCapacity s b o k v n now d b' o' =
-    Reads d (gossipDone s (capacitySaid (delayedByteCapacity (s .«global_outbound» .config)))) b o b' o'
+    Reads d (gossipDone s (capacityReply (delayedByteCapacity (s .«global_outbound» .config)))) b o b' o'
 GossipDoes PeerCapacity s b o k v n now d b' o' =
-    Reads d (gossipDone s (capacitySaid (delayedByteCapacity (s .«peer_outbound_config»)))) b o b' o'
-GossipDoes Unknown s b o k v n now d b' o' = Reads d (gossipDone s (said 0 0)) b o b' o'
+    Reads d (gossipDone s (capacityReply (delayedByteCapacity (s .«peer_outbound_config»)))) b o b' o'
+GossipDoes Unknown s b o k v n now d b' o' = Reads d (gossipDone s (reply 0 0)) b o b' o'
 
 -- the number returned, and the words and the value after the call
 abbrev pub GossipLeft : GossipDone → List ℕ → List ℕ → List ℕ → ℕ → List ℕ → List ℕ → List ℕ → Type 0
-GossipLeft d = Left (d .said) (gossipLongs (d .state)) (gossipShorts (d .state))
+GossipLeft d = Left (d .reply) (gossipLongs (d .state)) (gossipShorts (d .state))
 
 -- uglezmir_gossip
 abbrev pub GossipExported : ℕ → List ℕ → List ℕ → List ℕ → List ℕ → List ℕ → ℕ → ℕ → ℕ → List ℕ → ℕ → List ℕ → List ℕ → List ℕ → List ℕ → List ℕ → Type 0

@@ -93,4 +93,4 @@ pub uglezmir-gossip-outcome : (operation : ℕ) (longs shorts bans outbound k : 
 uglezmir-gossip-outcome operation longs shorts bans outbound k v n now value {bans' = bans'} {bans'' = bans''} {outbound' = outbound'} {outbound'' = outbound''} =
     some-one
     (does-one (stateOf longs shorts) bans outbound (keyOf k) v n now {b' = bans'} {b'' = bans''} {o' = outbound'} {o'' = outbound''} (gossipOperation operation))
-    (λ d. left-one (d .said) (gossipLongs (d .state)) (gossipShorts (d .state)) longs shorts value)
+    (λ d. left-one (d .reply) (gossipLongs (d .state)) (gossipShorts (d .state)) longs shorts value)

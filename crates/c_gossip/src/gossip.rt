@@ -4,13 +4,13 @@
 // ask for the capacities of the delay queue, of all peers together and of one peer.
 ghost use mathlib.Core.Path.{_≡_};
 ghost use Rattle.c_bans.specs.Blame.{blameOf};
-ghost use Rattle.c_gossip.specs.Gossip.{gossipOperation, toldDone, prunedDone, settledDone, reservedDone, capacitySaid, BlameDoes, GossipDoes, GossipLeft, GossipExported};
+ghost use Rattle.c_gossip.specs.Gossip.{gossipOperation, toldDone, prunedDone, settledDone, reservedDone, capacityReply, BlameDoes, GossipDoes, GossipLeft, GossipExported};
 use super::gossip_words;
 use c_bans::bans;
 use c_bans::blame;
 use c_bans::blame::Blame;
-use c_terms::said;
-use c_terms::said::Said;
+use c_terms::reply;
+use c_terms::reply::Reply;
 use gossip_outbound::answer::Settled;
 use gossip_policy::answer::DelayedByteCapacity;
 use gossip_policy::answer::GossipPruned;
@@ -42,7 +42,7 @@ pub enum GossipOperation {
 // The state after a call, and what the call said.
 pub struct GossipDone {
     pub state: GossipPolicyState,
-    pub said: Said,
+    pub reply: Reply,
 }
 
 fn operation_of(n: u32) -> GossipOperation
@@ -75,7 +75,7 @@ fn told(a: GossipTold) -> GossipDone
     let answer = a.answer;
     GossipDone {
         state,
-        said: said::told(answer),
+        reply: reply::told(answer),
     }
 }
 
@@ -86,7 +86,7 @@ fn pruned(a: GossipPruned) -> GossipDone
     let answer = a.answer;
     GossipDone {
         state,
-        said: bans::pruned(answer),
+        reply: bans::pruned(answer),
     }
 }
 
@@ -98,11 +98,11 @@ fn settled(a: GossipSettled) -> GossipDone
     match answer {
         Settled::Done => GossipDone {
             state,
-            said: said::plain(said::DONE),
+            reply: reply::plain(reply::DONE),
         },
         Settled::Refused(n) => GossipDone {
             state,
-            said: said::plain(n),
+            reply: reply::plain(n),
         },
     }
 }
@@ -114,16 +114,16 @@ fn reserved(a: GossipReserved) -> GossipDone
     let answer = a.answer;
     GossipDone {
         state,
-        said: said::delay(answer),
+        reply: reply::delay(answer),
     }
 }
 
-fn capacity(a: DelayedByteCapacity) -> Said
-    ensures { λ r. ⌜ r ≡ capacitySaid a ⌝ }
+fn capacity(a: DelayedByteCapacity) -> Reply
+    ensures { λ r. ⌜ r ≡ capacityReply a ⌝ }
 {
     match a {
-        DelayedByteCapacity::Unlimited => said::plain(said::NO),
-        DelayedByteCapacity::Bytes(n) => said::value(n),
+        DelayedByteCapacity::Unlimited => reply::plain(reply::NO),
+        DelayedByteCapacity::Bytes(n) => reply::value(n),
     }
 }
 
@@ -141,7 +141,7 @@ fn blamed(
         Blame::Violation(v) => told(s.record_violation(ban_table, peer, v, now_ms)),
         Blame::Unknown => GossipDone {
             state: s,
-            said: said::plain(said::UNKNOWN),
+            reply: reply::plain(reply::UNKNOWN),
         },
     }
 }
@@ -172,7 +172,7 @@ fn done(
         }
         GossipOperation::EstimateDelay => GossipDone {
             state: s,
-            said: said::delay(s.estimate_outbound_message_delay(
+            reply: reply::delay(s.estimate_outbound_message_delay(
                 outbound_table,
                 peer,
                 bytes,
@@ -188,7 +188,7 @@ fn done(
         }
         GossipOperation::ShouldBypass => GossipDone {
             state: s,
-            said: said::told(s.should_bypass_oversized_outbound_message(
+            reply: reply::told(s.should_bypass_oversized_outbound_message(
                 outbound_table,
                 peer,
                 bytes,
@@ -197,23 +197,23 @@ fn done(
         },
         GossipOperation::Exceeds => GossipDone {
             state: s,
-            said: said::truth(s.outbound_message_exceeds_single_message_capacity(bytes)),
+            reply: reply::truth(s.outbound_message_exceeds_single_message_capacity(bytes)),
         },
         GossipOperation::QueueCapacity => GossipDone {
             state: s,
-            said: said::value(s.outbound_delay_queue_capacity()),
+            reply: reply::value(s.outbound_delay_queue_capacity()),
         },
         GossipOperation::GlobalCapacity => GossipDone {
             state: s,
-            said: capacity(s.outbound_global_delayed_byte_capacity()),
+            reply: capacity(s.outbound_global_delayed_byte_capacity()),
         },
         GossipOperation::PeerCapacity => GossipDone {
             state: s,
-            said: capacity(s.outbound_peer_delayed_byte_capacity()),
+            reply: capacity(s.outbound_peer_delayed_byte_capacity()),
         },
         GossipOperation::Unknown => GossipDone {
             state: s,
-            said: said::plain(said::UNKNOWN),
+            reply: reply::plain(reply::UNKNOWN),
         },
     }
 }
@@ -222,15 +222,15 @@ fn done(
 fn leave(longs: &mut [u64; 10], shorts: &mut [u32; 6], value: &mut [u64; 1], d: GossipDone) -> u32
     ensures { λ r. ⌜ GossipLeft d (now (longs .entry)) (now (shorts .entry)) (now (value .entry)) r (now (longs .exit)) (now (shorts .exit)) (now (value .exit)) ⌝ }
 {
-    let said = d.said;
-    if said.number < said::ANSWERS {
-        return said.number;
+    let reply = d.reply;
+    if reply.number < reply::ANSWERS {
+        return reply.number;
     }
     let s = d.state;
     *longs = gossip_words::longs_of(s);
     *shorts = gossip_words::shorts_of(s);
-    *value = [said.value];
-    said.number
+    *value = [reply.value];
+    reply.number
 }
 
 #[no_mangle]

@@ -15,8 +15,8 @@ use Rattle.gossip_limiter.specs.declared.answer.LimiterTold.{LimiterTold}
 use Rattle.gossip_limiter.specs.declared.answer.TrackedKeys.{TrackedKeys}
 use Rattle.gossip_limiter.specs.declared.answer.TrackedKeys.the-variants as TrackedKeys
 use Rattle.gossip_limiter.specs.Calls.{MadeMeets, TryAcquireMeets, TrackedKeysMeets}
-use Rattle.c_terms.specs.declared.said.Said.{Said}
-use Rattle.c_terms.specs.Answers.{said, toldSaid}
+use Rattle.c_terms.specs.declared.reply.Reply.{Reply}
+use Rattle.c_terms.specs.Answers.{reply, toldReply}
 use Rattle.c_limiter.specs.declared.limiter.LimiterOperation.{LimiterOperation}
 use Rattle.c_limiter.specs.declared.limiter.LimiterOperation.the-variants.{New, WithMaxEntries, TryAcquire, TrackedKeys as Tracked, Unknown}
 use Rattle.c_limiter.specs.declared.limiter.LimiterDone.{LimiterDone}
@@ -49,22 +49,22 @@ limiterShorts l = l .config .burst ∷ []
 
 -- ════ Answers ════
 
-abbrev pub limiterDone : ChannelUpdateLimiter → Said → LimiterDone
-limiterDone l s = record { limiter = l; said = s }
+abbrev pub limiterDone : ChannelUpdateLimiter → Reply → LimiterDone
+limiterDone l s = record { limiter = l; reply = s }
 
 -- 261 and the limiter that was made; on a refusal the one that the words said
 abbrev pub madeDone : ChannelUpdateLimiter → MadeLimiter → LimiterDone
-madeDone l (MadeLimiter.Limiter q) = limiterDone q (said 261 0)
-madeDone l (MadeLimiter.Refused n) = limiterDone l (said n 0)
+madeDone l (MadeLimiter.Limiter q) = limiterDone q (reply 261 0)
+madeDone l (MadeLimiter.Refused n) = limiterDone l (reply n 0)
 
 -- 260 for yes, 259 for no
 abbrev pub toldDone : LimiterTold → LimiterDone
-toldDone a = limiterDone (a .limiter) (toldSaid (a .answer))
+toldDone a = limiterDone (a .limiter) (toldReply (a .answer))
 
 -- 261 and how many keys have a bucket
-abbrev pub trackedSaid : TrackedKeys → Said
-trackedSaid (TrackedKeys.Keys n) = said 261 n
-trackedSaid (TrackedKeys.Refused n) = said n 0
+abbrev pub trackedReply : TrackedKeys → Reply
+trackedReply (TrackedKeys.Keys n) = reply 261 n
+trackedReply (TrackedKeys.Refused n) = reply n 0
 
 -- ════ The calls ════
 
@@ -76,12 +76,12 @@ LimiterDoes WithMaxEntries l before k now d after =
     Some (λ a. MadeMeets (l .config) (l .«max_entries») before a after) (λ a. d ≡ madeDone l a)
 LimiterDoes TryAcquire l before k now d after = Some (λ a. TryAcquireMeets l before k now a after) (λ a. d ≡ toldDone a)
 LimiterDoes Tracked l before k now d after =
-    Some (λ a. TrackedKeysMeets l a) (λ a. Untouched d (limiterDone l (trackedSaid a)) before after)
-LimiterDoes Unknown l before k now d after = Untouched d (limiterDone l (said 0 0)) before after
+    Some (λ a. TrackedKeysMeets l a) (λ a. Untouched d (limiterDone l (trackedReply a)) before after)
+LimiterDoes Unknown l before k now d after = Untouched d (limiterDone l (reply 0 0)) before after
 
 -- the number returned, and the words and the value after the call
 abbrev pub LimiterLeft : LimiterDone → List ℕ → List ℕ → List ℕ → ℕ → List ℕ → List ℕ → List ℕ → Type 0
-LimiterLeft d = Left (d .said) (limiterLongs (d .limiter)) (limiterShorts (d .limiter))
+LimiterLeft d = Left (d .reply) (limiterLongs (d .limiter)) (limiterShorts (d .limiter))
 
 -- uglezmir_limiter
 abbrev pub LimiterExported : ℕ → List ℕ → List ℕ → List ℕ → List ℕ → List ℕ → ℕ → ℕ → List ℕ → ℕ → List ℕ → List ℕ → List ℕ → List ℕ → Type 0

@@ -35,4 +35,4 @@ pub uglezmir-limiter-outcome : (operation : ℕ) (longs shorts before k o : List
     → Alike r q longs' longs'' shorts' shorts'' value' value'' × (first ≡ second)
 uglezmir-limiter-outcome operation longs shorts before k o side now value {first = first} {second = second} =
     some-one (does-one before {first = first} {second = second} (limiterOf longs shorts) (limiterKeyOf k o side) now (limiterOperation operation))
-    (λ d. left-one (d .said) (limiterLongs (d .limiter)) (limiterShorts (d .limiter)) longs shorts value)
+    (λ d. left-one (d .reply) (limiterLongs (d .limiter)) (limiterShorts (d .limiter)) longs shorts value)

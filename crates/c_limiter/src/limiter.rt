@@ -2,9 +2,9 @@
 // be let in, 4 how many keys have a bucket.
 ghost use mathlib.Core.Path.{_≡_};
 ghost use Rattle.c_terms.specs.Keys.{limiterKeyOf};
-ghost use Rattle.c_limiter.specs.Limiter.{limiterOperation, limiterOf, madeDone, toldDone, trackedSaid, LimiterDoes, LimiterLeft, LimiterExported};
-use c_terms::said;
-use c_terms::said::Said;
+ghost use Rattle.c_limiter.specs.Limiter.{limiterOperation, limiterOf, madeDone, toldDone, trackedReply, LimiterDoes, LimiterLeft, LimiterExported};
+use c_terms::reply;
+use c_terms::reply::Reply;
 use gossip_limiter::answer::LimiterTold;
 use gossip_limiter::answer::MadeLimiter;
 use gossip_limiter::answer::TrackedKeys;
@@ -25,7 +25,7 @@ pub enum LimiterOperation {
 // The limiter after a call, and what the call said.
 pub struct LimiterDone {
     pub limiter: ChannelUpdateLimiter,
-    pub said: Said,
+    pub reply: Reply,
 }
 
 fn operation_of(n: u32) -> LimiterOperation
@@ -67,11 +67,11 @@ fn made(l: ChannelUpdateLimiter, a: MadeLimiter) -> LimiterDone
     match a {
         MadeLimiter::Limiter(limiter) => LimiterDone {
             limiter,
-            said: said::plain(said::DONE),
+            reply: reply::plain(reply::DONE),
         },
         MadeLimiter::Refused(n) => LimiterDone {
             limiter: l,
-            said: said::plain(n),
+            reply: reply::plain(n),
         },
     }
 }
@@ -83,16 +83,16 @@ fn told(a: LimiterTold) -> LimiterDone
     let answer = a.answer;
     LimiterDone {
         limiter,
-        said: said::told(answer),
+        reply: reply::told(answer),
     }
 }
 
-fn tracked(a: TrackedKeys) -> Said
-    ensures { λ r. ⌜ r ≡ trackedSaid a ⌝ }
+fn tracked(a: TrackedKeys) -> Reply
+    ensures { λ r. ⌜ r ≡ trackedReply a ⌝ }
 {
     match a {
-        TrackedKeys::Keys(n) => said::value(n),
-        TrackedKeys::Refused(n) => said::plain(n),
+        TrackedKeys::Keys(n) => reply::value(n),
+        TrackedKeys::Refused(n) => reply::plain(n),
     }
 }
 
@@ -120,11 +120,11 @@ fn done(
         LimiterOperation::TryAcquire => told(l.try_acquire(table, key, now_ms)),
         LimiterOperation::TrackedKeys => LimiterDone {
             limiter: l,
-            said: tracked(l.tracked_keys()),
+            reply: tracked(l.tracked_keys()),
         },
         LimiterOperation::Unknown => LimiterDone {
             limiter: l,
-            said: said::plain(said::UNKNOWN),
+            reply: reply::plain(reply::UNKNOWN),
         },
     }
 }
@@ -133,16 +133,16 @@ fn done(
 fn leave(longs: &mut [u64; 3], shorts: &mut [u32; 1], value: &mut [u64; 1], d: LimiterDone) -> u32
     ensures { λ r. ⌜ LimiterLeft d (now (longs .entry)) (now (shorts .entry)) (now (value .entry)) r (now (longs .exit)) (now (shorts .exit)) (now (value .exit)) ⌝ }
 {
-    let said = d.said;
-    if said.number < said::ANSWERS {
-        return said.number;
+    let reply = d.reply;
+    if reply.number < reply::ANSWERS {
+        return reply.number;
     }
     let l = d.limiter;
     let config = l.config;
     *longs = [config.interval_ms, l.max_entries, l.rows];
     *shorts = [config.burst];
-    *value = [said.value];
-    said.number
+    *value = [reply.value];
+    reply.number
 }
 
 #[no_mangle]

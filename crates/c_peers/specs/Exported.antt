@@ -10,9 +10,9 @@ use Rattle.peer_message_policy.specs.declared.answer.InFlight.the-variants as I
 use Rattle.peer_message_policy.specs.declared.answer.HeldTime.{HeldTime}
 use Rattle.peer_message_policy.specs.declared.answer.HeldTime.the-variants as HeldTime
 use Rattle.peer_message_policy.specs.Calls.{NewMeets, AdmitMeets, RecordInvalidMeets, IsBannedMeets, OnDisconnectedMeets, ReleaseIngressMeets, InFlightMeets, HeldTimeMeets}
-use Rattle.c_words.specs.declared.answers.Told.{Told}
+use Rattle.c_words.specs.declared.answers.Numbered.{Numbered}
 use Rattle.c_words.specs.Words.{configOf, policyOf, Leaves}
-use Rattle.c_words.specs.Answers.{madeTold, admissionTold, invalidTold, standingTold, changedTold}
+use Rattle.c_words.specs.Answers.{madeNumbered, admissionNumbered, invalidNumbered, standingNumbered, changedNumbered}
 
 -- the key of these bytes
 abbrev pub keyOf : List ℕ → Pubkey
@@ -21,36 +21,36 @@ keyOf k = record { bytes = k }
 -- making a policy with the settings that the words say
 abbrev pub NewExported : List ℕ → List ℕ → List ℕ → ℕ → List ℕ → List ℕ → List ℕ → Type 0
 NewExported longs shorts before r longs' shorts' after =
-    Some (λ a. NewMeets (configOf longs shorts) before a after) (λ a. Leaves (madeTold a) longs shorts r longs' shorts')
+    Some (λ a. NewMeets (configOf longs shorts) before a after) (λ a. Leaves (madeNumbered a) longs shorts r longs' shorts')
 
 -- admit: 256 for Allow, 257 for Disconnect, 258 for Ban
 abbrev pub AdmitExported : List ℕ → List ℕ → List ℕ → List ℕ → ℕ → ℕ → ℕ → List ℕ → List ℕ → List ℕ → Type 0
 AdmitExported longs shorts before k size now r longs' shorts' after =
     Some (λ a. AdmitMeets (policyOf longs shorts) before (keyOf k) size now a after)
-    (λ a. Leaves (admissionTold a) longs shorts r longs' shorts')
+    (λ a. Leaves (admissionNumbered a) longs shorts r longs' shorts')
 
 -- record_invalid: 260 for banned, 259 for noted
 abbrev pub RecordInvalidExported : List ℕ → List ℕ → List ℕ → List ℕ → ℕ → ℕ → List ℕ → List ℕ → List ℕ → Type 0
 RecordInvalidExported longs shorts before k now r longs' shorts' after =
     Some (λ a. RecordInvalidMeets (policyOf longs shorts) before (keyOf k) now a after)
-    (λ a. Leaves (invalidTold a) longs shorts r longs' shorts')
+    (λ a. Leaves (invalidNumbered a) longs shorts r longs' shorts')
 
 -- is_banned: 260 for banned, 259 for free
 abbrev pub IsBannedExported : List ℕ → List ℕ → List ℕ → List ℕ → ℕ → ℕ → List ℕ → List ℕ → List ℕ → Type 0
 IsBannedExported longs shorts before k now r longs' shorts' after =
     Some (λ a. IsBannedMeets (policyOf longs shorts) before (keyOf k) now a after)
-    (λ a. Leaves (standingTold a) longs shorts r longs' shorts')
+    (λ a. Leaves (standingNumbered a) longs shorts r longs' shorts')
 
 -- on_disconnected: 261
 abbrev pub OnDisconnectedExported : List ℕ → List ℕ → List ℕ → List ℕ → ℕ → ℕ → List ℕ → List ℕ → List ℕ → Type 0
 OnDisconnectedExported longs shorts before k now r longs' shorts' after =
     Some (λ a. OnDisconnectedMeets (policyOf longs shorts) before (keyOf k) now a after)
-    (λ a. Leaves (changedTold a) longs shorts r longs' shorts')
+    (λ a. Leaves (changedNumbered a) longs shorts r longs' shorts')
 
 -- release_ingress: 261; no table is lent
 abbrev pub ReleaseIngressExported : List ℕ → List ℕ → ℕ → ℕ → List ℕ → List ℕ → Type 0
 ReleaseIngressExported longs shorts size r longs' shorts' =
-    Some (λ a. ReleaseIngressMeets (policyOf longs shorts) size a) (λ a. Leaves (changedTold a) longs shorts r longs' shorts')
+    Some (λ a. ReleaseIngressMeets (policyOf longs shorts) size a) (λ a. Leaves (changedNumbered a) longs shorts r longs' shorts')
 
 -- the numbers in flight are left with 261; on a refusal what stood there stays
 abbrev pub LeavesInFlight : InFlight → List ℕ → ℕ → List ℕ → Type 0

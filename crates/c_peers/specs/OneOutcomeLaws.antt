@@ -11,7 +11,7 @@ use Rattle.peer_message_policy.specs.declared.answer.HeldTime.the-variants as H
 use Rattle.peer_laws.specs.OneOutcome as Calls
 use Rattle.c_terms.specs.SomeLaws.{some-one, some-alone}
 use Rattle.c_words.specs.Words.{configOf, policyOf}
-use Rattle.c_words.specs.Answers.{madeTold, admissionTold, invalidTold, standingTold, changedTold}
+use Rattle.c_words.specs.Answers.{madeNumbered, admissionNumbered, invalidNumbered, standingNumbered, changedNumbered}
 use Rattle.c_words.specs.LeavesLaws.{Alike, leaves-one}
 use Rattle.c_peers.specs.Exported.{
   keyOf,
@@ -33,37 +33,37 @@ module _ (longs shorts : List ℕ) {r q : ℕ} {longs' longs'' shorts' shorts'' 
   module _ (before : List ℕ) {first second : List ℕ} where
     pub new-one : NewExported longs shorts before r longs' shorts' first → NewExported longs shorts before q longs'' shorts'' second → Alike r q longs' longs'' shorts' shorts'' × (first ≡ second)
     new-one =
-        some-one (λ a b. Calls.new-one before {first = first} {second = second} (configOf longs shorts) {r = a} {q = b}) (λ a. leaves-one (madeTold a) longs shorts)
+        some-one (λ a b. Calls.new-one before {first = first} {second = second} (configOf longs shorts) {r = a} {q = b}) (λ a. leaves-one (madeNumbered a) longs shorts)
 
     module _ (k : List ℕ) where
       pub admit-one : (size now : ℕ) → AdmitExported longs shorts before k size now r longs' shorts' first
           → AdmitExported longs shorts before k size now q longs'' shorts'' second → Alike r q longs' longs'' shorts' shorts'' × (first ≡ second)
       admit-one size now =
           some-one (λ a b. Calls.admit-one before {first = first} {second = second} (policyOf longs shorts) (keyOf k) size now {r = a} {q = b})
-          (λ a. leaves-one (admissionTold a) longs shorts)
+          (λ a. leaves-one (admissionNumbered a) longs shorts)
 
       pub record-invalid-one : (now : ℕ) → RecordInvalidExported longs shorts before k now r longs' shorts' first
           → RecordInvalidExported longs shorts before k now q longs'' shorts'' second → Alike r q longs' longs'' shorts' shorts'' × (first ≡ second)
       record-invalid-one now =
           some-one (λ a b. Calls.record-invalid-one before {first = first} {second = second} (policyOf longs shorts) (keyOf k) now {r = a} {q = b})
-          (λ a. leaves-one (invalidTold a) longs shorts)
+          (λ a. leaves-one (invalidNumbered a) longs shorts)
 
       pub is-banned-one : (now : ℕ) → IsBannedExported longs shorts before k now r longs' shorts' first
           → IsBannedExported longs shorts before k now q longs'' shorts'' second → Alike r q longs' longs'' shorts' shorts'' × (first ≡ second)
       is-banned-one now =
           some-one (λ a b. Calls.is-banned-one before {first = first} {second = second} (policyOf longs shorts) (keyOf k) now {r = a} {q = b})
-          (λ a. leaves-one (standingTold a) longs shorts)
+          (λ a. leaves-one (standingNumbered a) longs shorts)
 
       pub on-disconnected-one : (now : ℕ) → OnDisconnectedExported longs shorts before k now r longs' shorts' first
           → OnDisconnectedExported longs shorts before k now q longs'' shorts'' second → Alike r q longs' longs'' shorts' shorts'' × (first ≡ second)
       on-disconnected-one now =
           some-one (λ a b. Calls.on-disconnected-one before {first = first} {second = second} (policyOf longs shorts) (keyOf k) now {r = a} {q = b})
-          (λ a. leaves-one (changedTold a) longs shorts)
+          (λ a. leaves-one (changedNumbered a) longs shorts)
 
   pub release-ingress-one : (size : ℕ) → ReleaseIngressExported longs shorts size r longs' shorts'
       → ReleaseIngressExported longs shorts size q longs'' shorts'' → Alike r q longs' longs'' shorts' shorts''
   release-ingress-one size =
-      some-alone (λ a b. Calls.release-ingress-one (policyOf longs shorts) size {r = a} {q = b}) (λ a. leaves-one (changedTold a) longs shorts)
+      some-alone (λ a b. Calls.release-ingress-one (policyOf longs shorts) size {r = a} {q = b}) (λ a. leaves-one (changedNumbered a) longs shorts)
 
 -- ════ The calls that only read the words ════
 

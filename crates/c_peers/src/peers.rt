@@ -20,7 +20,7 @@ pub extern "C" fn uglezmir_new(longs: &mut [u64; 8], shorts: &mut [u32; 4], tabl
 {
     let config = words::config_of(longs, shorts);
     let answer = PeerMessagePolicy::new(config, table);
-    words::leave(longs, shorts, answers::told_made(answer))
+    words::leave(longs, shorts, answers::numbered_made(answer))
 }
 
 #[no_mangle]
@@ -37,7 +37,7 @@ pub extern "C" fn uglezmir_admit(
     let p = words::policy_of(longs, shorts);
     let key = key_of(peer);
     let answer = p.admit(table, key, bytes, now_ms);
-    words::leave(longs, shorts, answers::told_admission(answer))
+    words::leave(longs, shorts, answers::numbered_admission(answer))
 }
 
 #[no_mangle]
@@ -53,7 +53,7 @@ pub extern "C" fn uglezmir_record_invalid(
     let p = words::policy_of(longs, shorts);
     let key = key_of(peer);
     let answer = p.record_invalid(table, key, now_ms);
-    words::leave(longs, shorts, answers::told_invalid(answer))
+    words::leave(longs, shorts, answers::numbered_invalid(answer))
 }
 
 #[no_mangle]
@@ -69,7 +69,7 @@ pub extern "C" fn uglezmir_is_banned(
     let p = words::policy_of(longs, shorts);
     let key = key_of(peer);
     let answer = p.is_banned(table, key, now_ms);
-    words::leave(longs, shorts, answers::told_standing(answer))
+    words::leave(longs, shorts, answers::numbered_standing(answer))
 }
 
 #[no_mangle]
@@ -85,7 +85,7 @@ pub extern "C" fn uglezmir_on_disconnected(
     let p = words::policy_of(longs, shorts);
     let key = key_of(peer);
     let answer = p.on_disconnected(table, key, now_ms);
-    words::leave(longs, shorts, answers::told_changed(answer))
+    words::leave(longs, shorts, answers::numbered_changed(answer))
 }
 
 #[no_mangle]
@@ -98,7 +98,7 @@ pub extern "C" fn uglezmir_release_ingress(
 {
     let p = words::policy_of(longs, shorts);
     let answer = p.release_ingress(bytes);
-    words::leave(longs, shorts, answers::told_changed(answer))
+    words::leave(longs, shorts, answers::numbered_changed(answer))
 }
 
 // The messages, then the bytes, are left in `numbers`.

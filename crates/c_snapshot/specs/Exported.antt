@@ -7,7 +7,7 @@ use lib.Dec.{eqb}
 use Rattle.refusal.specs.Some.{Some}
 use Rattle.peer_rows.specs.Rows.{entryWords}
 use Rattle.c_words.specs.Words.{policyOf, Leaves}
-use Rattle.c_words.specs.Answers.{madeTold}
+use Rattle.c_words.specs.Answers.{madeNumbered}
 use Rattle.snapshot.specs.declared.answer.Written.{Written}
 use Rattle.snapshot.specs.declared.answer.Written.the-variants as Written
 use Rattle.snapshot.specs.declared.answer.PartPlace.{PartPlace}
@@ -32,7 +32,7 @@ WriteExported longs shorts table before length r after length' =
 -- uglezmir_snapshot_read: 261 for a policy that was read
 abbrev pub ReadExported : List ℕ → List ℕ → List ℕ → List ℕ → ℕ → List ℕ → List ℕ → List ℕ → Type 0
 ReadExported longs shorts snapshot before r longs' shorts' after =
-    Some (λ a. ReadMeets first snapshot before a after) (λ a. Leaves (madeTold a) longs shorts r longs' shorts')
+    Some (λ a. ReadMeets first snapshot before a after) (λ a. Leaves (madeNumbered a) longs shorts r longs' shorts')
 
 -- ════ A snapshot asked for its parts ════
 

@@ -6,7 +6,7 @@ use Prim.Native.Nat.{ℕ}
 use Rattle.refusal.specs.OneOutcome.{one-outcome}
 use Rattle.c_terms.specs.SomeLaws.{some-one}
 use Rattle.c_words.specs.Words.{policyOf}
-use Rattle.c_words.specs.Answers.{madeTold}
+use Rattle.c_words.specs.Answers.{madeNumbered}
 use Rattle.c_words.specs.LeavesLaws.{Alike, leaves-one}
 use Rattle.snapshot.specs.declared.answer.Written.{Written}
 use Rattle.snapshot.specs.declared.answer.Written.the-variants as Written
@@ -36,7 +36,7 @@ module _ (longs shorts : List ℕ) {r q : ℕ} where
       → ReadExported longs shorts snapshot before r longs' shorts' first → ReadExported longs shorts snapshot before q longs'' shorts'' second
       → Alike r q longs' longs'' shorts' shorts'' × (first ≡ second)
   read-one snapshot before {first = one} {second = other} =
-      some-one (λ a b. Read.read-one first snapshot before {r = a} {q = b} {x = one} {y = other}) (λ a. leaves-one (madeTold a) longs shorts)
+      some-one (λ a b. Read.read-one first snapshot before {r = a} {q = b} {x = one} {y = other}) (λ a. leaves-one (madeNumbered a) longs shorts)
 
 -- ════ A snapshot asked for its parts ════
 

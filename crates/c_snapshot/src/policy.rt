@@ -37,5 +37,5 @@ pub extern "C" fn uglezmir_snapshot_read(
     ensures { λ r. ⌜ ReadExported (now (longs .entry)) (now (shorts .entry)) (now (snapshot .entry)) (now (table .entry)) r (now (longs .exit)) (now (shorts .exit)) (now (table .exit)) ⌝ }
 {
     let answer = snapshot::policy::read(snapshot, table);
-    words::leave(longs, shorts, answers::told_made(answer))
+    words::leave(longs, shorts, answers::numbered_made(answer))
 }

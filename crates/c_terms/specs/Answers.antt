@@ -11,37 +11,37 @@ use Rattle.bucket_terms.specs.declared.answer.Delay.{Delay}
 use Rattle.bucket_terms.specs.declared.answer.Delay.the-variants as Delay
 use Rattle.bucket_terms.specs.declared.answer.Told.{Told}
 use Rattle.bucket_terms.specs.declared.answer.Told.the-variants as Told
-use Rattle.c_terms.specs.declared.said.Said.{Said}
+use Rattle.c_terms.specs.declared.reply.Reply.{Reply}
 
-abbrev pub said : ℕ → ℕ → Said
-said number value = record { number = number; value = value }
+abbrev pub reply : ℕ → ℕ → Reply
+reply number value = record { number = number; value = value }
 
 -- 260 for yes, 259 for no
-abbrev pub truthSaid : Bool → Said
-truthSaid true = said 260 0
-truthSaid false = said 259 0
+abbrev pub truthReply : Bool → Reply
+truthReply true = reply 260 0
+truthReply false = reply 259 0
 
 -- 261 for a bucket that was brought up to date
-abbrev pub refilledSaid : Refilled → Said
-refilledSaid Refilled.Done = said 261 0
-refilledSaid (Refilled.Refused n) = said n 0
+abbrev pub refilledReply : Refilled → Reply
+refilledReply Refilled.Done = reply 261 0
+refilledReply (Refilled.Refused n) = reply n 0
 
 -- 260 for yes; 259 for no, and by how much it fell short
-abbrev pub consumedSaid : Consumed → Said
-consumedSaid Consumed.Yes = said 260 0
-consumedSaid (Consumed.No short) = said 259 short
-consumedSaid (Consumed.Refused n) = said n 0
+abbrev pub consumedReply : Consumed → Reply
+consumedReply Consumed.Yes = reply 260 0
+consumedReply (Consumed.No short) = reply 259 short
+consumedReply (Consumed.Refused n) = reply n 0
 
 -- 261 and the milliseconds
-abbrev pub delaySaid : Delay → Said
-delaySaid (Delay.Wait ms) = said 261 ms
-delaySaid (Delay.Refused n) = said n 0
+abbrev pub delayReply : Delay → Reply
+delayReply (Delay.Wait ms) = reply 261 ms
+delayReply (Delay.Refused n) = reply n 0
 
 -- 260 for yes, 259 for no
-abbrev pub toldSaid : Told → Said
-toldSaid Told.Yes = said 260 0
-toldSaid Told.No = said 259 0
-toldSaid (Told.Refused n) = said n 0
+abbrev pub toldReply : Told → Reply
+toldReply Told.Yes = reply 260 0
+toldReply Told.No = reply 259 0
+toldReply (Told.Refused n) = reply n 0
 
 -- what stands there after a call: a number below 256 is a refusal, on which it stays
 abbrev pub kept : {A : Type 0} → ℕ → A → A → A

@@ -3,7 +3,7 @@ use mathlib.Core.Path.{_≡_}
 use mathlib.Core.List.{List}
 use Prim.Native.Nat.{ℕ}
 use Rattle.refusal.specs.OneOutcome.{one-outcome}
-use Rattle.c_terms.specs.declared.said.Said.{Said}
+use Rattle.c_terms.specs.declared.reply.Reply.{Reply}
 use Rattle.c_terms.specs.Left.{Left, Untouched}
 
 -- the same number, the same words and the same value
@@ -13,11 +13,11 @@ pub record Alike (r r' : ℕ) (l l' s s' v v' : List ℕ) : Type 0 where
   pub shorts : s ≡ s'
   pub value : v ≡ v'
 
-pub left-one : (said : Said) (toLongs toShorts longs shorts value : List ℕ) {r q : ℕ} {longs' longs'' shorts' shorts'' value' value'' : List ℕ}
-    → Left said toLongs toShorts longs shorts value r longs' shorts' value'
-    → Left said toLongs toShorts longs shorts value q longs'' shorts'' value''
+pub left-one : (reply : Reply) (toLongs toShorts longs shorts value : List ℕ) {r q : ℕ} {longs' longs'' shorts' shorts'' value' value'' : List ℕ}
+    → Left reply toLongs toShorts longs shorts value r longs' shorts' value'
+    → Left reply toLongs toShorts longs shorts value q longs'' shorts'' value''
     → Alike r q longs' longs'' shorts' shorts'' value' value''
-left-one said toLongs toShorts longs shorts value p q =
+left-one reply toLongs toShorts longs shorts value p q =
     record {
       number = one-outcome (p .0) (q .0);
       longs = one-outcome (p .1) (q .1);

@@ -2,4 +2,4 @@
 // crate of `c_buckets`, `c_bans`, `c_limiter` and `c_gossip`, which say how they stand); and the law that an exported function has one
 // outcome, which all exporting crates cite.
 pub mod amount_words;
-pub mod said;
+pub mod reply;

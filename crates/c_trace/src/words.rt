@@ -2,7 +2,7 @@
 ghost use mathlib.Core.Path.{_≡_};
 ghost use Rattle.c_trace.specs.Words.{phaseOf, phaseNumber, scanOf, placeOf, ScanLeft};
 use c_words::answers;
-use c_words::answers::Told;
+use c_words::answers::Numbered;
 use c_words::words;
 use trace::scan::Phase;
 use trace::scan::Scan;
@@ -56,5 +56,5 @@ pub(crate) fn leave(place: &mut [u64; 3], longs: &mut [u64; 8], shorts: &mut [u3
 {
     let policy = scan.policy;
     *place = place_of(scan);
-    words::leave(longs, shorts, Told::Answered(answers::DONE, policy));
+    words::leave(longs, shorts, Numbered::Answered(answers::DONE, policy));
 }

@@ -5,8 +5,8 @@ use Prim.Native.Nat.{ℕ}
 use lib.ListN.{getD}
 use Rattle.peer_settings.specs.declared.config.PeerMessagePolicyConfig.{PeerMessagePolicyConfig}
 use Rattle.peer_message_policy.specs.declared.policy.PeerMessagePolicy.{PeerMessagePolicy}
-use Rattle.c_words.specs.declared.answers.Told.{Told}
-use Rattle.c_words.specs.declared.answers.Told.the-variants.{Answered, Refused}
+use Rattle.c_words.specs.declared.answers.Numbered.{Numbered}
+use Rattle.c_words.specs.declared.answers.Numbered.the-variants.{Answered, Refused}
 
 -- the settings that these words say
 abbrev pub configOf : List ℕ → List ℕ → PeerMessagePolicyConfig
@@ -55,6 +55,6 @@ shortsOf p =
     ∷ []
 
 -- the number returned is the answer's, and the words after the call are those of its policy; on a refusal they stay
-abbrev pub Leaves : Told → List ℕ → List ℕ → ℕ → List ℕ → List ℕ → Type 0
+abbrev pub Leaves : Numbered → List ℕ → List ℕ → ℕ → List ℕ → List ℕ → Type 0
 Leaves (Answered n p) longs shorts r longs' shorts' = (r ≡ n) × (longs' ≡ longsOf p) × (shorts' ≡ shortsOf p)
 Leaves (Refused n) longs shorts r longs' shorts' = (r ≡ n) × (longs' ≡ longs) × (shorts' ≡ shorts)

@@ -1,6 +1,6 @@
 // The answers as numbers.
 ghost use mathlib.Core.Path.{_≡_};
-ghost use Rattle.c_words.specs.Answers.{admissionTold, madeTold, invalidTold, standingTold, changedTold};
+ghost use Rattle.c_words.specs.Answers.{admissionNumbered, madeNumbered, invalidNumbered, standingNumbered, changedNumbered};
 use peer_message_policy::answer::Changed;
 use peer_message_policy::answer::Invalid;
 use peer_message_policy::answer::Made;
@@ -21,56 +21,56 @@ pub const YES: u32 = 260;
 pub const DONE: u32 = 261;
 
 // A number with the policy to go on with, or a refusal.
-pub enum Told {
+pub enum Numbered {
     Answered(u32, PeerMessagePolicy),
     Refused(u32),
 }
 
-pub fn told_made(a: Made) -> Told
-    ensures { λ r. ⌜ r ≡ madeTold a ⌝ }
+pub fn numbered_made(a: Made) -> Numbered
+    ensures { λ r. ⌜ r ≡ madeNumbered a ⌝ }
 {
     match a {
-        Made::Policy(p) => Told::Answered(DONE, p),
-        Made::Refused(n) => Told::Refused(n),
+        Made::Policy(p) => Numbered::Answered(DONE, p),
+        Made::Refused(n) => Numbered::Refused(n),
     }
 }
 
-pub fn told_admission(a: PeerMessageAdmission) -> Told
-    ensures { λ r. ⌜ r ≡ admissionTold a ⌝ }
+pub fn numbered_admission(a: PeerMessageAdmission) -> Numbered
+    ensures { λ r. ⌜ r ≡ admissionNumbered a ⌝ }
 {
     match a {
-        PeerMessageAdmission::Allow(p) => Told::Answered(ALLOW, p),
-        PeerMessageAdmission::Disconnect(p) => Told::Answered(DISCONNECT, p),
-        PeerMessageAdmission::Ban(p) => Told::Answered(BAN, p),
-        PeerMessageAdmission::Refused(n) => Told::Refused(n),
+        PeerMessageAdmission::Allow(p) => Numbered::Answered(ALLOW, p),
+        PeerMessageAdmission::Disconnect(p) => Numbered::Answered(DISCONNECT, p),
+        PeerMessageAdmission::Ban(p) => Numbered::Answered(BAN, p),
+        PeerMessageAdmission::Refused(n) => Numbered::Refused(n),
     }
 }
 
-pub fn told_invalid(a: Invalid) -> Told
-    ensures { λ r. ⌜ r ≡ invalidTold a ⌝ }
+pub fn numbered_invalid(a: Invalid) -> Numbered
+    ensures { λ r. ⌜ r ≡ invalidNumbered a ⌝ }
 {
     match a {
-        Invalid::Banned(p) => Told::Answered(YES, p),
-        Invalid::Noted(p) => Told::Answered(NO, p),
-        Invalid::Refused(n) => Told::Refused(n),
+        Invalid::Banned(p) => Numbered::Answered(YES, p),
+        Invalid::Noted(p) => Numbered::Answered(NO, p),
+        Invalid::Refused(n) => Numbered::Refused(n),
     }
 }
 
-pub fn told_standing(a: Standing) -> Told
-    ensures { λ r. ⌜ r ≡ standingTold a ⌝ }
+pub fn numbered_standing(a: Standing) -> Numbered
+    ensures { λ r. ⌜ r ≡ standingNumbered a ⌝ }
 {
     match a {
-        Standing::Banned(p) => Told::Answered(YES, p),
-        Standing::Free(p) => Told::Answered(NO, p),
-        Standing::Refused(n) => Told::Refused(n),
+        Standing::Banned(p) => Numbered::Answered(YES, p),
+        Standing::Free(p) => Numbered::Answered(NO, p),
+        Standing::Refused(n) => Numbered::Refused(n),
     }
 }
 
-pub fn told_changed(a: Changed) -> Told
-    ensures { λ r. ⌜ r ≡ changedTold a ⌝ }
+pub fn numbered_changed(a: Changed) -> Numbered
+    ensures { λ r. ⌜ r ≡ changedNumbered a ⌝ }
 {
     match a {
-        Changed::Policy(p) => Told::Answered(DONE, p),
-        Changed::Refused(n) => Told::Refused(n),
+        Changed::Policy(p) => Numbered::Answered(DONE, p),
+        Changed::Refused(n) => Numbered::Refused(n),
     }
 }

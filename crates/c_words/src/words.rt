@@ -1,7 +1,7 @@
 // A policy from its words, and its words again.
 ghost use mathlib.Core.Path.{_≡_};
 ghost use Rattle.c_words.specs.Words.{policyOf, configOf, longsOf, shortsOf, Leaves};
-use super::answers::Told;
+use super::answers::Numbered;
 use peer_message_policy::policy::PeerMessagePolicy;
 use peer_settings::config::PeerMessagePolicyConfig;
 use peer_state::ingress::FiberIngressBudget;
@@ -67,15 +67,15 @@ fn shorts_of(p: PeerMessagePolicy) -> [u32; 4]
 }
 
 // Leaves the words of the policy that a call answered with, or as they are on a refusal; the number is handed on.
-pub fn leave(longs: &mut [u64; 8], shorts: &mut [u32; 4], told: Told) -> u32
-    ensures { λ r. ⌜ Leaves told (now (longs .entry)) (now (shorts .entry)) r (now (longs .exit)) (now (shorts .exit)) ⌝ }
+pub fn leave(longs: &mut [u64; 8], shorts: &mut [u32; 4], numbered: Numbered) -> u32
+    ensures { λ r. ⌜ Leaves numbered (now (longs .entry)) (now (shorts .entry)) r (now (longs .exit)) (now (shorts .exit)) ⌝ }
 {
-    match told {
-        Told::Answered(number, p) => {
+    match numbered {
+        Numbered::Answered(number, p) => {
             *longs = longs_of(p);
             *shorts = shorts_of(p);
             number
         }
-        Told::Refused(number) => number,
+        Numbered::Refused(number) => number,
     }
 }

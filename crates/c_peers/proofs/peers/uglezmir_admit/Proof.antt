@@ -12,8 +12,8 @@ key-of-requires c κs = search needs
 admit-requires : tie.Need-admit-requires
 admit-requires c κs = search needs
 
-told-admission-requires : tie.Need-told-admission-requires
-told-admission-requires c κs = search needs
+numbered-admission-requires : tie.Need-numbered-admission-requires
+numbered-admission-requires c κs = search needs
 
 leave-requires : tie.Need-leave-requires
 leave-requires c κs = search needs
@@ -27,7 +27,7 @@ returns c =
     record {
       answer = called .admit .result;
       met = rw (called .before .before .before .policy-of .ensures, called .before .before .key-of .ensures) at (called .admit .ensures);
-      leaves = rw (c .before .told-admission .ensures) at (c .leave .ensures);
+      leaves = rw (c .before .numbered-admission .ensures) at (c .leave .ensures);
     }
 
 pub uglezmir-admit-spec : {M : Type 1} → statement M
@@ -37,7 +37,7 @@ uglezmir-admit-spec =
     policy-of-requires
     key-of-requires
     admit-requires
-    told-admission-requires
+    numbered-admission-requires
     leave-requires
     same-length
     returns)

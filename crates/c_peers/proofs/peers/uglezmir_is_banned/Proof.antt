@@ -12,8 +12,8 @@ key-of-requires c κs = search needs
 is-banned-requires : tie.Need-is-banned-requires
 is-banned-requires c κs = search needs
 
-told-standing-requires : tie.Need-told-standing-requires
-told-standing-requires c κs = search needs
+numbered-standing-requires : tie.Need-numbered-standing-requires
+numbered-standing-requires c κs = search needs
 
 leave-requires : tie.Need-leave-requires
 leave-requires c κs = search needs
@@ -27,7 +27,7 @@ returns c =
     record {
       answer = called .is-banned .result;
       met = rw (called .before .before .before .policy-of .ensures, called .before .before .key-of .ensures) at (called .is-banned .ensures);
-      leaves = rw (c .before .told-standing .ensures) at (c .leave .ensures);
+      leaves = rw (c .before .numbered-standing .ensures) at (c .leave .ensures);
     }
 
 pub uglezmir-is-banned-spec : {M : Type 1} → statement M
@@ -37,7 +37,7 @@ uglezmir-is-banned-spec =
     policy-of-requires
     key-of-requires
     is-banned-requires
-    told-standing-requires
+    numbered-standing-requires
     leave-requires
     same-length
     returns)

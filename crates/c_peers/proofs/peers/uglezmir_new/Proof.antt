@@ -9,8 +9,8 @@ config-of-requires c κs = search needs
 new-requires : tie.Need-new-requires
 new-requires c κs = search needs
 
-told-made-requires : tie.Need-told-made-requires
-told-made-requires c κs = search needs
+numbered-made-requires : tie.Need-numbered-made-requires
+numbered-made-requires c κs = search needs
 
 leave-requires : tie.Need-leave-requires
 leave-requires c κs = search needs
@@ -24,7 +24,7 @@ returns c =
     record {
       answer = called .new .result;
       met = rw (called .before .before .config-of .ensures) at (called .new .ensures);
-      leaves = rw (c .before .told-made .ensures) at (c .leave .ensures);
+      leaves = rw (c .before .numbered-made .ensures) at (c .leave .ensures);
     }
 
 pub uglezmir-new-spec : {M : Type 1} → statement M
@@ -33,7 +33,7 @@ uglezmir-new-spec =
     (tie.spec
     config-of-requires
     new-requires
-    told-made-requires
+    numbered-made-requires
     leave-requires
     same-length
     returns)

@@ -12,8 +12,8 @@ key-of-requires c κs = search needs
 on-disconnected-requires : tie.Need-on-disconnected-requires
 on-disconnected-requires c κs = search needs
 
-told-changed-requires : tie.Need-told-changed-requires
-told-changed-requires c κs = search needs
+numbered-changed-requires : tie.Need-numbered-changed-requires
+numbered-changed-requires c κs = search needs
 
 leave-requires : tie.Need-leave-requires
 leave-requires c κs = search needs
@@ -27,7 +27,7 @@ returns c =
     record {
       answer = called .on-disconnected .result;
       met = rw (called .before .before .before .policy-of .ensures, called .before .before .key-of .ensures) at (called .on-disconnected .ensures);
-      leaves = rw (c .before .told-changed .ensures) at (c .leave .ensures);
+      leaves = rw (c .before .numbered-changed .ensures) at (c .leave .ensures);
     }
 
 pub uglezmir-on-disconnected-spec : {M : Type 1} → statement M
@@ -37,7 +37,7 @@ uglezmir-on-disconnected-spec =
     policy-of-requires
     key-of-requires
     on-disconnected-requires
-    told-changed-requires
+    numbered-changed-requires
     leave-requires
     same-length
     returns)

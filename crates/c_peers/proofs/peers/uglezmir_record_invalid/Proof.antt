@@ -12,8 +12,8 @@ key-of-requires c κs = search needs
 record-invalid-requires : tie.Need-record-invalid-requires
 record-invalid-requires c κs = search needs
 
-told-invalid-requires : tie.Need-told-invalid-requires
-told-invalid-requires c κs = search needs
+numbered-invalid-requires : tie.Need-numbered-invalid-requires
+numbered-invalid-requires c κs = search needs
 
 leave-requires : tie.Need-leave-requires
 leave-requires c κs = search needs
@@ -27,7 +27,7 @@ returns c =
     record {
       answer = called .record-invalid .result;
       met = rw (called .before .before .before .policy-of .ensures, called .before .before .key-of .ensures) at (called .record-invalid .ensures);
-      leaves = rw (c .before .told-invalid .ensures) at (c .leave .ensures);
+      leaves = rw (c .before .numbered-invalid .ensures) at (c .leave .ensures);
     }
 
 pub uglezmir-record-invalid-spec : {M : Type 1} → statement M
@@ -37,7 +37,7 @@ uglezmir-record-invalid-spec =
     policy-of-requires
     key-of-requires
     record-invalid-requires
-    told-invalid-requires
+    numbered-invalid-requires
     leave-requires
     same-length
     returns)

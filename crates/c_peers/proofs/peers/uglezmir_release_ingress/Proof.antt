@@ -9,8 +9,8 @@ policy-of-requires c κs = search needs
 release-ingress-requires : tie.Need-release-ingress-requires
 release-ingress-requires c κs = search needs
 
-told-changed-requires : tie.Need-told-changed-requires
-told-changed-requires c κs = search needs
+numbered-changed-requires : tie.Need-numbered-changed-requires
+numbered-changed-requires c κs = search needs
 
 leave-requires : tie.Need-leave-requires
 leave-requires c κs = search needs
@@ -21,7 +21,7 @@ returns c =
     record {
       answer = called .release-ingress .result;
       met = rw (called .before .policy-of .ensures) at (called .release-ingress .ensures);
-      leaves = rw (c .before .told-changed .ensures) at (c .leave .ensures);
+      leaves = rw (c .before .numbered-changed .ensures) at (c .leave .ensures);
     }
 
 pub uglezmir-release-ingress-spec : {M : Type 1} → statement M
@@ -30,6 +30,6 @@ uglezmir-release-ingress-spec =
     (tie.spec
     policy-of-requires
     release-ingress-requires
-    told-changed-requires
+    numbered-changed-requires
     leave-requires
     returns)

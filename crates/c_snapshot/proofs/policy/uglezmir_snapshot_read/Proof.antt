@@ -6,8 +6,8 @@ use Rattle.c_snapshot.proofs.policy.uglezmir_snapshot_read.Tie as tie
 read-requires : tie.Need-read-requires
 read-requires c κs = search needs
 
-told-made-requires : tie.Need-told-made-requires
-told-made-requires c κs = search needs
+numbered-made-requires : tie.Need-numbered-made-requires
+numbered-made-requires c κs = search needs
 
 leave-requires : tie.Need-leave-requires
 leave-requires c κs = search needs
@@ -21,9 +21,9 @@ returns c =
     record {
       answer = called .read .result;
       met = called .read .ensures;
-      leaves = rw (c .before .told-made .ensures) at (c .leave .ensures);
+      leaves = rw (c .before .numbered-made .ensures) at (c .leave .ensures);
     }
 
 pub uglezmir-snapshot-read-spec : {M : Type 1} → statement M
 uglezmir-snapshot-read-spec =
-    tie.close (tie.spec read-requires told-made-requires leave-requires same-length returns)
+    tie.close (tie.spec read-requires numbered-made-requires leave-requires same-length returns)

@@ -1,6 +1,6 @@
 // The answers as numbers, each with one value.
 ghost use mathlib.Core.Path.{_≡_};
-ghost use Rattle.c_terms.specs.Answers.{said, truthSaid, refilledSaid, consumedSaid, delaySaid, toldSaid};
+ghost use Rattle.c_terms.specs.Answers.{reply, truthReply, refilledReply, consumedReply, delayReply, toldReply};
 use bucket_terms::answer::Consumed;
 use bucket_terms::answer::Delay;
 use bucket_terms::answer::Refilled;
@@ -17,50 +17,50 @@ pub const DONE: u32 = 261;
 // No operation has the number that was given.
 pub const UNKNOWN: u32 = 0;
 
-pub struct Said {
+pub struct Reply {
     pub number: u32,
     pub value: u64,
 }
 
-pub fn plain(number: u32) -> Said
-    ensures { λ r. ⌜ r ≡ said number 0 ⌝ }
+pub fn plain(number: u32) -> Reply
+    ensures { λ r. ⌜ r ≡ reply number 0 ⌝ }
 {
-    Said { number, value: 0 }
+    Reply { number, value: 0 }
 }
 
-pub fn value(value: u64) -> Said
-    ensures { λ r. ⌜ r ≡ said 261 value ⌝ }
+pub fn value(value: u64) -> Reply
+    ensures { λ r. ⌜ r ≡ reply 261 value ⌝ }
 {
-    Said {
+    Reply {
         number: DONE,
         value,
     }
 }
 
-pub fn truth(b: bool) -> Said
-    ensures { λ r. ⌜ r ≡ truthSaid b ⌝ }
+pub fn truth(b: bool) -> Reply
+    ensures { λ r. ⌜ r ≡ truthReply b ⌝ }
 {
     if b {
-        return Said {
+        return Reply {
             number: YES,
             value: 0,
         };
     }
-    Said {
+    Reply {
         number: NO,
         value: 0,
     }
 }
 
-pub fn refilled(a: Refilled) -> Said
-    ensures { λ r. ⌜ r ≡ refilledSaid a ⌝ }
+pub fn refilled(a: Refilled) -> Reply
+    ensures { λ r. ⌜ r ≡ refilledReply a ⌝ }
 {
     match a {
-        Refilled::Done => Said {
+        Refilled::Done => Reply {
             number: DONE,
             value: 0,
         },
-        Refilled::Refused(n) => Said {
+        Refilled::Refused(n) => Reply {
             number: n,
             value: 0,
         },
@@ -68,53 +68,53 @@ pub fn refilled(a: Refilled) -> Said
 }
 
 // The value of a no is by how much it fell short.
-pub fn consumed(a: Consumed) -> Said
-    ensures { λ r. ⌜ r ≡ consumedSaid a ⌝ }
+pub fn consumed(a: Consumed) -> Reply
+    ensures { λ r. ⌜ r ≡ consumedReply a ⌝ }
 {
     match a {
-        Consumed::Yes => Said {
+        Consumed::Yes => Reply {
             number: YES,
             value: 0,
         },
-        Consumed::No(short) => Said {
+        Consumed::No(short) => Reply {
             number: NO,
             value: short,
         },
-        Consumed::Refused(n) => Said {
+        Consumed::Refused(n) => Reply {
             number: n,
             value: 0,
         },
     }
 }
 
-pub fn delay(a: Delay) -> Said
-    ensures { λ r. ⌜ r ≡ delaySaid a ⌝ }
+pub fn delay(a: Delay) -> Reply
+    ensures { λ r. ⌜ r ≡ delayReply a ⌝ }
 {
     match a {
-        Delay::Wait(ms) => Said {
+        Delay::Wait(ms) => Reply {
             number: DONE,
             value: ms,
         },
-        Delay::Refused(n) => Said {
+        Delay::Refused(n) => Reply {
             number: n,
             value: 0,
         },
     }
 }
 
-pub fn told(a: Told) -> Said
-    ensures { λ r. ⌜ r ≡ toldSaid a ⌝ }
+pub fn told(a: Told) -> Reply
+    ensures { λ r. ⌜ r ≡ toldReply a ⌝ }
 {
     match a {
-        Told::Yes => Said {
+        Told::Yes => Reply {
             number: YES,
             value: 0,
         },
-        Told::No => Said {
+        Told::No => Reply {
             number: NO,
             value: 0,
         },
-        Told::Refused(n) => Said {
+        Told::Refused(n) => Reply {
             number: n,
             value: 0,
         },

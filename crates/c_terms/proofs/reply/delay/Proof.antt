@@ -1,7 +1,7 @@
--- `said::delay` meets its contract. Assumes nothing.
+-- `reply::delay` meets its contract. Assumes nothing.
 use borrow.Author.Needs.{needs}
-use Rattle.c_terms.proofs.said.delay.Statement.{statement}
-use Rattle.c_terms.proofs.said.delay.Tie as tie
+use Rattle.c_terms.proofs.reply.delay.Statement.{statement}
+use Rattle.c_terms.proofs.reply.delay.Tie as tie
 
 enum-known-a : tie.Need-enum-known-a
 enum-known-a c = search needs

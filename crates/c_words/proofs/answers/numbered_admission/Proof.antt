@@ -1,7 +1,7 @@
--- `answers::told_admission` meets its contract: answer by answer. Assumes nothing.
+-- `answers::numbered_admission` meets its contract: answer by answer. Assumes nothing.
 use borrow.Author.Needs.{needs}
-use Rattle.c_words.proofs.answers.told_admission.Statement.{statement}
-use Rattle.c_words.proofs.answers.told_admission.Tie as tie
+use Rattle.c_words.proofs.answers.numbered_admission.Statement.{statement}
+use Rattle.c_words.proofs.answers.numbered_admission.Tie as tie
 
 enum-known-a : tie.Need-enum-known-a
 enum-known-a c = search needs
@@ -27,8 +27,8 @@ returns-3 c = rw (c .before .a3 .given .1)
 returns-4 : tie.Need-returns-4
 returns-4 c = rw (c .before .a4 .given .1)
 
-pub told-admission-spec : {M : Type 1} → statement M
-told-admission-spec =
+pub numbered-admission-spec : {M : Type 1} → statement M
+numbered-admission-spec =
     tie.close
     (tie.spec
     enum-known-a

@@ -1,7 +1,7 @@
--- `said::truth` meets its contract. Assumes nothing.
+-- `reply::truth` meets its contract. Assumes nothing.
 use borrow.Author.Tests.{not-true, not-false}
-use Rattle.c_terms.proofs.said.truth.Statement.{statement}
-use Rattle.c_terms.proofs.said.truth.Tie as tie
+use Rattle.c_terms.proofs.reply.truth.Statement.{statement}
+use Rattle.c_terms.proofs.reply.truth.Tie as tie
 
 returns : tie.Need-returns
 returns c = rw (c .if1 .taken)

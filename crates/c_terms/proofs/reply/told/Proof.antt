@@ -1,7 +1,7 @@
--- `said::told` meets its contract. Assumes nothing.
+-- `reply::told` meets its contract. Assumes nothing.
 use borrow.Author.Needs.{needs}
-use Rattle.c_terms.proofs.said.told.Statement.{statement}
-use Rattle.c_terms.proofs.said.told.Tie as tie
+use Rattle.c_terms.proofs.reply.told.Statement.{statement}
+use Rattle.c_terms.proofs.reply.told.Tie as tie
 
 enum-told : tie.Need-enum-told
 enum-told c = search needs

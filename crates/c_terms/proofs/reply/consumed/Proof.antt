@@ -1,7 +1,7 @@
--- `said::consumed` meets its contract. Assumes nothing.
+-- `reply::consumed` meets its contract. Assumes nothing.
 use borrow.Author.Needs.{needs}
-use Rattle.c_terms.proofs.said.consumed.Statement.{statement}
-use Rattle.c_terms.proofs.said.consumed.Tie as tie
+use Rattle.c_terms.proofs.reply.consumed.Statement.{statement}
+use Rattle.c_terms.proofs.reply.consumed.Tie as tie
 
 enum-told : tie.Need-enum-told
 enum-told c = search needs

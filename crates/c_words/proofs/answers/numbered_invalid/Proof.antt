@@ -1,7 +1,7 @@
--- `answers::told_invalid` meets its contract: answer by answer. Assumes nothing.
+-- `answers::numbered_invalid` meets its contract: answer by answer. Assumes nothing.
 use borrow.Author.Needs.{needs}
-use Rattle.c_words.proofs.answers.told_invalid.Statement.{statement}
-use Rattle.c_words.proofs.answers.told_invalid.Tie as tie
+use Rattle.c_words.proofs.answers.numbered_invalid.Statement.{statement}
+use Rattle.c_words.proofs.answers.numbered_invalid.Tie as tie
 
 enum-known-a : tie.Need-enum-known-a
 enum-known-a c = search needs
@@ -21,6 +21,6 @@ returns-2 c = rw (c .before .a2 .given .1)
 returns-3 : tie.Need-returns-3
 returns-3 c = rw (c .before .a3 .given .1)
 
-pub told-invalid-spec : {M : Type 1} → statement M
-told-invalid-spec =
+pub numbered-invalid-spec : {M : Type 1} → statement M
+numbered-invalid-spec =
     tie.close (tie.spec enum-known-a enum-known-a-2 enum-known-a-3 returns returns-2 returns-3)

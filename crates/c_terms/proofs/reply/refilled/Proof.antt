@@ -1,7 +1,7 @@
--- `said::refilled` meets its contract. Assumes nothing.
+-- `reply::refilled` meets its contract. Assumes nothing.
 use borrow.Author.Needs.{needs}
-use Rattle.c_terms.proofs.said.refilled.Statement.{statement}
-use Rattle.c_terms.proofs.said.refilled.Tie as tie
+use Rattle.c_terms.proofs.reply.refilled.Statement.{statement}
+use Rattle.c_terms.proofs.reply.refilled.Tie as tie
 
 enum-told : tie.Need-enum-told
 enum-told c = search needs
