@@ -4,7 +4,7 @@ ghost use Prim.Native.Nat.{_+_, _*_, _%_, _^_, _<_, _≤_};
 ghost use Rattle.amount_limbs.specs.Limbs.{digits};
 
 // One bit or one limb of a quotient, and what is left for what stands below it.
-struct Step {
+struct QuotientPart {
     quotient: u32,
     rest: u64,
 }
@@ -16,19 +16,19 @@ pub struct Quotient {
 }
 
 // Brings down one bit. 2 * rest + bit may pass 2^64, so what is compared is rest + bit, with what is missing from rest to d.
-fn divide_bit(rest: u64, bit: u32, d: u64) -> Step
+fn divide_bit(rest: u64, bit: u32, d: u64) -> QuotientPart
     requires { ⌜ (rest < d) × (bit ≤ 1) ⌝ }
     ensures { λ r. ⌜ (r .quotient * d + r .rest ≡ 2 * rest + bit) × (r .rest < d) × (r .quotient ≤ 1) ⌝ }
 {
     let missing = d - rest;
     let more = rest + (bit as u64);
     if missing <= more {
-        Step {
+        QuotientPart {
             quotient: 1,
             rest: more - missing,
         }
     } else {
-        Step {
+        QuotientPart {
             quotient: 0,
             rest: rest + more,
         }
@@ -36,7 +36,7 @@ fn divide_bit(rest: u64, bit: u32, d: u64) -> Step
 }
 
 // Brings down one limb bit by bit: for a dividend that no u64 holds.
-fn divide_bits(rest: u64, limb: u32, d: u64) -> Step
+fn divide_bits(rest: u64, limb: u32, d: u64) -> QuotientPart
     requires { ⌜ rest < d ⌝ }
     ensures { λ r. ⌜ (r .quotient * d + r .rest ≡ rest * 4294967296 + limb) × (r .rest < d) ⌝ }
 {
@@ -51,20 +51,20 @@ fn divide_bits(rest: u64, limb: u32, d: u64) -> Step
         kept = step.rest;
         i += 1;
     }
-    Step {
+    QuotientPart {
         quotient,
         rest: kept,
     }
 }
 
 // Brings down one limb, by one hardware division where the dividend fits a u64.
-fn divide_step(rest: u64, limb: u32, d: u64) -> Step
+fn divide_step(rest: u64, limb: u32, d: u64) -> QuotientPart
     requires { ⌜ rest < d ⌝ }
     ensures { λ r. ⌜ (r .quotient * d + r .rest ≡ rest * 4294967296 + limb) × (r .rest < d) ⌝ }
 {
     if rest < 0x1_0000_0000 {
         let dividend = rest * 0x1_0000_0000 + (limb as u64);
-        return Step {
+        return QuotientPart {
             quotient: (dividend / d) as u32,
             rest: dividend % d,
         };

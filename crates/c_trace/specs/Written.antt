@@ -2,14 +2,14 @@
 use mathlib.Core.Path.{_≡_}
 use mathlib.Core.List.{List}
 use Prim.Native.Nat.{ℕ}
-use Rattle.trace_lines.specs.declared.line.Line.{Line}
+use Rattle.trace_lines.specs.declared.line.TraceLine.{TraceLine}
 use Rattle.trace_lines.specs.Lines.{lineOf}
 
 -- the line is that of a text
-pub record Written (line : Line) : Type 0 where
+pub record Written (line : TraceLine) : Type 0 where
   pub text : List ℕ
   pub is : line ≡ lineOf text
 
 -- the line and its length are left
-abbrev pub LineLeft : Line → ℕ → List ℕ → Type 0
+abbrev pub LineLeft : TraceLine → ℕ → List ℕ → Type 0
 LineLeft line r line' = (r ≡ line .length) × (line' ≡ line .bytes)

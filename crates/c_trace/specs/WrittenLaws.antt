@@ -10,7 +10,7 @@ use borrow.Author.Tests.{ne-eqb}
 use lib.Dec.{eqb, leb}
 use lib.ListN.{length, drop, replicate, length-append}
 use Rattle.peer_message_policy.specs.Calls.{refuse}
-use Rattle.trace_lines.specs.declared.line.Line.{Line}
+use Rattle.trace_lines.specs.declared.line.TraceLine.{TraceLine}
 use Rattle.trace_lines.specs.Lines.{lineOf, eventOf, wordText, numberText, answerText, badLineText, refusalText}
 use Rattle.trace.specs.declared.settle.Settled.{Settled}
 use Rattle.trace.specs.declared.settle.Settled.the-variants as Settled
@@ -105,11 +105,11 @@ module _ (input : List ℕ) (h : Handed) (after : List ℕ) where
     -- a length of 0 says that the scan is done, and nothing else does
     pub zero-is-done : eqb (h .line .length) 0 ≡ h .done
     unfolding NextMeets
-    zero-is-done = let w = by-phase (scan .phase) scan before m in ap (λ (l : Line). eqb (l .length) 0) (w .is) ∙ w .empty
+    zero-is-done = let w = by-phase (scan .phase) scan before m in ap (λ (l : TraceLine). eqb (l .length) 0) (w .is) ∙ w .empty
 
 -- in 64 bytes
-pub written-fits : (line : Line) → Written line → length (line .bytes) ≡ 64 → line .length ≤ 64
+pub written-fits : (line : TraceLine) → Written line → length (line .bytes) ≡ 64 → line .length ≤ 64
 written-fits line w whole =
-    let bytes = ap (λ (l : Line). length (l .bytes)) (w .is) in
-    let text = ap (λ (l : Line). l .length) (w .is) in
+    let bytes = ap (λ (l : TraceLine). length (l .bytes)) (w .is) in
+    let text = ap (λ (l : TraceLine). l .length) (w .is) in
     omega (arith, whole, bytes, text, length-append (w .text) (replicate (64 - length (w .text)) 0))

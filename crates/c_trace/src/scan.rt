@@ -4,9 +4,9 @@ ghost use Rattle.c_trace.specs.Exported.{OpenExported, NextExported};
 ghost use Rattle.c_trace.specs.Written.{Written, LineLeft};
 use super::words;
 use trace::scan;
-use trace_lines::line::Line;
+use trace_lines::line::TraceLine;
 
-fn write(line: &mut [u8; 64], written: Line) -> u32
+fn write(line: &mut [u8; 64], written: TraceLine) -> u32
     requires { ⌜ Written written ⌝ }
     ensures { λ r. ⌜ LineLeft written r (now (line .exit)) ⌝ }
 {

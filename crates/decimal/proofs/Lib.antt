@@ -1,2 +1,2 @@
--- `Turns` has the laws of one turn of the loops of `decimal`, which their proofs cite.
-pub mod Turns
+-- `Loops` has the laws of one round of the loops of `decimal`, which their proofs cite.
+pub mod Loops

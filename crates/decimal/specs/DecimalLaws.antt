@@ -212,15 +212,15 @@ bounded-number : (v end most : ℕ) → v ≤ most → bounded v end most ≡ Nu
 bounded-number v end most h = rw (le-leb v most h)
 
 -- a number that was read is at most what was asked for, and is the run's
-pub record Within (v end most n place : ℕ) : Type 0 where
+pub record Bounded (v end most n place : ℕ) : Type 0 where
   pub same-value : n ≡ v
   pub same-end : place ≡ end
   pub small : n ≤ most
 
-within-bound : (v end most n place : ℕ) → bounded v end most ≡ Number n place → Within v end most n place
+within-bound : (v end most n place : ℕ) → bounded v end most ≡ Number n place → Bounded v end most n place
 within-bound v end most n place h = go (leb v most) refl h
   where
-    go : (b : Bool) → leb v most ≡ b → cond b (Number v end) Bad ≡ Number n place → Within v end most n place
+    go : (b : Bool) → leb v most ≡ b → cond b (Number v end) Bad ≡ Number n place → Bounded v end most n place
     go true p q =
         let e : v ≡ n = cc in
         let f : end ≡ place = cc in

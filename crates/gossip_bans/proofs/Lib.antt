@@ -1,4 +1,4 @@
--- `Judged` has what every call begins with, `Carried` rows written, `Turns` each call by its cases.
+-- `Judged` has what every call begins with, `Carried` rows written, `Branches` each call by its cases.
 pub mod Judged
 pub mod Carried
-pub mod Turns
+pub mod Branches

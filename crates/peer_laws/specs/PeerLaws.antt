@@ -26,7 +26,7 @@ use Rattle.peer_state.specs.EntryLaws.{chosen}
 use Rattle.peer_rows.specs.Rows.{Peers}
 use Rattle.peer_table.specs.Room.{makeRoom}
 use Rattle.peer_table.specs.RoomLaws.{sub-makeRoom}
-use Rattle.peer_verdict.specs.Verdict.{judgedInvalid, overflows}
+use Rattle.peer_verdict.specs.Verdict.{invalidDecision, overflows}
 use Rattle.peer_message_policy.specs.Policy.{Change, become, Turn, unchanged, turnOf, carriedOut, notedDown, Update, banned, update, entryForUpdate, recordInvalid, isBannedChange, disconnectedChange}
 use Rattle.peer_message_policy.specs.Calls.{changedRows}
 
@@ -108,8 +108,8 @@ module _ (j k : List ℕ) (other : j ≡ k → ⊥) (rs : Peers) (order : ascend
   pub record-invalid-fate : (c : PeerMessagePolicyConfig) (i : FiberIngressBudget) (now : ℕ) → After j rs (recordInvalid c i rs k now .change)
   unfolding recordInvalid
   record-invalid-fate c i now =
-      turn-fate i InvalidCause.LiveBan (λ e xs. notedDown i k xs (judgedInvalid c e now))
-      (λ e xs h. rw (look-store-other k (judgedInvalid c e now .entry) j other xs) h)
+      turn-fate i InvalidCause.LiveBan (λ e xs. notedDown i k xs (invalidDecision c e now))
+      (λ e xs h. rw (look-store-other k (invalidDecision c e now .entry) j other xs) h)
       (entryForUpdate c now rs k (look k rs)) (update-fate c now (look k rs))
 
 -- ════ The peer's own turns ════
@@ -147,7 +147,7 @@ pub data Own (c : PeerMessagePolicyConfig) (now : ℕ) (decide : PeerMessagePoli
 -- an own record_invalid: under a live ban nothing changes; else the decision is carried out
 pub data OwnInvalid (c : PeerMessagePolicyConfig) (now : ℕ) (found after : Option PeerMessagePolicyEntry) (cause : InvalidCause) : Type 0 where
   barred : (e : PeerMessagePolicyEntry) → found ≡ some e → entryIsBanned e now ≡ true → cause ≡ InvalidCause.LiveBan → after ≡ found → OwnInvalid c now found after cause
-  counted : (e : PeerMessagePolicyEntry) → Lands c now found e → cause ≡ judgedInvalid c e now .cause → after ≡ some (judgedInvalid c e now .entry) → OwnInvalid c now found after cause
+  counted : (e : PeerMessagePolicyEntry) → Lands c now found e → cause ≡ invalidDecision c e now .cause → after ≡ some (invalidDecision c e now .entry) → OwnInvalid c now found after cause
 
 module _ (k : List ℕ) (rs : Peers) (c : PeerMessagePolicyConfig) (i : FiberIngressBudget) where
   -- the turn that carries out a decision on a message
@@ -167,10 +167,10 @@ module _ (k : List ℕ) (rs : Peers) (c : PeerMessagePolicyConfig) (i : FiberIng
       → OwnInvalid c now (look k rs) (look k (changedRows rs (recordInvalid c i rs k now .change))) (recordInvalid c i rs k now .cause)
   unfolding recordInvalid
   own-invalid now =
-      turn-ways k rs c i now InvalidCause.LiveBan (λ e xs. notedDown i k xs (judgedInvalid c e now))
+      turn-ways k rs c i now InvalidCause.LiveBan (λ e xs. notedDown i k xs (invalidDecision c e now))
       (λ t. OwnInvalid c now (look k rs) (look k (changedRows rs (t .change))) (t .cause))
       (λ e found ban. barred e found ban refl refl)
-      (λ e xs lands. counted e lands refl (look-store-same k (judgedInvalid c e now .entry) xs))
+      (λ e xs lands. counted e lands refl (look-store-same k (invalidDecision c e now .entry) xs))
 
 -- a ban is not both live and spent
 pub live-not-spent : (e : PeerMessagePolicyEntry) (now : ℕ) → entryIsBanned e now ≡ true → entryIsSpent e now ≡ false

@@ -28,8 +28,8 @@ use Rattle.peer_settings.specs.Config.{limit}
 use Rattle.peer_state.specs.Entry.{entrySound, entryIsBanned, entryIsSpent, entryExpireWindows}
 use Rattle.peer_state.specs.EntryLaws.{chosen, new-sound, expire-sound}
 use Rattle.peer_state.specs.Ingress.{ingressSound}
-use Rattle.peer_verdict.specs.Verdict.{judged, judgedInvalid, overflows}
-use Rattle.peer_verdict.specs.VerdictLaws.{judged-sound, judged-invalid-sound, judged-load}
+use Rattle.peer_verdict.specs.Verdict.{decision, invalidDecision, overflows}
+use Rattle.peer_verdict.specs.VerdictLaws.{decision-sound, invalid-decision-sound, decision-load}
 use Rattle.peer_rows.specs.Rows.{Peers, peerLayout, peerSound}
 use Rattle.peer_rows.specs.RowsLaws.{peer-numbers}
 use Rattle.peer_table.specs.Room.{makeRoom}
@@ -211,16 +211,16 @@ module _ (c : PeerMessagePolicyConfig) where
       pub admit-holds : (size now : ℕ) → TurnHolds (admit c i rs k size now)
       unfolding admit
       admit-holds size now =
-          turn-holds Cause.LiveBan (λ e xs. carriedOut i k xs (judged c i e size now))
+          turn-holds Cause.LiveBan (λ e xs. carriedOut i k xs (decision c i e size now))
           (λ e xs u.
-          carried-holds xs (judged c i e size now) (judged-sound c i e size now (u .0)) (judged-load c i e size now within) (u .1))
+          carried-holds xs (decision c i e size now) (decision-sound c i e size now (u .0)) (decision-load c i e size now within) (u .1))
           (entryForUpdate c now rs k (look k rs)) (for-update now k rs key h)
 
       pub record-invalid-holds : (now : ℕ) → TurnHolds (recordInvalid c i rs k now)
       unfolding recordInvalid
       record-invalid-holds now =
-          turn-holds InvalidCause.LiveBan (λ e xs. notedDown i k xs (judgedInvalid c e now))
-          (λ e xs u. record { rows = u .1 (judgedInvalid c e now .entry) (judged-invalid-sound c e now (u .0)); load = within })
+          turn-holds InvalidCause.LiveBan (λ e xs. notedDown i k xs (invalidDecision c e now))
+          (λ e xs u. record { rows = u .1 (invalidDecision c e now .entry) (invalid-decision-sound c e now (u .0)); load = within })
           (entryForUpdate c now rs k (look k rs)) (for-update now k rs key h)
 
   module _ (k : List ℕ) (rs : Peers) (key : Key k) (h : RowsHold c rs) (now : ℕ) where
@@ -247,11 +247,11 @@ abbrev Undone : FiberIngressBudget → Turn Cause → Type 0
 Undone i t = overflows (t .cause) ≡ true → (t .ingress ≡ i) × (t .change ≡ same)
 
 module _ (c : PeerMessagePolicyConfig) (i : FiberIngressBudget) (k : List ℕ) (size now : ℕ) where
-  undone-by : (u : Update) → Undone i (turnOf i Cause.LiveBan (λ e xs. carriedOut i k xs (judged c i e size now)) u)
+  undone-by : (u : Update) → Undone i (turnOf i Cause.LiveBan (λ e xs. carriedOut i k xs (decision c i e size now)) u)
   unfolding carriedOut
   undone-by banned = λ o. (refl, refl)
   undone-by (update e rs) =
-      chosen (Undone i) (overflows (judged c i e size now .cause)) (λ o u. (refl, refl)) (λ o u. absurd (true-is-not-false u o))
+      chosen (Undone i) (overflows (decision c i e size now .cause)) (λ o u. (refl, refl)) (λ o u. absurd (true-is-not-false u o))
 
   -- refusal 4 undoes everything
   pub admit-undone : (rs : Peers) → Undone i (admit c i rs k size now)

@@ -22,7 +22,7 @@ use Rattle.table_laws.specs.LentLaws as laws
 use Rattle.peer_settings.specs.declared.config.PeerMessagePolicyConfig.{PeerMessagePolicyConfig}
 use Rattle.peer_state.specs.declared.entry.PeerMessagePolicyEntry.{PeerMessagePolicyEntry}
 use Rattle.peer_settings.specs.Config.{limit}
-use Rattle.peer_state.specs.Entry.{entrySound, entryNew, entryIsSpent, entryToJudge}
+use Rattle.peer_state.specs.Entry.{entrySound, entryNew, entryIsSpent, entryToUpdate}
 use Rattle.peer_state.specs.EntryLaws.{chosen, new-sound}
 use Rattle.peer_rows.specs.Rows.{peerLayout, peerSound}
 use Rattle.peer_message_policy.specs.declared.policy.PeerMessagePolicy.{PeerMessagePolicy}
@@ -132,8 +132,8 @@ unknown-look p s k i h = gap-look k (rowsOf p s) (h .place)
 -- ════ What is judged on ════
 
 -- the entry that a message is judged on keeps its rules
-pub judged-on-sound : (c : PeerMessagePolicyConfig) (e : PeerMessagePolicyEntry) (now : ℕ) (x : PeerMessagePolicyEntry) → x ≡ entryToJudge c e now → entrySound c e ≡ true → entrySound c x ≡ true
-judged-on-sound c e now x v h =
+pub entry-to-update-sound : (c : PeerMessagePolicyConfig) (e : PeerMessagePolicyEntry) (now : ℕ) (x : PeerMessagePolicyEntry) → x ≡ entryToUpdate c e now → entrySound c e ≡ true → entrySound c x ≡ true
+entry-to-update-sound c e now x v h =
     ap (entrySound c) v
     ∙ chosen (λ (y : PeerMessagePolicyEntry). entrySound c y ≡ true) (entryIsSpent e now) (λ t. new-sound c now) (λ t. h)
 

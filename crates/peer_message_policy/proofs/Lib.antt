@@ -1,3 +1,3 @@
 pub mod Judged
-pub mod Turns
+pub mod Branches
 pub mod Changes

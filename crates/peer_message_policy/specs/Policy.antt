@@ -21,7 +21,7 @@ use Rattle.peer_verdict.specs.declared.verdict.InvalidDecision.{InvalidDecision
 use Rattle.peer_settings.specs.Config.{limit}
 use Rattle.peer_state.specs.Entry.{entryNew, entryIsBanned, entryIsSpent, entryExpireWindows}
 use Rattle.peer_state.specs.Ingress.{ingressSound}
-use Rattle.peer_verdict.specs.Verdict.{judged, judgedInvalid, overflows}
+use Rattle.peer_verdict.specs.Verdict.{decision, invalidDecision, overflows}
 use Rattle.peer_rows.specs.Rows.{Peers, peerLayout, peerSound}
 use Rattle.peer_table.specs.Room.{makeRoom}
 use Rattle.peer_message_policy.specs.declared.policy.PeerMessagePolicy.{PeerMessagePolicy}
@@ -98,7 +98,7 @@ carriedOut i k rs d =
 -- admit
 unfoldable pub admit : PeerMessagePolicyConfig → FiberIngressBudget → Peers → List ℕ → ℕ → ℕ → Turn Cause
 admit c i rs k size now =
-    turnOf i Cause.LiveBan (λ e xs. carriedOut i k xs (judged c i e size now)) (entryForUpdate c now rs k (look k rs))
+    turnOf i Cause.LiveBan (λ e xs. carriedOut i k xs (decision c i e size now)) (entryForUpdate c now rs k (look k rs))
 
 -- an invalid message's decision is carried out; the load stays as it is
 abbrev pub notedDown : FiberIngressBudget → List ℕ → Peers → InvalidDecision → Turn InvalidCause
@@ -107,7 +107,7 @@ notedDown i k rs d = inserted i k rs (d .cause) (d .entry)
 -- record_invalid
 unfoldable pub recordInvalid : PeerMessagePolicyConfig → FiberIngressBudget → Peers → List ℕ → ℕ → Turn InvalidCause
 recordInvalid c i rs k now =
-    turnOf i InvalidCause.LiveBan (λ e xs. notedDown i k xs (judgedInvalid c e now)) (entryForUpdate c now rs k (look k rs))
+    turnOf i InvalidCause.LiveBan (λ e xs. notedDown i k xs (invalidDecision c e now)) (entryForUpdate c now rs k (look k rs))
 
 -- is_banned, the answer
 abbrev pub isBanned : Option PeerMessagePolicyEntry → ℕ → Bool

@@ -31,8 +31,8 @@ pub(crate) fn admit_known(
     if entry.is_banned(now_ms) {
         return carry::admission_of(p, Cause::LiveBan);
     }
-    let judged = peer_state::entry::entry_to_judge(config, entry, now_ms);
-    let d = peer_verdict::verdict::judged(config, ingress, judged, bytes, now_ms);
+    let current = peer_state::entry::entry_to_update(config, entry, now_ms);
+    let d = peer_verdict::verdict::decide(config, ingress, current, bytes, now_ms);
     let cause = d.cause;
     if peer_verdict::verdict::overflows(cause) {
         return carry::admission_of(p, cause);
@@ -59,7 +59,7 @@ pub(crate) fn admit_new(
     let config = p.config;
     let ingress = p.ingress;
     let entry = PeerMessagePolicyEntry::new(now_ms, config);
-    let d = peer_verdict::verdict::judged(config, ingress, entry, bytes, now_ms);
+    let d = peer_verdict::verdict::decide(config, ingress, entry, bytes, now_ms);
     let cause = d.cause;
     if peer_verdict::verdict::overflows(cause) {
         return carry::admission_of(p, cause);
@@ -88,8 +88,8 @@ pub(crate) fn invalid_known(
     if entry.is_banned(now_ms) {
         return carry::invalid_of(p, InvalidCause::LiveBan);
     }
-    let judged = peer_state::entry::entry_to_judge(config, entry, now_ms);
-    let d = peer_verdict::verdict::judged_invalid(config, judged, now_ms);
+    let current = peer_state::entry::entry_to_update(config, entry, now_ms);
+    let d = peer_verdict::verdict::decide_invalid(config, current, now_ms);
     let cause = d.cause;
     let after = d.entry;
     carry::invalid_of(
@@ -111,7 +111,7 @@ pub(crate) fn invalid_new(
     let config = p.config;
     let ingress = p.ingress;
     let entry = PeerMessagePolicyEntry::new(now_ms, config);
-    let d = peer_verdict::verdict::judged_invalid(config, entry, now_ms);
+    let d = peer_verdict::verdict::decide_invalid(config, entry, now_ms);
     let cause = d.cause;
     let after = d.entry;
     carry::invalid_of(

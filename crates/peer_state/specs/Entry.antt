@@ -99,9 +99,9 @@ entrySound c e =
 
 -- ════ As calls find it and leave it ════
 
--- the entry that a known peer's message is judged on: a spent ban drops it, and it is made anew
-abbrev pub entryToJudge : PeerMessagePolicyConfig → PeerMessagePolicyEntry → ℕ → PeerMessagePolicyEntry
-entryToJudge c e now = cond (entryIsSpent e now) (entryNew c now) e
+-- the entry that a known peer's message is decided on: a spent ban drops it, and it is made anew
+abbrev pub entryToUpdate : PeerMessagePolicyConfig → PeerMessagePolicyEntry → ℕ → PeerMessagePolicyEntry
+entryToUpdate c e now = cond (entryIsSpent e now) (entryNew c now) e
 
 -- whether two entries count as many violations, of each kind
 abbrev pub sameCounts : PeerMessagePolicyEntry → PeerMessagePolicyEntry → Bool

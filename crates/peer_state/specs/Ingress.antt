@@ -4,8 +4,8 @@ use Prim.Native.Nat.{ℕ, _+_, _-_}
 use lib.Dec.{ltb, leb, eqb}
 use Rattle.peer_settings.specs.declared.config.PeerMessagePolicyConfig.{PeerMessagePolicyConfig}
 use Rattle.peer_state.specs.declared.ingress.FiberIngressBudget.{FiberIngressBudget}
-use Rattle.peer_state.specs.declared.ingress.Room.{Room}
-use Rattle.peer_state.specs.declared.ingress.Room.the-variants.{Left, NoSlot, BytesShort, Overflow}
+use Rattle.peer_state.specs.declared.ingress.Reservation.{Reservation}
+use Rattle.peer_state.specs.declared.ingress.Reservation.the-variants.{Left, NoSlot, BytesShort, Overflow}
 use Rattle.peer_settings.specs.Config.{unlimited}
 
 abbrev pub inFlight : ℕ → ℕ → FiberIngressBudget
@@ -16,7 +16,7 @@ abbrev pub ingressReserved : FiberIngressBudget → ℕ → FiberIngressBudget
 ingressReserved i size = inFlight (i .«in_flight_messages» + 1) (i .«in_flight_bytes» + size)
 
 -- try_reserve: under a ceiling, a slot first, then the bytes; without one, only where the numbers have no room (added)
-unfoldable pub tryReserve : PeerMessagePolicyConfig → FiberIngressBudget → ℕ → Room
+unfoldable pub tryReserve : PeerMessagePolicyConfig → FiberIngressBudget → ℕ → Reservation
 tryReserve c i size =
     let left = c .«max_in_flight_bytes» - i .«in_flight_bytes»
     in cond (unlimited c)

@@ -6,7 +6,7 @@ ghost use mathlib.Core.Bool.{cond};
 ghost use Prim.Native.Nat.{_+_, min};
 ghost use lib.Dec.{eqb};
 ghost use Rattle.peer_state.specs.Entry.{window, windowExpire, windowCounted, windowRecord, entryNew, entryIsBanned, entryIsSpent};
-ghost use Rattle.peer_state.specs.Entry.{entryBan, entryExpireWindows, entryUsed, entryToJudge, sameCounts};
+ghost use Rattle.peer_state.specs.Entry.{entryBan, entryExpireWindows, entryUsed, entryToUpdate, sameCounts};
 use super::saturating::saturating_add;
 use super::saturating::saturating_sub;
 use peer_settings::config::PeerMessagePolicyConfig;
@@ -195,13 +195,13 @@ impl PeerMessagePolicyEntry {
     }
 }
 
-// The entry that a known peer's message is judged on: a spent ban drops it, and it is made anew.
-pub fn entry_to_judge(
+// The entry that a known peer's message is decided on: a spent ban drops it, and it is made anew.
+pub fn entry_to_update(
     config: PeerMessagePolicyConfig,
     entry: PeerMessagePolicyEntry,
     now_ms: u64,
 ) -> PeerMessagePolicyEntry
-    ensures { λ r. ⌜ r ≡ entryToJudge config entry «now_ms» ⌝ }
+    ensures { λ r. ⌜ r ≡ entryToUpdate config entry «now_ms» ⌝ }
 {
     if entry.is_spent(now_ms) {
         return PeerMessagePolicyEntry::new(now_ms, config);

@@ -11,7 +11,7 @@ pub struct FiberIngressBudget {
 }
 
 // What the ceiling says to one message more.
-pub enum Room {
+pub enum Reservation {
     Left(FiberIngressBudget),
     NoSlot,
     BytesShort(u64),
@@ -20,26 +20,26 @@ pub enum Room {
 
 impl FiberIngressBudget {
     // Room for one message of this size: a slot first, then the bytes. Without a ceiling the load may outgrow its numbers.
-    pub fn try_reserve(self, config: PeerMessagePolicyConfig, size: u64) -> Room
+    pub fn try_reserve(self, config: PeerMessagePolicyConfig, size: u64) -> Reservation
         ensures { λ r. ⌜ r ≡ tryReserve config self size ⌝ }
     {
         if config.is_unlimited() {
             if self.in_flight_messages == 4_294_967_295 {
-                return Room::Overflow;
+                return Reservation::Overflow;
             }
             if size > 18_446_744_073_709_551_615 - self.in_flight_bytes {
-                return Room::Overflow;
+                return Reservation::Overflow;
             }
-            return Room::Left(reserved(self, size));
+            return Reservation::Left(reserved(self, size));
         }
         if self.in_flight_messages >= config.max_in_flight_messages {
-            return Room::NoSlot;
+            return Reservation::NoSlot;
         }
         let left = saturating_sub(config.max_in_flight_bytes, self.in_flight_bytes);
         if size > left {
-            return Room::BytesShort(size - left);
+            return Reservation::BytesShort(size - left);
         }
-        Room::Left(reserved(self, size))
+        Reservation::Left(reserved(self, size))
     }
 
     // The load with one message less: each number by itself stops at 0.

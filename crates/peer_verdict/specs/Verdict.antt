@@ -16,8 +16,8 @@ use Rattle.peer_state.specs.declared.entry.Level.{Level}
 use Rattle.peer_state.specs.declared.entry.ViolationWindow.{ViolationWindow}
 use Rattle.peer_state.specs.declared.entry.PeerMessagePolicyEntry.{PeerMessagePolicyEntry}
 use Rattle.peer_state.specs.declared.ingress.FiberIngressBudget.{FiberIngressBudget}
-use Rattle.peer_state.specs.declared.ingress.Room.{Room}
-use Rattle.peer_state.specs.declared.ingress.Room.the-variants as Room
+use Rattle.peer_state.specs.declared.ingress.Reservation.{Reservation}
+use Rattle.peer_state.specs.declared.ingress.Reservation.the-variants as Reservation
 use Rattle.peer_verdict.specs.declared.verdict.Cause.{Cause}
 use Rattle.peer_verdict.specs.declared.verdict.Cause.the-variants as Cause
 use Rattle.peer_verdict.specs.declared.verdict.InvalidCause.the-variants as InvalidCause
@@ -130,20 +130,20 @@ violated c i e now cause =
     (record { cause = cause; entry = withRateWindow e w; ingress = i })
 
 -- both buckets pass: the ceiling decides; where it has no room the copies are thrown away, and no violation is counted
-abbrev pub roomed : FiberIngressBudget → PeerMessagePolicyEntry → Level → Level → Room → Decision
-roomed i e m b (Room.Left after) = record { cause = Cause.Allowed; entry = withLevels e m b; ingress = after }
-roomed i e m b Room.NoSlot = record { cause = Cause.NoSlot; entry = e; ingress = i }
-roomed i e m b (Room.BytesShort k) = record { cause = Cause.CeilingShort k; entry = e; ingress = i }
-roomed i e m b Room.Overflow = record { cause = Cause.Overflow; entry = e; ingress = i }
+abbrev pub ceilingDecides : FiberIngressBudget → PeerMessagePolicyEntry → Level → Level → Reservation → Decision
+ceilingDecides i e m b (Reservation.Left after) = record { cause = Cause.Allowed; entry = withLevels e m b; ingress = after }
+ceilingDecides i e m b Reservation.NoSlot = record { cause = Cause.NoSlot; entry = e; ingress = i }
+ceilingDecides i e m b (Reservation.BytesShort k) = record { cause = Cause.CeilingShort k; entry = e; ingress = i }
+ceilingDecides i e m b Reservation.Overflow = record { cause = Cause.Overflow; entry = e; ingress = i }
 
 -- an entry whose windows are expired and whose last use is now: the message bucket, the byte bucket, the ceiling, in this order; the
 -- room that the ceiling has is given
-abbrev pub weighedIn : PeerMessagePolicyConfig → FiberIngressBudget → PeerMessagePolicyEntry → ℕ → ℕ → Room → Decision
-weighedIn c i e size now room =
+abbrev pub weighedIn : PeerMessagePolicyConfig → FiberIngressBudget → PeerMessagePolicyEntry → ℕ → ℕ → Reservation → Decision
+weighedIn c i e size now reservation =
     let m = takeMessage c (e .messages) now
     in let b = takeBytes c (e .bytes) size now
     in cond (m .passes)
-    (cond (b .passes) (roomed i e (m .level) (b .level) room) (violated c i e now (Cause.BytesShort (b .missing))))
+    (cond (b .passes) (ceilingDecides i e (m .level) (b .level) reservation) (violated c i e now (Cause.BytesShort (b .missing))))
     (violated c i e now Cause.MessagesShort)
 
 -- the same, with the room that the load in flight leaves
@@ -151,8 +151,8 @@ unfoldable pub weighed : PeerMessagePolicyConfig → FiberIngressBudget → Peer
 weighed c i e size now = weighedIn c i e size now (tryReserve c i size)
 
 -- admit on an entry that is not banned
-unfoldable pub judged : PeerMessagePolicyConfig → FiberIngressBudget → PeerMessagePolicyEntry → ℕ → ℕ → Decision
-judged c i e size now = weighed c i (entryUsed e now (c .«ban_duration_ms»)) size now
+unfoldable pub decision : PeerMessagePolicyConfig → FiberIngressBudget → PeerMessagePolicyEntry → ℕ → ℕ → Decision
+decision c i e size now = weighed c i (entryUsed e now (c .«ban_duration_ms»)) size now
 
 -- an invalid message counted on an entry whose windows are expired and whose last use is now
 unfoldable pub noted : PeerMessagePolicyConfig → PeerMessagePolicyEntry → ℕ → InvalidDecision
@@ -163,8 +163,8 @@ noted c e now =
     (record { cause = InvalidCause.Noted; entry = withInvalidWindow e w })
 
 -- record_invalid on an entry that is not banned
-unfoldable pub judgedInvalid : PeerMessagePolicyConfig → PeerMessagePolicyEntry → ℕ → InvalidDecision
-judgedInvalid c e now = noted c (entryUsed e now (c .«ban_duration_ms»)) now
+unfoldable pub invalidDecision : PeerMessagePolicyConfig → PeerMessagePolicyEntry → ℕ → InvalidDecision
+invalidDecision c e now = noted c (entryUsed e now (c .«ban_duration_ms»)) now
 
 -- whether the decision is refusal 4: it would be an Allow, and the numbers in flight have no room
 abbrev pub overflows : Cause → Bool

@@ -8,8 +8,8 @@ use Rattle.peer_state.specs.declared.entry.Level.{Level}
 use Rattle.peer_state.specs.declared.entry.ViolationWindow.{ViolationWindow}
 use Rattle.peer_state.specs.declared.entry.PeerMessagePolicyEntry.{PeerMessagePolicyEntry}
 use Rattle.peer_state.specs.declared.ingress.FiberIngressBudget.{FiberIngressBudget}
-use Rattle.peer_state.specs.declared.ingress.Room.{Room}
-use Rattle.peer_state.specs.declared.ingress.Room.the-variants as Room
+use Rattle.peer_state.specs.declared.ingress.Reservation.{Reservation}
+use Rattle.peer_state.specs.declared.ingress.Reservation.the-variants as Reservation
 use Rattle.peer_verdict.specs.declared.verdict.Cause.{Cause}
 use Rattle.peer_verdict.specs.declared.verdict.Cause.the-variants as Cause
 use Rattle.peer_verdict.specs.declared.verdict.InvalidCause.the-variants as InvalidCause
@@ -26,15 +26,15 @@ use Rattle.peer_verdict.specs.Verdict.{
   withLevels,
   reachesBan,
   violated,
-  roomed,
+  ceilingDecides,
   weighedIn,
   weighed,
-  judged,
+  decision,
   noted,
-  judgedInvalid,
+  invalidDecision,
 }
 use Rattle.peer_state.specs.EntryLaws.{chosen, EntryHolds, sound-holds, holds-sound, ban-holds, used-holds, count-record}
-use Rattle.peer_state.specs.IngressLaws.{RoomHolds, room-holds}
+use Rattle.peer_state.specs.IngressLaws.{ReservationHolds, reservation-holds}
 use Rattle.peer_verdict.specs.TakeLaws.{message-level, bytes-level, bytes-missing}
 
 -- ════ The ways it goes ════
@@ -56,14 +56,14 @@ module _ (P : Decision → Type 0) (c : PeerMessagePolicyConfig) (i : FiberIngre
   unfolding violated
   violated-ways now cause begun counted = chosen P (reachesBan c (rateCounted c e now)) begun counted
 
-  pub weighed-in-ways : (size now : ℕ) (room : Room)
+  pub weighed-in-ways : (size now : ℕ) (reservation : Reservation)
       → (takeMessage c (e .messages) now .passes ≡ false → P (violated c i e now Cause.MessagesShort))
       → (takeMessage c (e .messages) now .passes ≡ true → takeBytes c (e .bytes) size now .passes ≡ false
       → P (violated c i e now (Cause.BytesShort (takeBytes c (e .bytes) size now .missing))))
       → (takeMessage c (e .messages) now .passes ≡ true → takeBytes c (e .bytes) size now .passes ≡ true
-      → P (roomed i e (takeMessage c (e .messages) now .level) (takeBytes c (e .bytes) size now .level) room))
-      → P (weighedIn c i e size now room)
-  weighed-in-ways size now room messages bytes passed =
+      → P (ceilingDecides i e (takeMessage c (e .messages) now .level) (takeBytes c (e .bytes) size now .level) reservation))
+      → P (weighedIn c i e size now reservation)
+  weighed-in-ways size now reservation messages bytes passed =
       chosen P (takeMessage c (e .messages) now .passes)
       (λ m. chosen P (takeBytes c (e .bytes) size now .passes) (λ b. passed m b) (λ b. bytes m b))
       messages
@@ -74,7 +74,7 @@ module _ (P : Decision → Type 0) (c : PeerMessagePolicyConfig) (i : FiberIngre
       → (takeMessage c (e .messages) now .passes ≡ true → takeBytes c (e .bytes) size now .passes ≡ false
       → P (violated c i e now (Cause.BytesShort (takeBytes c (e .bytes) size now .missing))))
       → (takeMessage c (e .messages) now .passes ≡ true → takeBytes c (e .bytes) size now .passes ≡ true
-      → P (roomed i e (takeMessage c (e .messages) now .level) (takeBytes c (e .bytes) size now .level) (tryReserve c i size)))
+      → P (ceilingDecides i e (takeMessage c (e .messages) now .level) (takeBytes c (e .bytes) size now .level) (tryReserve c i size)))
       → P (weighed c i e size now)
   unfolding weighed
   weighed-ways size now messages bytes passed = weighed-in-ways size now (tryReserve c i size) messages bytes passed
@@ -116,11 +116,11 @@ noted-holds c e now h =
     in
     noted-ways (λ d. EntryHolds c (d .entry)) c e now (λ t. ban-holds now (c .«ban_duration_ms») counted) (λ t. counted)
 
-roomed-holds : {c : PeerMessagePolicyConfig} (i : FiberIngressBudget) {e : PeerMessagePolicyEntry} {m b : Level} (r : Room) → EntryHolds c e → EntryHolds c (withLevels e m b) → Keeps c (roomed i e m b r)
-roomed-holds i (Room.Left after) h charged = charged
-roomed-holds i Room.NoSlot h charged = h
-roomed-holds i (Room.BytesShort k) h charged = h
-roomed-holds i Room.Overflow h charged = h
+ceiling-holds : {c : PeerMessagePolicyConfig} (i : FiberIngressBudget) {e : PeerMessagePolicyEntry} {m b : Level} (r : Reservation) → EntryHolds c e → EntryHolds c (withLevels e m b) → Keeps c (ceilingDecides i e m b r)
+ceiling-holds i (Reservation.Left after) h charged = charged
+ceiling-holds i Reservation.NoSlot h charged = h
+ceiling-holds i (Reservation.BytesShort k) h charged = h
+ceiling-holds i Reservation.Overflow h charged = h
 
 weighed-holds : (c : PeerMessagePolicyConfig) (i : FiberIngressBudget) (e : PeerMessagePolicyEntry) (size now : ℕ) → EntryHolds c e → Keeps c (weighed c i e size now)
 weighed-holds c i e size now h =
@@ -128,7 +128,7 @@ weighed-holds c i e size now h =
     (λ m. violated-holds c i e now Cause.MessagesShort h)
     (λ m b. violated-holds c i e now (Cause.BytesShort (takeBytes c (e .bytes) size now .missing)) h)
     (λ m b.
-    roomed-holds i (tryReserve c i size) h
+    ceiling-holds i (tryReserve c i size) h
     (record {
       messages = message-level c (e .messages) now (h .messages);
       bytes = bytes-level c (e .bytes) size now (h .bytes);
@@ -137,15 +137,15 @@ weighed-holds c i e size now h =
       ban = h .ban;
     }))
 
-pub judged-sound : (c : PeerMessagePolicyConfig) (i : FiberIngressBudget) (e : PeerMessagePolicyEntry) (size now : ℕ) → entrySound c e ≡ true → entrySound c (judged c i e size now .entry) ≡ true
-unfolding judged
-judged-sound c i e size now h =
+pub decision-sound : (c : PeerMessagePolicyConfig) (i : FiberIngressBudget) (e : PeerMessagePolicyEntry) (size now : ℕ) → entrySound c e ≡ true → entrySound c (decision c i e size now .entry) ≡ true
+unfolding decision
+decision-sound c i e size now h =
     let used = entryUsed e now (c .«ban_duration_ms») in
     holds-sound (weighed-holds c i used size now (used-holds now (c .«ban_duration_ms») (sound-holds h)))
 
-pub judged-invalid-sound : (c : PeerMessagePolicyConfig) (e : PeerMessagePolicyEntry) (now : ℕ) → entrySound c e ≡ true → entrySound c (judgedInvalid c e now .entry) ≡ true
-unfolding judgedInvalid
-judged-invalid-sound c e now h =
+pub invalid-decision-sound : (c : PeerMessagePolicyConfig) (e : PeerMessagePolicyEntry) (now : ℕ) → entrySound c e ≡ true → entrySound c (invalidDecision c e now .entry) ≡ true
+unfolding invalidDecision
+invalid-decision-sound c e now h =
     let used = entryUsed e now (c .«ban_duration_ms») in
     holds-sound (noted-holds c used now (used-holds now (c .«ban_duration_ms») (sound-holds h)))
 
@@ -215,19 +215,19 @@ violated-orderly c i e size now cause holds n =
     kept-orderly (banning c (rateCounted c e now) t) tt (record { messages = refl; bytes = refl; ingress = refl }))
     (λ t. kept-orderly holds n (record { messages = refl; bytes = refl; ingress = refl }))
 
-roomed-orderly : (c : PeerMessagePolicyConfig) (i : FiberIngressBudget) (e : PeerMessagePolicyEntry) (size now : ℕ) → takeMessage c (e .messages) now .passes ≡ true → takeBytes c (e .bytes) size now .passes ≡ true → (r : Room) → RoomHolds c i size r → Orderly c i e size now (roomed i e (takeMessage c (e .messages) now .level) (takeBytes c (e .bytes) size now .level) r)
-roomed-orderly c i e size now m b (Room.Left after) h =
+ceiling-orderly : (c : PeerMessagePolicyConfig) (i : FiberIngressBudget) (e : PeerMessagePolicyEntry) (size now : ℕ) → takeMessage c (e .messages) now .passes ≡ true → takeBytes c (e .bytes) size now .passes ≡ true → (r : Reservation) → ReservationHolds c i size r → Orderly c i e size now (ceilingDecides i e (takeMessage c (e .messages) now .level) (takeBytes c (e .bytes) size now .level) r)
+ceiling-orderly c i e size now m b (Reservation.Left after) h =
     record {
       cause = tt;
       load = h .1;
       allowed = λ q. record { messages = m; bytes = b; entry = refl; ingress = h .0 };
       other = λ n. absurd n;
     }
-roomed-orderly c i e size now m b Room.NoSlot h =
+ceiling-orderly c i e size now m b Reservation.NoSlot h =
     kept-orderly h tt (record { messages = refl; bytes = refl; ingress = refl })
-roomed-orderly c i e size now m b (Room.BytesShort k) h =
+ceiling-orderly c i e size now m b (Reservation.BytesShort k) h =
     kept-orderly h tt (record { messages = refl; bytes = refl; ingress = refl })
-roomed-orderly c i e size now m b Room.Overflow h =
+ceiling-orderly c i e size now m b Reservation.Overflow h =
     kept-orderly h tt (record { messages = refl; bytes = refl; ingress = refl })
 
 weighed-orderly : (c : PeerMessagePolicyConfig) (i : FiberIngressBudget) (e : PeerMessagePolicyEntry) (size now : ℕ) → Orderly c i e size now (weighed c i e size now)
@@ -235,21 +235,21 @@ weighed-orderly c i e size now =
     weighed-ways (Orderly c i e size now) c i e size now
     (λ m. violated-orderly c i e size now Cause.MessagesShort tt tt)
     (λ m b. violated-orderly c i e size now (Cause.BytesShort (takeBytes c (e .bytes) size now .missing)) (bytes-missing c (e .bytes) size now b) tt)
-    (λ m b. roomed-orderly c i e size now m b (tryReserve c i size) (room-holds c i size))
+    (λ m b. ceiling-orderly c i e size now m b (tryReserve c i size) (reservation-holds c i size))
 
 -- of a verdict on a message, with the entry as it finds it
-pub judged-orderly : (c : PeerMessagePolicyConfig) (i : FiberIngressBudget) (e : PeerMessagePolicyEntry) (size now : ℕ) → Orderly c i (entryUsed e now (c .«ban_duration_ms»)) size now (judged c i e size now)
-unfolding judged
-judged-orderly c i e size now = weighed-orderly c i (entryUsed e now (c .«ban_duration_ms»)) size now
+pub decision-orderly : (c : PeerMessagePolicyConfig) (i : FiberIngressBudget) (e : PeerMessagePolicyEntry) (size now : ℕ) → Orderly c i (entryUsed e now (c .«ban_duration_ms»)) size now (decision c i e size now)
+unfolding decision
+decision-orderly c i e size now = weighed-orderly c i (entryUsed e now (c .«ban_duration_ms»)) size now
 
 -- a sound load stays sound
-pub judged-load : (c : PeerMessagePolicyConfig) (i : FiberIngressBudget) (e : PeerMessagePolicyEntry) (size now : ℕ) → ingressSound c i ≡ true → ingressSound c (judged c i e size now .ingress) ≡ true
-judged-load c i e size now = judged-orderly c i e size now .load
+pub decision-load : (c : PeerMessagePolicyConfig) (i : FiberIngressBudget) (e : PeerMessagePolicyEntry) (size now : ℕ) → ingressSound c i ≡ true → ingressSound c (decision c i e size now .ingress) ≡ true
+decision-load c i e size now = decision-orderly c i e size now .load
 
 -- no verdict names a live ban
-pub judged-no-live-ban : (c : PeerMessagePolicyConfig) (i : FiberIngressBudget) (e : PeerMessagePolicyEntry) (size now : ℕ) → judged c i e size now .cause ≡ Cause.LiveBan → ⊥
-judged-no-live-ban c i e size now h = subst (CauseHolds c) h (judged-orderly c i e size now .cause)
+pub decision-no-live-ban : (c : PeerMessagePolicyConfig) (i : FiberIngressBudget) (e : PeerMessagePolicyEntry) (size now : ℕ) → decision c i e size now .cause ≡ Cause.LiveBan → ⊥
+decision-no-live-ban c i e size now h = subst (CauseHolds c) h (decision-orderly c i e size now .cause)
 
 -- the load overflows its numbers only where there is no ceiling
-pub judged-overflow : (c : PeerMessagePolicyConfig) (i : FiberIngressBudget) (e : PeerMessagePolicyEntry) (size now : ℕ) → judged c i e size now .cause ≡ Cause.Overflow → unlimited c ≡ true
-judged-overflow c i e size now h = subst (CauseHolds c) h (judged-orderly c i e size now .cause)
+pub decision-overflow : (c : PeerMessagePolicyConfig) (i : FiberIngressBudget) (e : PeerMessagePolicyEntry) (size now : ℕ) → decision c i e size now .cause ≡ Cause.Overflow → unlimited c ≡ true
+decision-overflow c i e size now h = subst (CauseHolds c) h (decision-orderly c i e size now .cause)

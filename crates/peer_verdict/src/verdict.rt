@@ -4,14 +4,14 @@ ghost use mathlib.Core.Bool.{true};
 ghost use Prim.Native.Nat.{_≤_};
 ghost use Rattle.peer_state.specs.Entry.{entrySound};
 ghost use Rattle.peer_verdict.specs.Verdict.{passes, missing, takeMessage, takeBytes, withRateWindow, withInvalidWindow, withLevels};
-ghost use Rattle.peer_verdict.specs.Verdict.{reachesBan, violated, roomed, weighed, judged, noted, judgedInvalid, overflows};
+ghost use Rattle.peer_verdict.specs.Verdict.{reachesBan, violated, ceilingDecides, weighed, decision, noted, invalidDecision, overflows};
 use amount::Amount;
 use peer_settings::config::PeerMessagePolicyConfig;
 use peer_state::entry::Level;
 use peer_state::entry::PeerMessagePolicyEntry;
 use peer_state::entry::ViolationWindow;
 use peer_state::ingress::FiberIngressBudget;
-use peer_state::ingress::Room;
+use peer_state::ingress::Reservation;
 use token_bucket::answer::Consumed;
 use token_bucket::bytes::ByteRateLimitConfig;
 use token_bucket::bytes::ByteTokenBucket;
@@ -24,7 +24,7 @@ pub struct Take {
     pub level: Level,
 }
 
-// Why a message is admitted or not, in the order in which the limits are judged.
+// Why a message is admitted or not, in the order in which the limits decide.
 pub enum Cause {
     Allowed,
     MessagesShort,
@@ -221,20 +221,20 @@ pub fn violated(
 }
 
 // Both buckets pass, and `charged` is the entry after their takes: where the ceiling has no room it is thrown away.
-fn roomed(
+fn ceiling_decides(
     ingress: FiberIngressBudget,
     entry: PeerMessagePolicyEntry,
     charged: PeerMessagePolicyEntry,
-    room: Room,
+    reservation: Reservation,
 ) -> Decision
     requires { ⌜ charged ≡ withLevels entry (charged .messages) (charged .bytes) ⌝ }
-    ensures { λ r. ⌜ r ≡ roomed ingress entry (charged .messages) (charged .bytes) room ⌝ }
+    ensures { λ r. ⌜ r ≡ ceilingDecides ingress entry (charged .messages) (charged .bytes) reservation ⌝ }
 {
-    match room {
-        Room::Left(after) => decided(Cause::Allowed, charged, after),
-        Room::NoSlot => decided(Cause::NoSlot, entry, ingress),
-        Room::BytesShort(short) => decided(Cause::CeilingShort(short), entry, ingress),
-        Room::Overflow => decided(Cause::Overflow, entry, ingress),
+    match reservation {
+        Reservation::Left(after) => decided(Cause::Allowed, charged, after),
+        Reservation::NoSlot => decided(Cause::NoSlot, entry, ingress),
+        Reservation::BytesShort(short) => decided(Cause::CeilingShort(short), entry, ingress),
+        Reservation::Overflow => decided(Cause::Overflow, entry, ingress),
     }
 }
 
@@ -261,11 +261,11 @@ pub fn weighed(
         let cause = Cause::BytesShort(bytes.missing);
         return violated(config, ingress, entry, now_ms, cause);
     }
-    roomed(ingress, entry, charged, ingress.try_reserve(config, size))
+    ceiling_decides(ingress, entry, charged, ingress.try_reserve(config, size))
 }
 
 // A message on an entry that is not banned.
-pub fn judged(
+pub fn decide(
     config: PeerMessagePolicyConfig,
     ingress: FiberIngressBudget,
     entry: PeerMessagePolicyEntry,
@@ -273,7 +273,7 @@ pub fn judged(
     now_ms: u64,
 ) -> Decision
     requires { ⌜ entrySound config entry ≡ true ⌝ }
-    ensures { λ r. ⌜ r ≡ judged config ingress entry size «now_ms» ⌝ }
+    ensures { λ r. ⌜ r ≡ decision config ingress entry size «now_ms» ⌝ }
 {
     weighed(
         config,
@@ -309,12 +309,12 @@ pub fn noted(
 }
 
 // An invalid message on an entry that is not banned.
-pub fn judged_invalid(
+pub fn decide_invalid(
     config: PeerMessagePolicyConfig,
     entry: PeerMessagePolicyEntry,
     now_ms: u64,
 ) -> InvalidDecision
-    ensures { λ r. ⌜ r ≡ judgedInvalid config entry «now_ms» ⌝ }
+    ensures { λ r. ⌜ r ≡ invalidDecision config entry «now_ms» ⌝ }
 {
     noted(config, entry.used(now_ms, config.ban_duration_ms), now_ms)
 }

@@ -1,4 +1,4 @@
--- The policy's step with no lent memory in it: calls on rows, each with the time that it is judged at, and admit with the room that
+-- The policy's step with no lent memory in it: calls on rows, each with the time that it is decided at, and admit with the room that
 -- the ceiling has for the message. Fair share is proved of lists of such calls, and a run of the calls on lent memory, its refused ones
 -- left out, comes to one. Definitions only.
 use mathlib.Core.List.{List, [], _∷_}
@@ -9,7 +9,7 @@ use Rattle.table.specs.Table.{look}
 use Rattle.peer_settings.specs.declared.config.PeerMessagePolicyConfig.{PeerMessagePolicyConfig}
 use Rattle.peer_state.specs.declared.entry.PeerMessagePolicyEntry.{PeerMessagePolicyEntry}
 use Rattle.peer_state.specs.declared.ingress.FiberIngressBudget.{FiberIngressBudget}
-use Rattle.peer_state.specs.declared.ingress.Room.{Room}
+use Rattle.peer_state.specs.declared.ingress.Reservation.{Reservation}
 use Rattle.peer_verdict.specs.declared.verdict.Cause.{Cause}
 use Rattle.peer_verdict.specs.declared.verdict.Cause.the-variants as Cause
 use Rattle.peer_verdict.specs.declared.verdict.Decision.{Decision}
@@ -23,9 +23,9 @@ use Rattle.peer_message_policy.specs.Policy as Policy
 use Rattle.peer_message_policy.specs.Policy.{Change, Turn, turnOf, carriedOut, entryForUpdate, isBannedChange, disconnectedChange}
 use Rattle.peer_message_policy.specs.Calls.{changedRows, fresh, admissionOf, admissionSays, invalidOf, invalidSays, standingOf, standingSays, changedSays}
 
--- a call of a peer, judged at this time; admit in this room
+-- a call of a peer, decided at this time; admit in this room
 pub data CoreCall : Type 0 where
-  admit : (peer : Pubkey) (size now : ℕ) (room : Room) → CoreCall
+  admit : (peer : Pubkey) (size now : ℕ) (reservation : Reservation) → CoreCall
   recordInvalid : (peer : Pubkey) (now : ℕ) → CoreCall
   isBanned : (peer : Pubkey) (now : ℕ) → CoreCall
   onDisconnected : (peer : Pubkey) (now : ℕ) → CoreCall
@@ -37,13 +37,13 @@ abbrev pub idle : FiberIngressBudget
 idle = inFlight 0 0
 
 -- what admit decides on an entry that is not banned
-abbrev pub admits : PeerMessagePolicyConfig → ℕ → ℕ → Room → PeerMessagePolicyEntry → Decision
-admits c size now room e = weighedIn c idle (entryUsed e now (c .«ban_duration_ms»)) size now room
+abbrev pub admits : PeerMessagePolicyConfig → ℕ → ℕ → Reservation → PeerMessagePolicyEntry → Decision
+admits c size now reservation e = weighedIn c idle (entryUsed e now (c .«ban_duration_ms»)) size now reservation
 
 -- a message's turn: its peer's entry is found or made, and what admit decides on it is carried out
-abbrev pub messageTurn : PeerMessagePolicyConfig → Pubkey → ℕ → ℕ → Room → Peers → Turn Cause
-messageTurn c k size now room rs =
-    turnOf idle Cause.LiveBan (λ e xs. carriedOut idle (k .bytes) xs (admits c size now room e)) (entryForUpdate c now rs (k .bytes) (look (k .bytes) rs))
+abbrev pub messageTurn : PeerMessagePolicyConfig → Pubkey → ℕ → ℕ → Reservation → Peers → Turn Cause
+messageTurn c k size now reservation rs =
+    turnOf idle Cause.LiveBan (λ e xs. carriedOut idle (k .bytes) xs (admits c size now reservation e)) (entryForUpdate c now rs (k .bytes) (look (k .bytes) rs))
 
 -- an invalid message's turn
 abbrev pub invalidTurn : PeerMessagePolicyConfig → Pubkey → ℕ → Peers → Turn InvalidCause
@@ -51,14 +51,14 @@ invalidTurn c k now rs = Policy.recordInvalid c idle rs (k .bytes) now
 
 -- what a call does to the rows
 abbrev pub changeIn : PeerMessagePolicyConfig → CoreCall → Peers → Change
-changeIn c (admit k size now room) rs = messageTurn c k size now room rs .change
+changeIn c (admit k size now reservation) rs = messageTurn c k size now reservation rs .change
 changeIn c (recordInvalid k now) rs = invalidTurn c k now rs .change
 changeIn c (isBanned k now) rs = isBannedChange rs (k .bytes) now (look (k .bytes) rs)
 changeIn c (onDisconnected k now) rs = disconnectedChange c rs (k .bytes) now (look (k .bytes) rs)
 
 -- what it says; the policy that an answer carries says nothing
 abbrev pub saysIn : PeerMessagePolicyConfig → CoreCall → Peers → Said
-saysIn c (admit k size now room) rs = admissionSays (admissionOf (fresh c) (messageTurn c k size now room rs .cause))
+saysIn c (admit k size now reservation) rs = admissionSays (admissionOf (fresh c) (messageTurn c k size now reservation rs .cause))
 saysIn c (recordInvalid k now) rs = invalidSays (invalidOf (fresh c) (invalidTurn c k now rs .cause))
 saysIn c (isBanned k now) rs = standingSays (standingOf (Policy.isBanned (look (k .bytes) rs) now) (fresh c))
 saysIn c (onDisconnected k now) rs = changedSays (Changed.Policy (fresh c))
@@ -70,9 +70,9 @@ unfoldable pub after : PeerMessagePolicyConfig → List CoreCall → Peers
 after c [] = []
 after c (call ∷ h) = changedRows (after c h) (changeIn c call (after c h))
 
--- the time that a call is judged at
+-- the time that a call is decided at
 abbrev pub timeOf : CoreCall → ℕ
-timeOf (admit peer size now room) = now
+timeOf (admit peer size now reservation) = now
 timeOf (recordInvalid peer now) = now
 timeOf (isBanned peer now) = now
 timeOf (onDisconnected peer now) = now
@@ -89,7 +89,7 @@ Timely (call ∷ h) = (latest h ≤ timeOf call) × Timely h
 
 -- a message's size is a u64
 abbrev pub SizeFits : CoreCall → Type 0
-SizeFits (admit peer size now room) = size < 2 ^ 64
+SizeFits (admit peer size now reservation) = size < 2 ^ 64
 SizeFits (recordInvalid peer now) = Unit {0}
 SizeFits (isBanned peer now) = Unit {0}
 SizeFits (onDisconnected peer now) = Unit {0}

@@ -14,7 +14,7 @@ use Rattle.table.specs.Table.{look, ascending}
 use Rattle.table.specs.TableLaws.{by-test}
 use Rattle.peer_settings.specs.declared.config.PeerMessagePolicyConfig.{PeerMessagePolicyConfig}
 use Rattle.peer_state.specs.declared.entry.PeerMessagePolicyEntry.{PeerMessagePolicyEntry}
-use Rattle.peer_state.specs.declared.ingress.Room.{Room}
+use Rattle.peer_state.specs.declared.ingress.Reservation.{Reservation}
 use Rattle.peer_settings.specs.Fits.{ConfigFits}
 use Rattle.peer_state.specs.Entry.{level}
 use Rattle.peer_rows.specs.Rows.{Peers}
@@ -65,9 +65,9 @@ module _ {c : PeerMessagePolicyConfig} (fits : ConfigFits c) (k : Pubkey) where
   pub least : (h : List CoreCall) → Sized h → ShieldedIn k (trailOf c h) → (size now : ℕ) → size < 2 ^ 64
       → lastUsed (look (k .bytes) (after c h)) ≤ now → Policy.isBanned (look (k .bytes) (after c h)) now ≡ false
       → Within c now size (logFor (look (k .bytes) (after c h)) now (logIn k (trailOf c h)))
-      → (room : Room) → saysIn c (admit k size now room) (after c h) ≡ ceilingSays room
-  least h sized shield size now size-fits used free within room =
-      least-here c fits size now size-fits room k (after c h) (logIn k (trailOf c h)) (fair h sized shield) used free within
+      → (reservation : Reservation) → saysIn c (admit k size now reservation) (after c h) ≡ ceilingSays reservation
+  least h sized shield size now size-fits used free within reservation =
+      least-here c fits size now size-fits reservation k (after c h) (logIn k (trailOf c h)) (fair h sized shield) used free within
 
 -- ════ Times that never go back ════
 
@@ -82,7 +82,7 @@ module _ (c : PeerMessagePolicyConfig) (k : Pubkey) where
   -- a time that is not before the last use is not before it for a call of the peer's own
   own-timely : (found : Option PeerMessagePolicyEntry) (call : CoreCall) → lastUsed found ≤ timeOf call
       → OwnTime (λ now. lastUsed found ≤ now) (partOf k call)
-  own-timely found (admit peer size now room) h = by-test (sameKey k peer) (λ own. rw own h) (λ other. rw other tt)
+  own-timely found (admit peer size now reservation) h = by-test (sameKey k peer) (λ own. rw own h) (λ other. rw other tt)
   own-timely found (recordInvalid peer now) h = by-test (sameKey k peer) (λ own. rw own h) (λ other. rw other tt)
   own-timely found (isBanned peer now) h = tt
   own-timely found (onDisconnected peer now) h = tt

@@ -20,7 +20,7 @@ use Rattle.peer_verdict.specs.declared.verdict.InvalidCause.{InvalidCause}
 use Rattle.peer_verdict.specs.declared.verdict.InvalidCause.the-variants as InvalidCause
 use Rattle.peer_state.specs.Entry.{entryIsBanned, entryIsSpent, entryExpireWindows}
 use Rattle.peer_state.specs.EntryLaws.{chosen}
-use Rattle.peer_verdict.specs.Verdict.{judgedInvalid, overflows}
+use Rattle.peer_verdict.specs.Verdict.{invalidDecision, overflows}
 use Rattle.peer_rows.specs.Rows.{Peers}
 use Rattle.peer_table.specs.RoomLaws.{sub-makeRoom}
 use Rattle.peer_message_policy.specs.Policy
@@ -30,7 +30,7 @@ use Rattle.peer_laws.specs.PeerLaws.{Fate, stayed, gone, expired, Own, live, un
 use Rattle.promises.specs.Core.{CoreCall, admit, recordInvalid, isBanned, onDisconnected, idle, admits, messageTurn, invalidTurn, changeIn, saysIn, after, timeOf}
 use Rattle.promises.specs.Trails.{Event, seen, rowsAt, trailOf}
 use Rattle.promises.specs.Lives.{sameKey, lastUsed}
-use Rattle.promises.specs.DecisionLaws.{decided, judged-invalid-noted}
+use Rattle.promises.specs.DecisionLaws.{decided, invalid-decision-noted}
 use Rattle.promises.specs.CoreStepLaws.{gives-is-not-refused, overflow-either, same-key, leftIn, own-here, own-invalid-here, other-here, other-invalid-here, is-banned-here, disconnected-here}
 
 -- ════ Keys ascend ════
@@ -61,9 +61,9 @@ module _ (c : PeerMessagePolicyConfig) (rs : Peers) (order : ascending rs ≡ tr
       chosen (λ (t : Turn Cause). Ascends (t .change)) (overflows (decide e .cause)) (λ o. order) (λ o. ascending-store k (decide e .entry) xs h)
 
   invalid-ascends : (k : List ℕ) (now : ℕ) (u : Update) → UpdateAscends u
-      → Ascends (turnOf idle InvalidCause.LiveBan (λ e xs. notedDown idle k xs (judgedInvalid c e now)) u .change)
+      → Ascends (turnOf idle InvalidCause.LiveBan (λ e xs. notedDown idle k xs (invalidDecision c e now)) u .change)
   invalid-ascends k now banned h = order
-  invalid-ascends k now (update e xs) h = ascending-store k (judgedInvalid c e now .entry) xs h
+  invalid-ascends k now (update e xs) h = ascending-store k (invalidDecision c e now .entry) xs h
 
   is-banned-ascends : (k : List ℕ) (now : ℕ) (found : Option PeerMessagePolicyEntry) → Ascends (isBannedChange rs k now found)
   unfolding isBannedChange
@@ -81,8 +81,8 @@ module _ (c : PeerMessagePolicyConfig) (rs : Peers) (order : ascending rs ≡ tr
 
   step-ascends : (call : CoreCall) → Ascends (changeIn c call rs)
   unfolding Policy.recordInvalid
-  step-ascends (admit k size now room) =
-      message-ascends (k .bytes) (admits c size now room) (entryForUpdate c now rs (k .bytes) (look (k .bytes) rs))
+  step-ascends (admit k size now reservation) =
+      message-ascends (k .bytes) (admits c size now reservation) (entryForUpdate c now rs (k .bytes) (look (k .bytes) rs))
       (update-ascends now (k .bytes) (look (k .bytes) rs))
   step-ascends (recordInvalid k now) =
       invalid-ascends (k .bytes) now (entryForUpdate c now rs (k .bytes) (look (k .bytes) rs))
@@ -118,11 +118,11 @@ standing-gives c false h = gives-is-not-refused h
 
 pub refused-leaves : (c : PeerMessagePolicyConfig) (rs : Peers) (call : CoreCall) {n : ℕ} → saysIn c call rs ≡ refused n
     → changedRows rs (changeIn c call rs) ≡ rs
-refused-leaves c rs (admit k size now room) h =
+refused-leaves c rs (admit k size now reservation) h =
     ⊎-elim
-    (λ over. ap (changedRows rs) (turn-undone (k .bytes) (admits c size now room) (entryForUpdate c now rs (k .bytes) (look (k .bytes) rs)) (over .0)))
+    (λ over. ap (changedRows rs) (turn-undone (k .bytes) (admits c size now reservation) (entryForUpdate c now rs (k .bytes) (look (k .bytes) rs)) (over .0)))
     (λ other. absurd (gives-is-not-refused (sym (other .1 .1) ∙ h)))
-    (overflow-either c (messageTurn c k size now room rs .cause))
+    (overflow-either c (messageTurn c k size now reservation rs .cause))
 refused-leaves c rs (recordInvalid k now) h = absurd (invalid-gives c (invalidTurn c k now rs .cause) h)
 refused-leaves c rs (isBanned k now) h = absurd (standing-gives c (Policy.isBanned (look (k .bytes) rs) now) h)
 refused-leaves c rs (onDisconnected k now) h = absurd (gives-is-not-refused h)
@@ -162,15 +162,15 @@ own-used used (carried e lands o why now-entry) h = rw now-entry (omega (arith, 
 invalid-used : {c : PeerMessagePolicyConfig} {now : ℕ} {found left : Option PeerMessagePolicyEntry} {cause : InvalidCause}
     → OwnInvalid c now found left cause → lastUsed found ≤ now → lastUsed left ≤ now
 invalid-used (barred e q ban why same-entry) h = rw same-entry h
-invalid-used {c} {now} (counted e lands why now-entry) h = rw now-entry (omega (arith, judged-invalid-noted c e now .used))
+invalid-used {c} {now} (counted e lands why now-entry) h = rw now-entry (omega (arith, invalid-decision-noted c e now .used))
 
 -- no call uses an entry after its own time
 pub step-used : (c : PeerMessagePolicyConfig) (k : Pubkey) (rs : Peers) → ascending rs ≡ true → (call : CoreCall)
     → lastUsed (look (k .bytes) rs) ≤ timeOf call → lastUsed (leftIn c k rs call) ≤ timeOf call
-step-used c k rs order (admit peer size now room) h =
+step-used c k rs order (admit peer size now reservation) h =
     by-test (sameKey k peer)
-    (λ own. own-used (λ e. decided c idle e size now room .used) (own-here c k rs peer size now room (same-key k peer own)) h)
-    (λ other. fate-used now (other-here c k rs order peer size now room other) h)
+    (λ own. own-used (λ e. decided c idle e size now reservation .used) (own-here c k rs peer size now reservation (same-key k peer own)) h)
+    (λ other. fate-used now (other-here c k rs order peer size now reservation other) h)
 step-used c k rs order (recordInvalid peer now) h =
     by-test (sameKey k peer)
     (λ own. invalid-used (own-invalid-here c k rs peer now (same-key k peer own)) h)

@@ -19,7 +19,7 @@ use Rattle.peer_verdict.specs.declared.verdict.InvalidCause.{InvalidCause}
 use Rattle.peer_verdict.specs.declared.verdict.InvalidCause.the-variants as InvalidCause
 use Rattle.peer_verdict.specs.declared.verdict.InvalidDecision.{InvalidDecision}
 use Rattle.peer_state.specs.Ingress.{tryReserve}
-use Rattle.peer_verdict.specs.Verdict.{judgedInvalid, overflows}
+use Rattle.peer_verdict.specs.Verdict.{invalidDecision, overflows}
 use Rattle.peer_rows.specs.Rows.{Peers}
 use Rattle.peer_message_policy.specs.declared.policy.PeerMessagePolicy.{PeerMessagePolicy}
 use Rattle.peer_message_policy.specs.declared.answer.Made.the-variants as Made
@@ -33,7 +33,7 @@ use Rattle.promises.specs.Trails.{rowsAt, callsOf, trailOf}
 use Rattle.promises.specs.Lives.{logIn}
 use Rattle.peer_runs.specs.Runs.{Call, admit, recordInvalid, isBanned, onDisconnected, releaseIngress, inFlight, heldTime, State, rowsIn, Step, KeyFits, Fits, Run, made, then}
 use Rattle.promises.specs.RunLives.{coreOf, trail, coreCalls, logOf}
-use Rattle.promises.specs.DecisionLaws.{Alike, judged-alike}
+use Rattle.promises.specs.DecisionLaws.{Alike, decision-alike}
 use Rattle.promises.specs.CoreRowLaws.{trail-rows}
 use Rattle.promises.specs.MirrorLaws.{Mirrors, MirrorsIf, mirrored-rows, mirrored-trail}
 use Rattle.peer_runs.specs.SoundRunLaws.{StateHolds, admit-left, record-invalid-left, is-banned-left, on-disconnected-left, release-ingress-left, run-holds}
@@ -93,11 +93,11 @@ module _ (c : PeerMessagePolicyConfig) (i : FiberIngressBudget) (rs : Peers) (k 
   admit-core : (size : ℕ) → SameTurn (Policy.admit c i rs (k .bytes) size now) (messageTurn c k size now (tryReserve c i size) rs)
   unfolding Policy.admit
   admit-core size =
-      message-alike i idle (k .bytes) (λ e. judged-alike c i idle now e size) (entryForUpdate c now rs (k .bytes) (look (k .bytes) rs))
+      message-alike i idle (k .bytes) (λ e. decision-alike c i idle now e size) (entryForUpdate c now rs (k .bytes) (look (k .bytes) rs))
 
   invalid-core : SameTurn (Policy.recordInvalid c i rs (k .bytes) now) (invalidTurn c k now rs)
   unfolding Policy.recordInvalid
-  invalid-core = noted-alike i idle (k .bytes) (λ e. judgedInvalid c e now) (entryForUpdate c now rs (k .bytes) (look (k .bytes) rs))
+  invalid-core = noted-alike i idle (k .bytes) (λ e. invalidDecision c e now) (entryForUpdate c now rs (k .bytes) (look (k .bytes) rs))
 
 -- ════ One call ════
 

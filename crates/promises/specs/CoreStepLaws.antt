@@ -16,8 +16,8 @@ use Rattle.table.specs.Table.{look, ascending}
 use Rattle.table.specs.TableLaws.{by-answer, by-test, true-is-not-false}
 use Rattle.peer_settings.specs.declared.config.PeerMessagePolicyConfig.{PeerMessagePolicyConfig}
 use Rattle.peer_state.specs.declared.entry.PeerMessagePolicyEntry.{PeerMessagePolicyEntry}
-use Rattle.peer_state.specs.declared.ingress.Room.{Room}
-use Rattle.peer_state.specs.declared.ingress.Room.the-variants as Room
+use Rattle.peer_state.specs.declared.ingress.Reservation.{Reservation}
+use Rattle.peer_state.specs.declared.ingress.Reservation.the-variants as Reservation
 use Rattle.peer_verdict.specs.declared.verdict.Cause.{Cause}
 use Rattle.peer_verdict.specs.declared.verdict.Cause.the-variants as Cause
 use Rattle.peer_verdict.specs.declared.verdict.InvalidCause.{InvalidCause}
@@ -32,7 +32,7 @@ use Rattle.peer_laws.specs.PeerLaws.{Fate, stayed, gone, expired, Lands, kept, 
 use Rattle.promises.specs.Core.{CoreCall, admit, recordInvalid, isBanned, onDisconnected, idle, admits, messageTurn, invalidTurn, changeIn, saysIn, SizeFits}
 use Rattle.promises.specs.Lives.{Allow, sameKey, partOf, OwnTime, logFor, logged, keptLog, logAfter, lastUsed, Within, ceilingSays}
 use Rattle.promises.specs.FairLaws.{NotAfter, Fair, fair-new, fair-allow, fair-least}
-use Rattle.promises.specs.DecisionLaws.{roomCause, decided, judged-invalid-noted}
+use Rattle.promises.specs.DecisionLaws.{reservationCause, decided, invalid-decision-noted}
 
 -- ════ The invariant ════
 
@@ -71,24 +71,24 @@ abbrev pub says : PeerMessagePolicyConfig → Cause → Said
 says c cause = admissionSays (admissionOf (fresh c) cause)
 
 -- what admit says where the ceiling decides
-room-says : (c : PeerMessagePolicyConfig) (room : Room) → says c (roomCause room) ≡ ceilingSays room
-room-says c (Room.Left after) = refl
-room-says c Room.NoSlot = refl
-room-says c (Room.BytesShort n) = refl
-room-says c Room.Overflow = refl
+reservation-says : (c : PeerMessagePolicyConfig) (reservation : Reservation) → says c (reservationCause reservation) ≡ ceilingSays reservation
+reservation-says c (Reservation.Left after) = refl
+reservation-says c Reservation.NoSlot = refl
+reservation-says c (Reservation.BytesShort n) = refl
+reservation-says c Reservation.Overflow = refl
 
-module _ (c : PeerMessagePolicyConfig) (fits : ConfigFits c) (size now : ℕ) (size-fits : size < 2 ^ 64) (room : Room) where
+module _ (c : PeerMessagePolicyConfig) (fits : ConfigFits c) (size now : ℕ) (size-fits : size < 2 ^ 64) (reservation : Reservation) where
   -- within the smaller allowance both buckets of the entry that a call lands on pass, and the ceiling decides
   passes-says : (found : Option PeerMessagePolicyEntry) (e : PeerMessagePolicyEntry) (log : List Allow) → Lands c now found e → EntryFair c found log
-      → lastUsed found ≤ now → Within c now size (logFor found now log) → says c (admits c size now room e .cause) ≡ ceilingSays room
+      → lastUsed found ≤ now → Within c now size (logFor found now log) → says c (admits c size now reservation e .cause) ≡ ceilingSays reservation
   passes-says found e log lands fair used within =
       let ready = lands-ready c fits now found e log lands fair used in
       let passes = fair-least c fits (e .messages) (e .bytes) (logFor found now log) size now size-fits (ready .0) (ready .1) within in
-      ap (says c) (decided c idle e size now room .passed (passes .0) (passes .1)) ∙ room-says c room
+      ap (says c) (decided c idle e size now reservation .passed (passes .0) (passes .1)) ∙ reservation-says c reservation
 
-  own-least : {found left : Option PeerMessagePolicyEntry} {cause : Cause} (log : List Allow) → Own c now (admits c size now room) found left cause
+  own-least : {found left : Option PeerMessagePolicyEntry} {cause : Cause} (log : List Allow) → Own c now (admits c size now reservation) found left cause
       → EntryFair c found log → lastUsed found ≤ now → Policy.isBanned found now ≡ false → Within c now size (logFor found now log)
-      → says c cause ≡ ceilingSays room
+      → says c cause ≡ ceilingSays reservation
   own-least log (live e q ban why same-entry) fair used free within =
       absurd (true-is-not-false ban (subst (λ o. Policy.isBanned o now ≡ false) q free))
   own-least {found} log (undone e lands o why same-entry) fair used free within =
@@ -99,8 +99,8 @@ module _ (c : PeerMessagePolicyConfig) (fits : ConfigFits c) (size now : ℕ) (s
   -- a call within the smaller allowance gets the ceiling's answer
   pub least-here : (k : Pubkey) (rs : Peers) (log : List Allow) → EntryFair c (look (k .bytes) rs) log → lastUsed (look (k .bytes) rs) ≤ now
       → Policy.isBanned (look (k .bytes) rs) now ≡ false → Within c now size (logFor (look (k .bytes) rs) now log)
-      → saysIn c (admit k size now room) rs ≡ ceilingSays room
-  least-here k rs log = own-least log (own-message (k .bytes) rs c idle (admits c size now room) now)
+      → saysIn c (admit k size now reservation) rs ≡ ceilingSays reservation
+  least-here k rs log = own-least log (own-message (k .bytes) rs c idle (admits c size now reservation) now)
 
 -- ════ What an own call leaves ════
 
@@ -126,28 +126,28 @@ module _ (c : PeerMessagePolicyConfig) (fits : ConfigFits c) where
   live-fair now found left e log q ban same-entry h =
       rw (same-entry, q, live-not-spent e now ban) (subst (λ o. EntryFair c o log) q h)
 
-  module _ (size now : ℕ) (size-fits : size < 2 ^ 64) (room : Room) where
+  module _ (size now : ℕ) (size-fits : size < 2 ^ 64) (reservation : Reservation) where
     abbrev asked : Allow
     asked = record { time = now; size = size }
 
     module _ (e : PeerMessagePolicyEntry) (log : List Allow) (ready : Ready c e now log) where
       -- an Allow is charged to both buckets
-      allowed-fair : admits c size now room e .cause ≡ Cause.Allowed → EntryFair c (some (admits c size now room e .entry)) (asked ∷ log)
+      allowed-fair : admits c size now reservation e .cause ≡ Cause.Allowed → EntryFair c (some (admits c size now reservation e .entry)) (asked ∷ log)
       allowed-fair q =
-          let d = decided c idle e size now room in
+          let d = decided c idle e size now reservation in
           let a = d .allowed q in
           let charged = fair-allow c fits (e .messages) (e .bytes) log size now size-fits (ready .0) (ready .1) (a .message-there) (a .bytes-there) in
           (subst₂ (λ m b. Fair c m b (asked ∷ log)) (sym (a .messages)) (sym (a .bytes)) charged, omega (arith, d .used))
 
       -- any other decision leaves the buckets
-      other-fair : NotAllowed (admits c size now room e .cause) → EntryFair c (some (admits c size now room e .entry)) log
+      other-fair : NotAllowed (admits c size now reservation e .cause) → EntryFair c (some (admits c size now reservation e .entry)) log
       other-fair n =
-          let d = decided c idle e size now room in
+          let d = decided c idle e size now reservation in
           let left = d .other n in
           rw (left .0, left .1, d .used) ready
 
-      carried-fair : (cause : Cause) → admits c size now room e .cause ≡ cause
-          → EntryFair c (some (admits c size now room e .entry)) (logged (says c cause) asked log)
+      carried-fair : (cause : Cause) → admits c size now reservation e .cause ≡ cause
+          → EntryFair c (some (admits c size now reservation e .entry)) (logged (says c cause) asked log)
       carried-fair Cause.Allowed q = allowed-fair q
       carried-fair Cause.MessagesShort q = other-fair (subst NotAllowed (sym q) tt)
       carried-fair (Cause.BytesShort k) q = other-fair (subst NotAllowed (sym q) tt)
@@ -159,7 +159,7 @@ module _ (c : PeerMessagePolicyConfig) (fits : ConfigFits c) where
 
     -- the peer's own admit, where it is not refused
     admit-fair : {found left : Option PeerMessagePolicyEntry} {cause : Cause} (log : List Allow)
-        → Own c now (admits c size now room) found left cause → (xs : List ℕ) → says c cause ≡ gives xs → EntryFair c found log
+        → Own c now (admits c size now reservation) found left cause → (xs : List ℕ) → says c cause ≡ gives xs → EntryFair c found log
         → lastUsed found ≤ now → EntryFair c left (keptLog left (logged (says c cause) asked (logFor found now log)))
     admit-fair {found} {left} log (live e q ban why same-entry) xs given h used = rw why (live-fair now found left e log q ban same-entry h)
     admit-fair {cause = cause} log (undone e lands o why same-entry) xs given h used =
@@ -175,7 +175,7 @@ module _ (c : PeerMessagePolicyConfig) (fits : ConfigFits c) where
       → EntryFair c found log → lastUsed found ≤ now → EntryFair c left (keptLog left (logFor found now log))
   invalid-fair now {found} {left} log (barred e q ban why same-entry) h used = live-fair now found left e log q ban same-entry h
   invalid-fair now {found} log (counted e lands why now-entry) h used =
-      let n = judged-invalid-noted c e now in
+      let n = invalid-decision-noted c e now in
       rw (now-entry, n .messages, n .bytes, n .used) (lands-ready c fits now found e log lands h used)
 
 -- ════ What any call leaves ════
@@ -197,11 +197,11 @@ leftIn c k rs call = look (k .bytes) (changedRows rs (changeIn c call rs))
 
 module _ (c : PeerMessagePolicyConfig) (k : Pubkey) (rs : Peers) where
   -- an admit and a record_invalid of the peer's own
-  pub own-here : (peer : Pubkey) (size now : ℕ) (room : Room) → k ≡ peer
-      → Own c now (admits c size now room) (look (k .bytes) rs) (leftIn c k rs (admit peer size now room)) (messageTurn c peer size now room rs .cause)
-  own-here peer size now room q =
-      subst (λ (x : Pubkey). Own c now (admits c size now room) (look (x .bytes) rs) (leftIn c x rs (admit peer size now room)) (messageTurn c peer size now room rs .cause))
-      (sym q) (own-message (peer .bytes) rs c idle (admits c size now room) now)
+  pub own-here : (peer : Pubkey) (size now : ℕ) (reservation : Reservation) → k ≡ peer
+      → Own c now (admits c size now reservation) (look (k .bytes) rs) (leftIn c k rs (admit peer size now reservation)) (messageTurn c peer size now reservation rs .cause)
+  own-here peer size now reservation q =
+      subst (λ (x : Pubkey). Own c now (admits c size now reservation) (look (x .bytes) rs) (leftIn c x rs (admit peer size now reservation)) (messageTurn c peer size now reservation rs .cause))
+      (sym q) (own-message (peer .bytes) rs c idle (admits c size now reservation) now)
 
   pub own-invalid-here : (peer : Pubkey) (now : ℕ) → k ≡ peer
       → OwnInvalid c now (look (k .bytes) rs) (leftIn c k rs (recordInvalid peer now)) (invalidTurn c peer now rs .cause)
@@ -211,10 +211,10 @@ module _ (c : PeerMessagePolicyConfig) (k : Pubkey) (rs : Peers) where
 
   module _ (order : ascending rs ≡ true) where
     -- an admit and a record_invalid of another peer
-    pub other-here : (peer : Pubkey) (size now : ℕ) (room : Room) → sameKey k peer ≡ false
-        → Fate (look (k .bytes) rs) (leftIn c k rs (admit peer size now room))
-    other-here peer size now room other =
-        message-fate (k .bytes) (peer .bytes) (other-key k peer other) rs order c idle (admits c size now room) now
+    pub other-here : (peer : Pubkey) (size now : ℕ) (reservation : Reservation) → sameKey k peer ≡ false
+        → Fate (look (k .bytes) rs) (leftIn c k rs (admit peer size now reservation))
+    other-here peer size now reservation other =
+        message-fate (k .bytes) (peer .bytes) (other-key k peer other) rs order c idle (admits c size now reservation) now
 
     pub other-invalid-here : (peer : Pubkey) (now : ℕ) → sameKey k peer ≡ false → Fate (look (k .bytes) rs) (leftIn c k rs (recordInvalid peer now))
     other-invalid-here peer now other = record-invalid-fate (k .bytes) (peer .bytes) (other-key k peer other) rs order c idle now
@@ -247,12 +247,12 @@ module _ (c : PeerMessagePolicyConfig) (fits : ConfigFits c) (k : Pubkey) (rs : 
   pub step-fair : (call : CoreCall) → SizeFits call → (xs : List ℕ) → saysIn c call rs ≡ gives xs
       → OwnTime (λ now. lastUsed (look (k .bytes) rs) ≤ now) (partOf k call)
       → EntryFair c (leftIn c k rs call) (logAfter (partOf k call) (look (k .bytes) rs) (leftIn c k rs call) (saysIn c call rs) log)
-  step-fair (admit peer size now room) size-fits xs given used =
+  step-fair (admit peer size now reservation) size-fits xs given used =
       by-test (sameKey k peer)
       (λ own.
       let before : lastUsed (look (k .bytes) rs) ≤ now = rw own at used in
-      rw own (admit-fair c fits size now size-fits room log (own-here c k rs peer size now room (same-key k peer own)) xs given fair before))
-      (λ other. rw other (fate-fair c log (other-here c k rs order peer size now room other) fair))
+      rw own (admit-fair c fits size now size-fits reservation log (own-here c k rs peer size now reservation (same-key k peer own)) xs given fair before))
+      (λ other. rw other (fate-fair c log (other-here c k rs order peer size now reservation other) fair))
   step-fair (recordInvalid peer now) size-fits xs given used =
       by-test (sameKey k peer)
       (λ own.

@@ -8,25 +8,25 @@ use Rattle.table.specs.TableLaws.{true-is-not-false}
 use Rattle.peer_settings.specs.declared.config.PeerMessagePolicyConfig.{PeerMessagePolicyConfig}
 use Rattle.peer_state.specs.declared.entry.PeerMessagePolicyEntry.{PeerMessagePolicyEntry}
 use Rattle.peer_state.specs.declared.ingress.FiberIngressBudget.{FiberIngressBudget}
-use Rattle.peer_state.specs.declared.ingress.Room.{Room}
-use Rattle.peer_state.specs.declared.ingress.Room.the-variants as Room
+use Rattle.peer_state.specs.declared.ingress.Reservation.{Reservation}
+use Rattle.peer_state.specs.declared.ingress.Reservation.the-variants as Reservation
 use Rattle.peer_verdict.specs.declared.verdict.Cause.{Cause}
 use Rattle.peer_verdict.specs.declared.verdict.Cause.the-variants as Cause
 use Rattle.peer_verdict.specs.declared.verdict.Decision.{Decision}
 use Rattle.peer_verdict.specs.declared.verdict.InvalidDecision.{InvalidDecision}
 use Rattle.peer_state.specs.Entry.{entryBan, entryUsed}
 use Rattle.peer_state.specs.Ingress.{tryReserve}
-use Rattle.peer_verdict.specs.Verdict.{takeMessage, takeBytes, reachesBan, violated, roomed, weighedIn, weighed, judged, judgedInvalid}
+use Rattle.peer_verdict.specs.Verdict.{takeMessage, takeBytes, reachesBan, violated, ceilingDecides, weighedIn, weighed, decision, invalidDecision}
 use Rattle.peer_verdict.specs.VerdictLaws.{NotAllowed, rateCounted, violated-ways, noted-ways, weighed-in-ways}
 
 -- ════ A message ════
 
 -- the cause that the ceiling gives
-abbrev pub roomCause : Room → Cause
-roomCause (Room.Left after) = Cause.Allowed
-roomCause Room.NoSlot = Cause.NoSlot
-roomCause (Room.BytesShort k) = Cause.CeilingShort k
-roomCause Room.Overflow = Cause.Overflow
+abbrev pub reservationCause : Reservation → Cause
+reservationCause (Reservation.Left after) = Cause.Allowed
+reservationCause Reservation.NoSlot = Cause.NoSlot
+reservationCause (Reservation.BytesShort k) = Cause.CeilingShort k
+reservationCause Reservation.Overflow = Cause.Overflow
 
 -- an Allow: both buckets passed and are charged
 pub record Charged (c : PeerMessagePolicyConfig) (e : PeerMessagePolicyEntry) (size now : ℕ) (d : Decision) : Type 0 where
@@ -36,60 +36,60 @@ pub record Charged (c : PeerMessagePolicyConfig) (e : PeerMessagePolicyEntry) (s
   pub bytes : d .entry .bytes ≡ takeBytes c (e .bytes) size now .level
 
 -- what is known of a decision on a message, in this room
-pub record Decided (c : PeerMessagePolicyConfig) (e : PeerMessagePolicyEntry) (size now : ℕ) (room : Room) (d : Decision) : Type 0 where
+pub record Decided (c : PeerMessagePolicyConfig) (e : PeerMessagePolicyEntry) (size now : ℕ) (reservation : Reservation) (d : Decision) : Type 0 where
   pub used : d .entry .«last_used_ms» ≡ now
   pub allowed : d .cause ≡ Cause.Allowed → Charged c e size now d
   pub other : NotAllowed (d .cause) → (d .entry .messages ≡ e .messages) × (d .entry .bytes ≡ e .bytes)
-  pub passed : takeMessage c (e .messages) now .passes ≡ true → takeBytes c (e .bytes) size now .passes ≡ true → d .cause ≡ roomCause room
+  pub passed : takeMessage c (e .messages) now .passes ≡ true → takeBytes c (e .bytes) size now .passes ≡ true → d .cause ≡ reservationCause reservation
 
 -- a decision for this cause, other than Allow, that leaves the buckets
-kept-decided : {c : PeerMessagePolicyConfig} {e : PeerMessagePolicyEntry} {size now : ℕ} {room : Room} (d : Decision) → NotAllowed (d .cause)
+kept-decided : {c : PeerMessagePolicyConfig} {e : PeerMessagePolicyEntry} {size now : ℕ} {reservation : Reservation} (d : Decision) → NotAllowed (d .cause)
     → d .entry .«last_used_ms» ≡ now → d .entry .messages ≡ e .messages → d .entry .bytes ≡ e .bytes
-    → (takeMessage c (e .messages) now .passes ≡ true → takeBytes c (e .bytes) size now .passes ≡ true → d .cause ≡ roomCause room)
-    → Decided c e size now room d
+    → (takeMessage c (e .messages) now .passes ≡ true → takeBytes c (e .bytes) size now .passes ≡ true → d .cause ≡ reservationCause reservation)
+    → Decided c e size now reservation d
 kept-decided d n used messages bytes passed =
     record { used = used; allowed = λ q. absurd (subst NotAllowed q n); other = λ m. (messages, bytes); passed = passed }
 
-module _ (c : PeerMessagePolicyConfig) (i : FiberIngressBudget) (e : PeerMessagePolicyEntry) (size now : ℕ) (room : Room) (used : e .«last_used_ms» ≡ now) where
+module _ (c : PeerMessagePolicyConfig) (i : FiberIngressBudget) (e : PeerMessagePolicyEntry) (size now : ℕ) (reservation : Reservation) (used : e .«last_used_ms» ≡ now) where
   violated-decided : (cause : Cause) → NotAllowed cause
       → (takeMessage c (e .messages) now .passes ≡ true → takeBytes c (e .bytes) size now .passes ≡ true → ⊥)
-      → Decided c e size now room (violated c i e now cause)
+      → Decided c e size now reservation (violated c i e now cause)
   unfolding entryBan
   violated-decided cause n short =
-      violated-ways (Decided c e size now room) c i e now cause
+      violated-ways (Decided c e size now reservation) c i e now cause
       (λ t. kept-decided _ tt refl refl refl (λ m b. absurd (short m b)))
       (λ t. kept-decided _ n used refl refl (λ m b. absurd (short m b)))
 
-  roomed-decided : takeMessage c (e .messages) now .passes ≡ true → takeBytes c (e .bytes) size now .passes ≡ true
-      → Decided c e size now room (roomed i e (takeMessage c (e .messages) now .level) (takeBytes c (e .bytes) size now .level) room)
-  roomed-decided m b = by-room room
+  ceilingDecides-decided : takeMessage c (e .messages) now .passes ≡ true → takeBytes c (e .bytes) size now .passes ≡ true
+      → Decided c e size now reservation (ceilingDecides i e (takeMessage c (e .messages) now .level) (takeBytes c (e .bytes) size now .level) reservation)
+  ceilingDecides-decided m b = by-reservation reservation
     where
-      by-room : (r : Room)
-          → Decided c e size now r (roomed i e (takeMessage c (e .messages) now .level) (takeBytes c (e .bytes) size now .level) r)
-      by-room (Room.Left after) =
+      by-reservation : (r : Reservation)
+          → Decided c e size now r (ceilingDecides i e (takeMessage c (e .messages) now .level) (takeBytes c (e .bytes) size now .level) r)
+      by-reservation (Reservation.Left after) =
           record {
             used = used;
             allowed = λ q. record { message-there = m; bytes-there = b; messages = refl; bytes = refl };
             other = λ n. absurd n;
             passed = λ x y. refl;
           }
-      by-room Room.NoSlot = kept-decided _ tt used refl refl (λ x y. refl)
-      by-room (Room.BytesShort k) = kept-decided _ tt used refl refl (λ x y. refl)
-      by-room Room.Overflow = kept-decided _ tt used refl refl (λ x y. refl)
+      by-reservation Reservation.NoSlot = kept-decided _ tt used refl refl (λ x y. refl)
+      by-reservation (Reservation.BytesShort k) = kept-decided _ tt used refl refl (λ x y. refl)
+      by-reservation Reservation.Overflow = kept-decided _ tt used refl refl (λ x y. refl)
 
-  weighed-decided : Decided c e size now room (weighedIn c i e size now room)
+  weighed-decided : Decided c e size now reservation (weighedIn c i e size now reservation)
   weighed-decided =
-      weighed-in-ways (Decided c e size now room) c i e size now room
+      weighed-in-ways (Decided c e size now reservation) c i e size now reservation
       (λ no. violated-decided Cause.MessagesShort tt (λ m b. true-is-not-false m no))
       (λ m no. violated-decided (Cause.BytesShort (takeBytes c (e .bytes) size now .missing)) tt (λ x b. true-is-not-false b no))
-      roomed-decided
+      ceilingDecides-decided
 
 -- with the entry as a call finds it
-pub decided : (c : PeerMessagePolicyConfig) (i : FiberIngressBudget) (e : PeerMessagePolicyEntry) (size now : ℕ) (room : Room)
-    → Decided c e size now room (weighedIn c i (entryUsed e now (c .«ban_duration_ms»)) size now room)
+pub decided : (c : PeerMessagePolicyConfig) (i : FiberIngressBudget) (e : PeerMessagePolicyEntry) (size now : ℕ) (reservation : Reservation)
+    → Decided c e size now reservation (weighedIn c i (entryUsed e now (c .«ban_duration_ms»)) size now reservation)
 unfolding entryUsed
-decided c i e size now room =
-    let d = weighed-decided c i (entryUsed e now (c .«ban_duration_ms»)) size now room refl in
+decided c i e size now reservation =
+    let d = weighed-decided c i (entryUsed e now (c .«ban_duration_ms»)) size now reservation refl in
     record {
       used = d .used;
       allowed = λ q.
@@ -107,9 +107,9 @@ pub record Noted (e : PeerMessagePolicyEntry) (now : ℕ) (d : InvalidDecision) 
   pub bytes : d .entry .bytes ≡ e .bytes
   pub used : d .entry .«last_used_ms» ≡ now
 
-pub judged-invalid-noted : (c : PeerMessagePolicyConfig) (e : PeerMessagePolicyEntry) (now : ℕ) → Noted e now (judgedInvalid c e now)
-unfolding judgedInvalid entryUsed entryBan
-judged-invalid-noted c e now =
+pub invalid-decision-noted : (c : PeerMessagePolicyConfig) (e : PeerMessagePolicyEntry) (now : ℕ) → Noted e now (invalidDecision c e now)
+unfolding invalidDecision entryUsed entryBan
+invalid-decision-noted c e now =
     noted-ways (Noted e now) c (entryUsed e now (c .«ban_duration_ms»)) now
     (λ t. record { messages = refl; bytes = refl; used = refl })
     (λ t. record { messages = refl; bytes = refl; used = refl })
@@ -131,23 +131,23 @@ module _ (c : PeerMessagePolicyConfig) (i j : FiberIngressBudget) (now : ℕ) wh
   violated-alike e cause =
       alike-chosen (reachesBan c (rateCounted c e now)) (record { cause = refl; entry = refl }) (record { cause = refl; entry = refl })
 
-  roomed-alike : (e : PeerMessagePolicyEntry) (size : ℕ) (room : Room)
-      → Alike (roomed i e (takeMessage c (e .messages) now .level) (takeBytes c (e .bytes) size now .level) room)
-      (roomed j e (takeMessage c (e .messages) now .level) (takeBytes c (e .bytes) size now .level) room)
-  roomed-alike e size (Room.Left after) = record { cause = refl; entry = refl }
-  roomed-alike e size Room.NoSlot = record { cause = refl; entry = refl }
-  roomed-alike e size (Room.BytesShort k) = record { cause = refl; entry = refl }
-  roomed-alike e size Room.Overflow = record { cause = refl; entry = refl }
+  ceilingDecides-alike : (e : PeerMessagePolicyEntry) (size : ℕ) (reservation : Reservation)
+      → Alike (ceilingDecides i e (takeMessage c (e .messages) now .level) (takeBytes c (e .bytes) size now .level) reservation)
+      (ceilingDecides j e (takeMessage c (e .messages) now .level) (takeBytes c (e .bytes) size now .level) reservation)
+  ceilingDecides-alike e size (Reservation.Left after) = record { cause = refl; entry = refl }
+  ceilingDecides-alike e size Reservation.NoSlot = record { cause = refl; entry = refl }
+  ceilingDecides-alike e size (Reservation.BytesShort k) = record { cause = refl; entry = refl }
+  ceilingDecides-alike e size Reservation.Overflow = record { cause = refl; entry = refl }
 
-  weighed-alike : (e : PeerMessagePolicyEntry) (size : ℕ) (room : Room) → Alike (weighedIn c i e size now room) (weighedIn c j e size now room)
-  weighed-alike e size room =
+  weighed-alike : (e : PeerMessagePolicyEntry) (size : ℕ) (reservation : Reservation) → Alike (weighedIn c i e size now reservation) (weighedIn c j e size now reservation)
+  weighed-alike e size reservation =
       alike-chosen (takeMessage c (e .messages) now .passes)
-      (alike-chosen (takeBytes c (e .bytes) size now .passes) (roomed-alike e size room)
+      (alike-chosen (takeBytes c (e .bytes) size now .passes) (ceilingDecides-alike e size reservation)
       (violated-alike e (Cause.BytesShort (takeBytes c (e .bytes) size now .missing))))
       (violated-alike e Cause.MessagesShort)
 
   -- admit's decision is that in the room which its load leaves, whatever load is carried
-  pub judged-alike : (e : PeerMessagePolicyEntry) (size : ℕ)
-      → Alike (judged c i e size now) (weighedIn c j (entryUsed e now (c .«ban_duration_ms»)) size now (tryReserve c i size))
-  unfolding judged weighed
-  judged-alike e size = weighed-alike (entryUsed e now (c .«ban_duration_ms»)) size (tryReserve c i size)
+  pub decision-alike : (e : PeerMessagePolicyEntry) (size : ℕ)
+      → Alike (decision c i e size now) (weighedIn c j (entryUsed e now (c .«ban_duration_ms»)) size now (tryReserve c i size))
+  unfolding decision weighed
+  decision-alike e size = weighed-alike (entryUsed e now (c .«ban_duration_ms»)) size (tryReserve c i size)

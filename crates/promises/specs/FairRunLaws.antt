@@ -9,8 +9,8 @@ use native.Mathlib.Omega.{arith}
 use Rattle.pubkey.specs.declared.Pubkey.{Pubkey}
 use Rattle.refusal.specs.Refusal.{Said, gives, refused}
 use Rattle.peer_settings.specs.declared.config.PeerMessagePolicyConfig.{PeerMessagePolicyConfig}
-use Rattle.peer_state.specs.declared.ingress.Room.{Room}
-use Rattle.peer_state.specs.declared.ingress.Room.the-variants as Room
+use Rattle.peer_state.specs.declared.ingress.Reservation.{Reservation}
+use Rattle.peer_state.specs.declared.ingress.Reservation.the-variants as Reservation
 use Rattle.peer_settings.specs.Fits.{ConfigFits}
 use Rattle.peer_state.specs.Ingress.{tryReserve}
 use Rattle.peer_rows.specs.Rows.{Peers}
@@ -122,11 +122,11 @@ module _ {c : PeerMessagePolicyConfig} (fits : ConfigFits c) {h : List Call} {s 
 -- ════ No ban ════
 
 -- the ceiling bans nobody
-ceiling-never-bans : {said : Said} (r : Room) → said ≡ ceilingSays r → said ≡ ban → ⊥
-ceiling-never-bans (Room.Left after) h banned = let z : _≡_ {A = ℕ} 0 2 = cc in omega arith
-ceiling-never-bans Room.NoSlot h banned = let z : _≡_ {A = ℕ} 1 2 = cc in omega arith
-ceiling-never-bans (Room.BytesShort n) h banned = let z : _≡_ {A = ℕ} 1 2 = cc in omega arith
-ceiling-never-bans Room.Overflow h banned = let z : _≡_ {A = ℕ} 0 1 = cc in omega arith
+ceiling-never-bans : {said : Said} (r : Reservation) → said ≡ ceilingSays r → said ≡ ban → ⊥
+ceiling-never-bans (Reservation.Left after) h banned = let z : _≡_ {A = ℕ} 0 2 = cc in omega arith
+ceiling-never-bans Reservation.NoSlot h banned = let z : _≡_ {A = ℕ} 1 2 = cc in omega arith
+ceiling-never-bans (Reservation.BytesShort n) h banned = let z : _≡_ {A = ℕ} 1 2 = cc in omega arith
+ceiling-never-bans Reservation.Overflow h banned = let z : _≡_ {A = ℕ} 0 1 = cc in omega arith
 
 -- so a call within the smaller allowance is never answered Ban: it begins no ban
 module _ {c : PeerMessagePolicyConfig} (fits : ConfigFits c) {h : List Call} {s : State} (run : Run c h s) (k : Pubkey) (size now : ℕ) (entitled : Entitled run k size now) (said : Said) (t : State) (step : Step s (admit k size now) said t) where

@@ -13,8 +13,8 @@ use Rattle.bucket_terms.specs.Limit.{byteDisabled}
 use Rattle.table.specs.Table.{look, byOrder}
 use Rattle.peer_settings.specs.declared.config.PeerMessagePolicyConfig.{PeerMessagePolicyConfig}
 use Rattle.peer_state.specs.declared.entry.PeerMessagePolicyEntry.{PeerMessagePolicyEntry}
-use Rattle.peer_state.specs.declared.ingress.Room.{Room}
-use Rattle.peer_state.specs.declared.ingress.Room.the-variants as Room
+use Rattle.peer_state.specs.declared.ingress.Reservation.{Reservation}
+use Rattle.peer_state.specs.declared.ingress.Reservation.the-variants as Reservation
 use Rattle.peer_settings.specs.Config.{messageLimitDisabled, bytesOf}
 use Rattle.peer_state.specs.Entry.{entryIsSpent}
 use Rattle.peer_message_policy.specs.Calls.{isAllow, allow, disconnect}
@@ -34,7 +34,7 @@ pub data Part : Type 0 where
   neither : Part
 
 abbrev pub partOf : Pubkey → CoreCall → Part
-partOf k (admit peer size now room) = cond (sameKey k peer) (message size now) neither
+partOf k (admit peer size now reservation) = cond (sameKey k peer) (message size now) neither
 partOf k (recordInvalid peer now) = cond (sameKey k peer) (invalid now) neither
 partOf k (isBanned peer now) = neither
 partOf k (onDisconnected peer now) = neither
@@ -141,8 +141,8 @@ Within c now size log =
     × FromEvery c now 0 0 (record { time = now; size = size } ∷ log)
 
 -- what the ceiling says: Allow where there is room, Disconnect where there is none, refusal 4 where the numbers have no room
-abbrev pub ceilingSays : Room → Said
-ceilingSays (Room.Left after) = allow
-ceilingSays Room.NoSlot = disconnect
-ceilingSays (Room.BytesShort k) = disconnect
-ceilingSays Room.Overflow = refused overflow
+abbrev pub ceilingSays : Reservation → Said
+ceilingSays (Reservation.Left after) = allow
+ceilingSays Reservation.NoSlot = disconnect
+ceilingSays (Reservation.BytesShort k) = disconnect
+ceilingSays Reservation.Overflow = refused overflow

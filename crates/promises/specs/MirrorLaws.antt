@@ -10,7 +10,7 @@ use Rattle.pubkey.specs.declared.Pubkey.{Pubkey}
 use Rattle.refusal.specs.Refusal.{Said, gives, refused}
 use Rattle.table.specs.Table.{look}
 use Rattle.peer_settings.specs.declared.config.PeerMessagePolicyConfig.{PeerMessagePolicyConfig}
-use Rattle.peer_state.specs.declared.ingress.Room.{Room}
+use Rattle.peer_state.specs.declared.ingress.Reservation.{Reservation}
 use Rattle.peer_settings.specs.Fits.{ConfigFits}
 use Rattle.peer_rows.specs.Rows.{Peers}
 use Rattle.peer_message_policy.specs.Policy
@@ -78,12 +78,12 @@ module _ {c : PeerMessagePolicyConfig} (fits : ConfigFits c) (k : Pubkey) (es : 
 
   -- a call within the smaller allowance gets the ceiling's answer
   pub trail-least : (rs : Peers) → rowsAt es ≡ rs → (size now : ℕ) → size < 2 ^ 64 → lastUsed (look (k .bytes) rs) ≤ now
-      → Policy.isBanned (look (k .bytes) rs) now ≡ false → Within c now size (logFor (look (k .bytes) rs) now (logIn k es)) → (room : Room)
-      → saysIn c (admit k size now room) rs ≡ ceilingSays room
-  trail-least rs leads size now size-fits used free within room =
+      → Policy.isBanned (look (k .bytes) rs) now ≡ false → Within c now size (logFor (look (k .bytes) rs) now (logIn k es)) → (reservation : Reservation)
+      → saysIn c (admit k size now reservation) rs ≡ ceilingSays reservation
+  trail-least rs leads size now size-fits used free within reservation =
       let here : rs ≡ after c (callsOf es) = sym leads ∙ ap rowsAt core ∙ trail-rows c (callsOf es) in
       rw here (CoreLaws.least fits k (callsOf es) sized core-shielded size now size-fits (rw here at used) (rw here at free)
-      (subst (λ log. Within c now size (logFor (look (k .bytes) (after c (callsOf es))) now log)) (ap (logIn k) core) (rw here at within)) room)
+      (subst (λ log. Within c now size (logFor (look (k .bytes) (after c (callsOf es))) now log)) (ap (logIn k) core) (rw here at within)) reservation)
 
 -- where times never go back every peer is shielded, and no entry was last used after the newest call
 module _ (c : PeerMessagePolicyConfig) (k : Pubkey) (es : List Event) (core : es ≡ trailOf c (callsOf es)) (timely : Timely (callsOf es)) where

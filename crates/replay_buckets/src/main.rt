@@ -23,7 +23,7 @@ struct Buckets {
 }
 
 // The buckets after a record, and whether to go on.
-struct Turn {
+struct Progress {
     buckets: Buckets,
     more: bool,
 }
@@ -36,33 +36,33 @@ fn main() {
     };
     let mut turns = u64::MAX;
     while turns > 0 {
-        let turn = answer_next(buckets);
-        if !turn.more {
+        let progress = answer_next(buckets);
+        if !progress.more {
             return;
         }
-        buckets = turn.buckets;
+        buckets = progress.buckets;
         turns -= 1;
     }
 }
 
-fn answer_next(buckets: Buckets) -> Turn {
+fn answer_next(buckets: Buckets) -> Progress {
     match program::next_record() {
         Next::Whole(r) => answer(buckets, r),
         Next::Cut => {
             program::print_cut();
-            Turn {
+            Progress {
                 buckets,
                 more: false,
             }
         }
-        Next::End => Turn {
+        Next::End => Progress {
             buckets,
             more: false,
         },
     }
 }
 
-fn answer(buckets: Buckets, r: Record) -> Turn {
+fn answer(buckets: Buckets, r: Record) -> Progress {
     let operation = r.operation;
     let discrete = buckets.discrete;
     let bytes = buckets.bytes;
@@ -71,7 +71,7 @@ fn answer(buckets: Buckets, r: Record) -> Turn {
             let step = discrete_steps::step(discrete, r);
             let after = step.bucket;
             let line = step.line;
-            Turn {
+            Progress {
                 buckets: Buckets {
                     discrete: after,
                     bytes,
@@ -83,7 +83,7 @@ fn answer(buckets: Buckets, r: Record) -> Turn {
             let step = byte_steps::step(bytes, r);
             let after = step.bucket;
             let line = step.line;
-            Turn {
+            Progress {
                 buckets: Buckets {
                     discrete,
                     bytes: after,
@@ -91,7 +91,7 @@ fn answer(buckets: Buckets, r: Record) -> Turn {
                 more: program::print(byte_steps::with_bucket(line, after)),
             }
         }
-        _ => Turn {
+        _ => Progress {
             buckets,
             more: program::print(Line::empty().text(b"unknown operation").then(operation)),
         },

@@ -2,7 +2,7 @@
 // bytes, the time and the side.
 use crate::checksum;
 use crate::held::Held;
-use crate::held::Step;
+use crate::held::Answer;
 use c_bans::bans::uglezmir_bans;
 use c_gossip::gossip::uglezmir_gossip;
 use c_limiter::limiter::uglezmir_limiter;
@@ -17,7 +17,7 @@ struct Called {
     value: u64,
 }
 
-pub(crate) fn answered(held: Held, first: &mut [u8], second: &mut [u8], r: Record) -> Step {
+pub(crate) fn answered(held: Held, first: &mut [u8], second: &mut [u8], r: Record) -> Answer {
     let subject = r.first;
     match subject {
         0 => told(bans(held, first, r), first, second),
@@ -27,7 +27,7 @@ pub(crate) fn answered(held: Held, first: &mut [u8], second: &mut [u8], r: Recor
     }
 }
 
-fn told(called: Called, first: &[u8], second: &[u8]) -> Step {
+fn told(called: Called, first: &[u8], second: &[u8]) -> Answer {
     let held = called.held;
     let longs = held.longs;
     let line = Line::empty()
@@ -36,7 +36,7 @@ fn told(called: Called, first: &[u8], second: &[u8]) -> Step {
         .then(longs[2])
         .then(longs[8])
         .then(checksum::of(held, first, second));
-    Step { held, line }
+    Answer { held, line }
 }
 
 fn bans(held: Held, table: &mut [u8], r: Record) -> Called {

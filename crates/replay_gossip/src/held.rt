@@ -17,7 +17,7 @@ pub struct Held {
 }
 
 // What is held after a record, and the line that answers it.
-pub struct Step {
+pub struct Answer {
     pub held: Held,
     pub line: Line,
 }
@@ -35,8 +35,8 @@ impl Held {
         }
     }
 
-    pub(crate) fn says(self, text: &[u8]) -> Step {
-        Step {
+    pub(crate) fn says(self, text: &[u8]) -> Answer {
+        Answer {
             held: self,
             line: Line::empty().text(text),
         }

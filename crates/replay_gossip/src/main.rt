@@ -9,13 +9,13 @@ mod memory;
 mod rows;
 
 use held::Held;
-use held::Step;
+use held::Answer;
 use replay::program;
 use replay::program::Next;
 use replay::record::Record;
 
 // What is held after a record, and whether to go on.
-struct Turn {
+struct Progress {
     held: Held,
     more: bool,
 }
@@ -31,36 +31,36 @@ fn run(first: &mut [u8], second: &mut [u8]) {
     let mut held = Held::lending(0, 0);
     let mut turns = u64::MAX;
     while turns > 0 {
-        let turn = answer_next(held, first, second);
-        if !turn.more {
+        let progress = answer_next(held, first, second);
+        if !progress.more {
             return;
         }
-        held = turn.held;
+        held = progress.held;
         turns -= 1;
     }
 }
 
-fn answer_next(held: Held, first: &mut [u8], second: &mut [u8]) -> Turn {
+fn answer_next(held: Held, first: &mut [u8], second: &mut [u8]) -> Progress {
     match program::next_record() {
         Next::Whole(r) => printed(stepped(held, first, second, r)),
         Next::Cut => {
             program::print_cut();
-            Turn { held, more: false }
+            Progress { held, more: false }
         }
-        Next::End => Turn { held, more: false },
+        Next::End => Progress { held, more: false },
     }
 }
 
-fn printed(step: Step) -> Turn {
-    let held = step.held;
-    let line = step.line;
-    Turn {
+fn printed(answer: Answer) -> Progress {
+    let held = answer.held;
+    let line = answer.line;
+    Progress {
         held,
         more: program::print(line),
     }
 }
 
-fn stepped(held: Held, first: &mut [u8], second: &mut [u8], r: Record) -> Step {
+fn stepped(held: Held, first: &mut [u8], second: &mut [u8], r: Record) -> Answer {
     let operation = r.operation;
     match operation {
         0 => memory::lend(first, second, r),

@@ -1,20 +1,20 @@
 // The records that reach into the two memories: 0 fills and lends them, 5 makes a call over what is lent, 6 writes a word, 7 writes rows.
 use crate::calls;
 use crate::held::Held;
-use crate::held::Step;
+use crate::held::Answer;
 use crate::rows;
 use replay::checksum::fill;
 use replay::memory::put_word;
 use replay::record::Record;
 
 // One stream of made-up bytes fills both.
-pub(crate) fn lend(first: &mut [u8], second: &mut [u8], r: Record) -> Step {
+pub(crate) fn lend(first: &mut [u8], second: &mut [u8], r: Record) -> Answer {
     let rest = fill(first, r.first);
     fill(second, rest);
     Held::lending(r.second as usize, r.third as usize).says(b"-")
 }
 
-pub(crate) fn call(held: Held, first: &mut [u8], second: &mut [u8], r: Record) -> Step {
+pub(crate) fn call(held: Held, first: &mut [u8], second: &mut [u8], r: Record) -> Answer {
     let first_lent = held.first_lent;
     let second_lent = held.second_lent;
     if first_lent > first.len() {
@@ -31,7 +31,7 @@ pub(crate) fn call(held: Held, first: &mut [u8], second: &mut [u8], r: Record) -
     )
 }
 
-pub(crate) fn write(held: Held, first: &mut [u8], second: &mut [u8], r: Record) -> Step {
+pub(crate) fn write(held: Held, first: &mut [u8], second: &mut [u8], r: Record) -> Answer {
     let memory = r.first;
     let at = r.second as usize;
     match memory {
@@ -41,7 +41,7 @@ pub(crate) fn write(held: Held, first: &mut [u8], second: &mut [u8], r: Record) 
     }
 }
 
-pub(crate) fn fill_rows(held: Held, first: &mut [u8], second: &mut [u8], r: Record) -> Step {
+pub(crate) fn fill_rows(held: Held, first: &mut [u8], second: &mut [u8], r: Record) -> Answer {
     let memory = r.first;
     match memory {
         0 => done(held, rows::put_rows(first, r)),
@@ -50,13 +50,13 @@ pub(crate) fn fill_rows(held: Held, first: &mut [u8], second: &mut [u8], r: Reco
     }
 }
 
-fn done(held: Held, within: bool) -> Step {
+fn done(held: Held, within: bool) -> Answer {
     if within {
         return held.says(b"-");
     }
     beyond(held)
 }
 
-fn beyond(held: Held) -> Step {
+fn beyond(held: Held) -> Answer {
     held.says(b"beyond the memory")
 }

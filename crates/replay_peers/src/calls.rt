@@ -1,7 +1,7 @@
 // The recorded calls of a policy: 2 admit (bytes, now, key), 3 record_invalid, 4 is_banned, 5 on_disconnected, 6 release_ingress
 // (bytes), 7 in_flight, 8 held_time.
 use crate::held::Held;
-use crate::held::Step;
+use crate::held::Answer;
 use peer_message_policy::answer::Changed;
 use peer_message_policy::answer::HeldTime;
 use peer_message_policy::answer::InFlight;
@@ -13,7 +13,7 @@ use replay::line::Line;
 use replay::record::Record;
 use replay::record::key_of;
 
-pub(crate) fn answered(held: Held, table: &mut [u8], r: Record) -> Step {
+pub(crate) fn answered(held: Held, table: &mut [u8], r: Record) -> Answer {
     let operation = r.operation;
     let key = Pubkey {
         bytes: key_of(r.third, r.fourth, r.fifth, r.sixth, r.seventh),
@@ -30,12 +30,12 @@ pub(crate) fn answered(held: Held, table: &mut [u8], r: Record) -> Step {
     }
 }
 
-fn admit(held: Held, table: &mut [u8], key: Pubkey, bytes: u64, now_ms: u64) -> Step {
+fn admit(held: Held, table: &mut [u8], key: Pubkey, bytes: u64, now_ms: u64) -> Answer {
     let policy = held.policy;
     admitted(held, policy.admit(table, key, bytes, now_ms))
 }
 
-fn admitted(held: Held, answer: PeerMessageAdmission) -> Step {
+fn admitted(held: Held, answer: PeerMessageAdmission) -> Answer {
     match answer {
         PeerMessageAdmission::Allow(p) => held.left(p, b"Allow"),
         PeerMessageAdmission::Disconnect(p) => held.left(p, b"Disconnect"),
@@ -44,12 +44,12 @@ fn admitted(held: Held, answer: PeerMessageAdmission) -> Step {
     }
 }
 
-fn record_invalid(held: Held, table: &mut [u8], key: Pubkey, now_ms: u64) -> Step {
+fn record_invalid(held: Held, table: &mut [u8], key: Pubkey, now_ms: u64) -> Answer {
     let policy = held.policy;
     noted(held, policy.record_invalid(table, key, now_ms))
 }
 
-fn noted(held: Held, answer: Invalid) -> Step {
+fn noted(held: Held, answer: Invalid) -> Answer {
     match answer {
         Invalid::Banned(p) => held.left(p, b"1"),
         Invalid::Noted(p) => held.left(p, b"0"),
@@ -57,12 +57,12 @@ fn noted(held: Held, answer: Invalid) -> Step {
     }
 }
 
-fn is_banned(held: Held, table: &mut [u8], key: Pubkey, now_ms: u64) -> Step {
+fn is_banned(held: Held, table: &mut [u8], key: Pubkey, now_ms: u64) -> Answer {
     let policy = held.policy;
     standing(held, policy.is_banned(table, key, now_ms))
 }
 
-fn standing(held: Held, answer: Standing) -> Step {
+fn standing(held: Held, answer: Standing) -> Answer {
     match answer {
         Standing::Banned(p) => held.left(p, b"1"),
         Standing::Free(p) => held.left(p, b"0"),
@@ -70,28 +70,28 @@ fn standing(held: Held, answer: Standing) -> Step {
     }
 }
 
-fn on_disconnected(held: Held, table: &mut [u8], key: Pubkey, now_ms: u64) -> Step {
+fn on_disconnected(held: Held, table: &mut [u8], key: Pubkey, now_ms: u64) -> Answer {
     let policy = held.policy;
     changed(held, policy.on_disconnected(table, key, now_ms))
 }
 
-fn release_ingress(held: Held, bytes: u64) -> Step {
+fn release_ingress(held: Held, bytes: u64) -> Answer {
     let policy = held.policy;
     changed(held, policy.release_ingress(bytes))
 }
 
-fn changed(held: Held, answer: Changed) -> Step {
+fn changed(held: Held, answer: Changed) -> Answer {
     match answer {
         Changed::Policy(p) => held.left(p, b"-"),
         Changed::Refused(n) => held.refused(n),
     }
 }
 
-fn in_flight(held: Held) -> Step {
+fn in_flight(held: Held) -> Answer {
     let policy = held.policy;
     let answer = policy.in_flight();
     match answer {
-        InFlight::Numbers(messages, bytes) => Step {
+        InFlight::Numbers(messages, bytes) => Answer {
             held,
             line: Line::empty().decimal(messages as u64).then(bytes),
         },
@@ -99,7 +99,7 @@ fn in_flight(held: Held) -> Step {
     }
 }
 
-fn held_time(held: Held, table: &[u8], key: Pubkey, given_ms: u64) -> Step {
+fn held_time(held: Held, table: &[u8], key: Pubkey, given_ms: u64) -> Answer {
     let policy = held.policy;
     let answer = policy.held_time(table, key, given_ms);
     match answer {

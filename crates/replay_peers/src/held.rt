@@ -10,7 +10,7 @@ pub struct Held {
 }
 
 // What is held after a record, and the beginning of the line that answers it.
-pub struct Step {
+pub struct Answer {
     pub held: Held,
     pub line: Line,
 }
@@ -25,31 +25,31 @@ impl Held {
         }
     }
 
-    pub(crate) fn says(self, text: &[u8]) -> Step {
-        Step {
+    pub(crate) fn says(self, text: &[u8]) -> Answer {
+        Answer {
             held: self,
             line: Line::empty().text(text),
         }
     }
 
-    pub(crate) fn says_number(self, n: u64) -> Step {
-        Step {
+    pub(crate) fn says_number(self, n: u64) -> Answer {
+        Answer {
             held: self,
             line: Line::empty().decimal(n),
         }
     }
 
-    pub(crate) fn refused(self, number: u32) -> Step {
-        Step {
+    pub(crate) fn refused(self, number: u32) -> Answer {
+        Answer {
             held: self,
             line: Line::empty().refusal(number),
         }
     }
 
     // The same with the policy that a call left, and what the call answered.
-    pub(crate) fn left(self, policy: PeerMessagePolicy, text: &[u8]) -> Step {
+    pub(crate) fn left(self, policy: PeerMessagePolicy, text: &[u8]) -> Answer {
         let next = self.next;
-        Step {
+        Answer {
             held: Held {
                 policy,
                 next,

@@ -7,14 +7,14 @@ mod held;
 mod memory;
 
 use held::Held;
-use held::Step;
+use held::Answer;
 use replay::line::Line;
 use replay::program;
 use replay::program::Next;
 use replay::record::Record;
 
 // What is held after a record, and whether to go on.
-struct Turn {
+struct Progress {
     held: Held,
     more: bool,
 }
@@ -29,27 +29,27 @@ fn run(table: &mut [u8]) {
     let mut held = Held::nothing();
     let mut turns = u64::MAX;
     while turns > 0 {
-        let turn = answer_next(held, table);
-        if !turn.more {
+        let progress = answer_next(held, table);
+        if !progress.more {
             return;
         }
-        held = turn.held;
+        held = progress.held;
         turns -= 1;
     }
 }
 
-fn answer_next(held: Held, table: &mut [u8]) -> Turn {
+fn answer_next(held: Held, table: &mut [u8]) -> Progress {
     match program::next_record() {
         Next::Whole(r) => finished(stepped(held, table, r), table),
         Next::Cut => {
             program::print_cut();
-            Turn { held, more: false }
+            Progress { held, more: false }
         }
-        Next::End => Turn { held, more: false },
+        Next::End => Progress { held, more: false },
     }
 }
 
-fn stepped(held: Held, table: &mut [u8], r: Record) -> Step {
+fn stepped(held: Held, table: &mut [u8], r: Record) -> Answer {
     let operation = r.operation;
     let lent = held.lent;
     if lent > table.len() {
@@ -65,20 +65,20 @@ fn stepped(held: Held, table: &mut [u8], r: Record) -> Step {
 }
 
 // Prints the line with what is held behind it.
-fn finished(step: Step, table: &[u8]) -> Turn {
-    let held = step.held;
-    let line = step.line;
+fn finished(answer: Answer, table: &[u8]) -> Progress {
+    let held = answer.held;
+    let line = answer.line;
     let policy = held.policy;
     let load = policy.ingress;
     let lent = held.lent;
     if lent > table.len() {
-        return Turn { held, more: false };
+        return Progress { held, more: false };
     }
     let whole = line.then(load.in_flight_messages as u64)
         .then(load.in_flight_bytes)
         .then(policy.rows)
         .then(checksum::of(policy, &table[..lent]));
-    Turn {
+    Progress {
         held,
         more: program::print(whole),
     }

@@ -1,7 +1,7 @@
 // The recorded steps that set the memory up: 0 the settings of the next policy, 1 makes it, 9 writes a word of the table, 10 sets the
 // numbers of the policy and how much is lent to it. They leave any memory, unsound memory too.
 use crate::held::Held;
-use crate::held::Step;
+use crate::held::Answer;
 use peer_message_policy::answer::Made;
 use peer_message_policy::policy::PeerMessagePolicy;
 use peer_settings::config::PeerMessagePolicyConfig;
@@ -12,16 +12,16 @@ use replay::record::Record;
 
 const MOST_SHORT: u64 = 0xffff_ffff;
 
-fn too_wide(held: Held) -> Step {
+fn too_wide(held: Held) -> Answer {
     held.says(b"more than 32 bits")
 }
 
-fn beyond(held: Held) -> Step {
+fn beyond(held: Held) -> Answer {
     held.says(b"beyond the table")
 }
 
 // All but the ceiling.
-pub(crate) fn settings(held: Held, r: Record) -> Step {
+pub(crate) fn settings(held: Held, r: Record) -> Answer {
     let burst = r.second;
     let threshold = r.fifth;
     if burst > MOST_SHORT {
@@ -64,7 +64,7 @@ fn with_ceiling(c: PeerMessagePolicyConfig, messages: u32, bytes: u64) -> PeerMe
 }
 
 // The ceiling's messages and bytes, how much of the table is lent, and the seed of what it holds before.
-pub(crate) fn make(held: Held, table: &mut [u8], r: Record) -> Step {
+pub(crate) fn make(held: Held, table: &mut [u8], r: Record) -> Answer {
     let messages = r.first;
     let lent = r.third as usize;
     if messages > MOST_SHORT {
@@ -88,14 +88,14 @@ pub(crate) fn make(held: Held, table: &mut [u8], r: Record) -> Step {
     )
 }
 
-fn made(held: Held, answer: Made) -> Step {
+fn made(held: Held, answer: Made) -> Answer {
     match answer {
         Made::Policy(p) => held.left(p, b"-"),
         Made::Refused(n) => held.refused(n),
     }
 }
 
-pub(crate) fn write(held: Held, table: &mut [u8], r: Record) -> Step {
+pub(crate) fn write(held: Held, table: &mut [u8], r: Record) -> Answer {
     if put_word(table, r.first as usize, r.second) {
         return held.says(b"-");
     }
@@ -103,7 +103,7 @@ pub(crate) fn write(held: Held, table: &mut [u8], r: Record) -> Step {
 }
 
 // Messages and bytes in flight, rows, tracked peers, bytes lent.
-pub(crate) fn set(held: Held, r: Record) -> Step {
+pub(crate) fn set(held: Held, r: Record) -> Answer {
     let messages = r.first;
     if messages > MOST_SHORT {
         return too_wide(held);

@@ -5,7 +5,7 @@ ghost use Prim.Native.Nat.{_<_};
 ghost use lib.ListN.{length};
 ghost use Rattle.snapshot_text.specs.Shown.{longestSnapshot};
 use snapshot_text::line::LINE_SIZE;
-use snapshot_text::line::Line;
+use snapshot_text::line::ShownLine;
 use snapshot_text::scan::next;
 use snapshot_text::scan::open;
 use standard::Input;
@@ -54,7 +54,7 @@ fn write_lines(input: &[u8], table: &mut [u8]) -> bool {
 }
 
 // A line that is handed out is never longer than its bytes.
-fn write_line(line: Line) -> bool {
+fn write_line(line: ShownLine) -> bool {
     let bytes = line.bytes;
     let length = line.length;
     if length > LINE_SIZE {

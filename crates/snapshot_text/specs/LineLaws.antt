@@ -11,7 +11,7 @@ use Rattle.peer_rows.specs.Rows.{entryWords}
 use Rattle.peer_rows.specs.RowsLaws.{length-entryWords}
 use Rattle.text_pieces.specs.Text.{columnText, columnsText, hexText, Wrote}
 use Rattle.text_pieces.specs.TextLaws.{few-digits, length-column, columns-fit, length-hex, byte-over, line-over}
-use Rattle.snapshot_text.specs.declared.line.Line.{Line}
+use Rattle.snapshot_text.specs.declared.line.ShownLine.{ShownLine}
 use Rattle.snapshot_text.specs.Shown.{fieldText, rowText, lineOf}
 use Rattle.snapshot_text.specs.Scan.{textOf}
 
@@ -21,12 +21,12 @@ text-of-line text = take-append-seam text (zeros (300 - length text))
 
 -- what was written at the front of 300 zeros is the line
 pub line-is : {text bytes : List ℕ} {place : ℕ} → Wrote (zeros 300) 0 text place bytes → length text ≤ 300
-    → _≡_ {A = Line} (record { bytes = bytes; length = place }) (lineOf text)
+    → _≡_ {A = ShownLine} (record { bytes = bytes; length = place }) (lineOf text)
 line-is w h = let l = line-over 300 w h in (λ i. record { bytes = l .0 i; length = l .1 i })
 
 -- and so with a newline behind it
 pub line-ends : {text bytes : List ℕ} {place : ℕ} → Wrote (zeros 300) 0 text place bytes → length text + 1 ≤ 300
-    → _≡_ {A = Line} (record { bytes = set bytes place 10; length = place + 1 }) (lineOf (text ++ (10 ∷ [])))
+    → _≡_ {A = ShownLine} (record { bytes = set bytes place 10; length = place + 1 }) (lineOf (text ++ (10 ∷ [])))
 line-ends {text} w h = line-is (byte-over 300 w 10 h) (omega (arith, length-append text (10 ∷ [])))
 
 -- a named number takes 52 places

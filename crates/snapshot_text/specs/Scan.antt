@@ -14,7 +14,7 @@ use Rattle.snapshot.specs.Snapshot.{ReadMeets}
 use Rattle.snapshot_reader.specs.declared.row.RowStep.{RowStep}
 use Rattle.snapshot_reader.specs.Reader.{given, stepAt}
 use Rattle.text_pieces.specs.Text.{refusalText}
-use Rattle.snapshot_text.specs.declared.line.Line.{Line}
+use Rattle.snapshot_text.specs.declared.line.ShownLine.{ShownLine}
 use Rattle.snapshot_text.specs.declared.scan.Scan.{Scan}
 use Rattle.snapshot_text.specs.declared.scan.Handed.{Handed}
 use Rattle.snapshot_text.specs.Shown.{lineOf, fieldLine, headText, rowText, longestSnapshot}
@@ -36,7 +36,7 @@ OpenMeets z before r after = OpenBy (ltb longestSnapshot (length z)) z before r 
 -- ════ Next ════
 
 -- a line before the rows, and the scan behind it
-abbrev pub following : Made → ℕ → ℕ → Line → Handed
+abbrev pub following : Made → ℕ → ℕ → ShownLine → Handed
 following made line at text = record { done = false; line = text; scan = record { made = made; line = line + 1; at = at } }
 
 -- no line, and the scan as it was
@@ -84,7 +84,7 @@ nextOf scan z = nextBy (scan .made) scan z
 -- ════ What a caller of `next` gets ════
 
 -- the text of a line
-abbrev pub textOf : Line → List ℕ
+abbrev pub textOf : ShownLine → List ℕ
 textOf line = take (line .length) (line .bytes)
 
 -- the line's text; where it is done, that is empty

@@ -18,7 +18,7 @@ use Rattle.peer_message_policy.specs.Policy.{rowsOf}
 use Rattle.snapshot.specs.Form.{first, rowsPlace}
 use Rattle.snapshot.specs.Snapshot.{policyIn}
 use Rattle.text_pieces.specs.Text.{blanks, columnText, columnsText, hexText, refusalText}
-use Rattle.snapshot_text.specs.declared.line.Line.{Line}
+use Rattle.snapshot_text.specs.declared.line.ShownLine.{ShownLine}
 use Rattle.snapshot_text.specs.Words.{
   intervalName,
   burstName,
@@ -148,5 +148,5 @@ shownText z = flatten (shownLines z)
 -- ════ Lines ════
 
 -- a text as a line of 300 bytes, the unused ones zero
-abbrev pub lineOf : List ℕ → Line
+abbrev pub lineOf : List ℕ → ShownLine
 lineOf text = record { bytes = text ++ zeros (300 - length text); length = length text }

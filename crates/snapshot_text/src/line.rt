@@ -16,7 +16,7 @@ use text_pieces::piece::put_text;
 pub const LINE_SIZE: usize = 300;
 
 // A line with its newline; the bytes behind its length are zero.
-pub struct Line {
+pub struct ShownLine {
     pub bytes: [u8; LINE_SIZE],
     pub length: usize,
 }
@@ -27,19 +27,19 @@ const NUMBERS_END: usize = 51;
 const ROW_COLUMN: usize = 13;
 
 // `refusal N`
-pub(crate) fn refusal_line(number: u32) -> Line
+pub(crate) fn refusal_line(number: u32) -> ShownLine
     ensures { λ r. ⌜ r ≡ lineOf (refusalText number) ⌝ }
 {
     let mut out = [0u8; LINE_SIZE];
     let end = put_refusal(&mut out, number as u64);
-    Line {
+    ShownLine {
         bytes: out,
         length: end,
     }
 }
 
 // A name, and its number so that all such lines end alike.
-fn field_line(name: &[u8], number: u64) -> Line
+fn field_line(name: &[u8], number: u64) -> ShownLine
     requires { ⌜ length (now name) ≤ 31 ⌝ }
     ensures { λ r. ⌜ r ≡ lineOf (fieldText (now (name .entry)) number) ⌝ }
 {
@@ -48,14 +48,14 @@ fn field_line(name: &[u8], number: u64) -> Line
     let width = NUMBERS_END - name.len();
     let after_number = put_column(&mut out, after_name, width, number);
     out[after_number] = b'\n';
-    Line {
+    ShownLine {
         bytes: out,
         length: after_number + 1,
     }
 }
 
 // The named number at this index: nine settings in their order, the load in flight, the rows.
-pub(crate) fn number_line(policy: PeerMessagePolicy, index: usize) -> Line
+pub(crate) fn number_line(policy: PeerMessagePolicy, index: usize) -> ShownLine
     requires { ⌜ index < 12 ⌝ }
     ensures { λ r. ⌜ r ≡ lineOf (fieldLine policy index) ⌝ }
 {
@@ -87,7 +87,7 @@ pub(crate) fn number_line(policy: PeerMessagePolicy, index: usize) -> Line
 }
 
 // The heads of the rows' columns.
-pub(crate) fn head_line() -> Line
+pub(crate) fn head_line() -> ShownLine
     ensures { λ r. ⌜ r ≡ lineOf headText ⌝ }
 {
     let mut out = [0u8; LINE_SIZE];
@@ -96,14 +96,14 @@ pub(crate) fn head_line() -> Line
         0,
         b"key                                                                     messages      refilled         bytes      refilled       limited         since       invalid         since           ban         until     last_used\n",
     );
-    Line {
+    ShownLine {
         bytes: out,
         length: end,
     }
 }
 
 // A row: its key, and its eleven numbers.
-pub(crate) fn row_line(row: SnapshotRow) -> Line
+pub(crate) fn row_line(row: SnapshotRow) -> ShownLine
     ensures { λ r. ⌜ r ≡ lineOf (rowText (row .key .bytes) (row .entry)) ⌝ }
 {
     let mut out = [0u8; LINE_SIZE];
@@ -114,7 +114,7 @@ pub(crate) fn row_line(row: SnapshotRow) -> Line
     let numbers = peer_rows::row::words_of(entry);
     let after_numbers = put_columns(&mut out, after_key, ROW_COLUMN, &numbers);
     out[after_numbers] = b'\n';
-    Line {
+    ShownLine {
         bytes: out,
         length: after_numbers + 1,
     }

@@ -3,7 +3,7 @@ ghost use mathlib.Core.Path.{_≡_};
 ghost use Prim.Native.Nat.{_≤_};
 ghost use Rattle.snapshot_text.specs.Scan.{begun, following, rowHanded, ended, refusedNext, policyNext, nextOf, OpenMeets};
 use super::line::LINE_SIZE;
-use super::line::Line;
+use super::line::ShownLine;
 use super::line::head_line;
 use super::line::number_line;
 use super::line::refusal_line;
@@ -31,7 +31,7 @@ pub struct Scan {
 // One line to write and the scan behind it; or, where it is done, an empty line and the scan as it was.
 pub struct Handed {
     pub done: bool,
-    pub line: Line,
+    pub line: ShownLine,
     pub scan: Scan,
 }
 
@@ -58,7 +58,7 @@ pub fn open(input: &[u8], table: &mut [u8]) -> Scan
 }
 
 // A line before the rows, and the scan behind it.
-fn following(made: Made, line: usize, at: usize, text: Line) -> Handed
+fn following(made: Made, line: usize, at: usize, text: ShownLine) -> Handed
     requires { ⌜ line ≤ 12 ⌝ }
     ensures { λ r. ⌜ r ≡ following made line at text ⌝ }
 {
@@ -79,7 +79,7 @@ fn ended(scan: Scan) -> Handed
 {
     Handed {
         done: true,
-        line: Line {
+        line: ShownLine {
             bytes: [0u8; LINE_SIZE],
             length: 0,
         },

@@ -6,6 +6,6 @@ use Rattle.standard.specs.declared.Input.{Input}
 use Rattle.standard.specs.declared.Input.the-variants as Input
 
 -- as many bytes as were read stand at the start of the buffer
-abbrev pub Within : Input → List ℕ → Type 0
-Within (Input.Bytes n) buffer = Counts n buffer
-Within Input.Failed buffer = Unit {0}
+abbrev pub ReadInto : Input → List ℕ → Type 0
+ReadInto (Input.Bytes n) buffer = Counts n buffer
+ReadInto Input.Failed buffer = Unit {0}

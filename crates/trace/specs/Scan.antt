@@ -12,7 +12,7 @@ use Rattle.peer_message_policy.specs.declared.policy.PeerMessagePolicy.{PeerMes
 use Rattle.peer_message_policy.specs.declared.answer.Made.{Made}
 use Rattle.peer_message_policy.specs.declared.answer.Made.the-variants as Made
 use Rattle.peer_message_policy.specs.Calls.{Outcome, Meets, refuse, fresh, newOutcome}
-use Rattle.trace_lines.specs.declared.line.Line.{Line}
+use Rattle.trace_lines.specs.declared.line.TraceLine.{TraceLine}
 use Rattle.trace_lines.specs.declared.settings.Settings.{Settings}
 use Rattle.trace_lines.specs.declared.settings.Settings.the-variants as Settings
 use Rattle.trace_lines.specs.Lines.{largest64, settingsOf, eventOf, lineOf, badLineText, refusalText}
@@ -53,7 +53,7 @@ following number = cond (eqb number largest64) number (number + 1)
 -- ════ What a call hands out ════
 
 -- a line behind which nothing more is read
-abbrev pub last : Scan → Line → Handed
+abbrev pub last : Scan → TraceLine → Handed
 last scan line = record { done = false; line = line; scan = record { at = scan .at; number = scan .number; policy = scan .policy; phase = Phase.Done } }
 
 -- no line, and the scan as it was
@@ -159,7 +159,7 @@ lineEndSays (LineEnd.At i) = gives (i ∷ [])
 lineEndSays LineEnd.Missing = gives []
 
 -- the text of a line
-abbrev pub textOf : Line → List ℕ
+abbrev pub textOf : TraceLine → List ℕ
 textOf line = take (line .length) (line .bytes)
 
 -- the line's text; where it is done, that is empty

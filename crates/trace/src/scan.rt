@@ -10,7 +10,7 @@ use super::step::step;
 use peer_message_policy::policy::PeerMessagePolicy;
 use peer_settings::config::PeerMessagePolicyConfig;
 use trace_lines::event::parse_event;
-use trace_lines::line::Line;
+use trace_lines::line::TraceLine;
 use trace_lines::line::bad_line;
 use trace_lines::line::refusal_line;
 
@@ -38,7 +38,7 @@ pub struct Scan {
 // One line to write and the scan behind it; or, where it is done, an empty line and the scan as it was. An enum can't hold a line.
 pub struct Handed {
     pub done: bool,
-    pub line: Line,
+    pub line: TraceLine,
     pub scan: Scan,
 }
 
@@ -53,7 +53,7 @@ fn following(number: u64) -> u64
 }
 
 // A line behind which nothing more is read.
-fn last(scan: Scan, line: Line) -> Handed
+fn last(scan: Scan, line: TraceLine) -> Handed
     ensures { λ r. ⌜ r ≡ last scan line ⌝ }
 {
     let policy = scan.policy;
@@ -74,7 +74,7 @@ fn ended(scan: Scan) -> Handed
 {
     Handed {
         done: true,
-        line: Line {
+        line: TraceLine {
             bytes: [0u8; 64],
             length: 0,
         },

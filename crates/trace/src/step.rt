@@ -8,7 +8,7 @@ use peer_message_policy::answer::Standing;
 use peer_message_policy::policy::PeerMessagePolicy;
 use trace_lines::event::Event;
 use trace_lines::event::EventKind;
-use trace_lines::line::Line;
+use trace_lines::line::TraceLine;
 use trace_lines::line::Word;
 use trace_lines::line::answer_line;
 use trace_lines::line::bad_line;
@@ -24,7 +24,7 @@ pub enum Answered {
 // The policy after an event, the line to write, and whether the trace goes on behind it.
 pub struct Stepped {
     pub policy: PeerMessagePolicy,
-    pub line: Line,
+    pub line: TraceLine,
     pub goes_on: bool,
 }
 

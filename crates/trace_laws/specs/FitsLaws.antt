@@ -12,8 +12,8 @@ use Rattle.peer_settings.specs.declared.config.PeerMessagePolicyConfig.{PeerMes
 use Rattle.peer_state.specs.declared.entry.PeerMessagePolicyEntry.{PeerMessagePolicyEntry}
 use Rattle.peer_state.specs.declared.entry.Level.{Level}
 use Rattle.peer_state.specs.declared.ingress.FiberIngressBudget.{FiberIngressBudget}
-use Rattle.peer_state.specs.declared.ingress.Room.{Room}
-use Rattle.peer_state.specs.declared.ingress.Room.the-variants as Room
+use Rattle.peer_state.specs.declared.ingress.Reservation.{Reservation}
+use Rattle.peer_state.specs.declared.ingress.Reservation.the-variants as Reservation
 use Rattle.peer_verdict.specs.declared.verdict.Cause.{Cause}
 use Rattle.peer_verdict.specs.declared.verdict.Cause.the-variants as Cause
 use Rattle.peer_verdict.specs.declared.verdict.InvalidCause.{InvalidCause}
@@ -24,7 +24,7 @@ use Rattle.peer_settings.specs.Fits.{ConfigFits}
 use Rattle.peer_state.specs.Entry.{entryUsed}
 use Rattle.peer_state.specs.EntryLaws.{chosen}
 use Rattle.peer_state.specs.Ingress.{tryReserve}
-use Rattle.peer_verdict.specs.Verdict.{roomed, takeMessage, takeBytes, judged, judgedInvalid}
+use Rattle.peer_verdict.specs.Verdict.{ceilingDecides, takeMessage, takeBytes, decision, invalidDecision}
 use Rattle.peer_verdict.specs.VerdictLaws.{violated-ways, weighed-ways}
 use Rattle.peer_rows.specs.Rows.{Peers}
 use Rattle.peer_message_policy.specs.declared.policy.PeerMessagePolicy.{PeerMessagePolicy}
@@ -86,11 +86,11 @@ settings-fit line =
 -- ════ The load in flight ════
 
 module _ (c : PeerMessagePolicyConfig) (config : ConfigFits c) (i : FiberIngressBudget) (load : LoadFits i) where
-  abbrev RoomFits : Room → Type 0
-  RoomFits (Room.Left after) = LoadFits after
-  RoomFits Room.NoSlot = Unit {0}
-  RoomFits (Room.BytesShort k) = Unit {0}
-  RoomFits Room.Overflow = Unit {0}
+  abbrev RoomFits : Reservation → Type 0
+  RoomFits (Reservation.Left after) = LoadFits after
+  RoomFits Reservation.NoSlot = Unit {0}
+  RoomFits (Reservation.BytesShort k) = Unit {0}
+  RoomFits Reservation.Overflow = Unit {0}
 
   -- where there is room for a message, there is room in the numbers
   room-fits : (size : ℕ) → RoomFits (tryReserve c i size)
@@ -119,38 +119,38 @@ module _ (c : PeerMessagePolicyConfig) (config : ConfigFits c) (i : FiberIngress
   abbrev DecisionFits : Decision → Type 0
   DecisionFits d = LoadFits (d .ingress)
 
-  roomed-fits : (e : PeerMessagePolicyEntry) (m b : Level) (room : Room) → RoomFits room → DecisionFits (roomed i e m b room)
-  roomed-fits e m b (Room.Left after) h = h
-  roomed-fits e m b Room.NoSlot h = load
-  roomed-fits e m b (Room.BytesShort k) h = load
-  roomed-fits e m b Room.Overflow h = load
+  ceilingDecides-fits : (e : PeerMessagePolicyEntry) (m b : Level) (room : Reservation) → RoomFits room → DecisionFits (ceilingDecides i e m b room)
+  ceilingDecides-fits e m b (Reservation.Left after) h = h
+  ceilingDecides-fits e m b Reservation.NoSlot h = load
+  ceilingDecides-fits e m b (Reservation.BytesShort k) h = load
+  ceilingDecides-fits e m b Reservation.Overflow h = load
 
-  judged-fits : (e : PeerMessagePolicyEntry) (size now : ℕ) → DecisionFits (judged c i e size now)
-  unfolding judged
-  judged-fits e size now =
+  decision-fits : (e : PeerMessagePolicyEntry) (size now : ℕ) → DecisionFits (decision c i e size now)
+  unfolding decision
+  decision-fits e size now =
       let used : PeerMessagePolicyEntry = entryUsed e now (c .«ban_duration_ms») in
       let m = takeMessage c (used .messages) now in
       let b = takeBytes c (used .bytes) size now in
       weighed-ways DecisionFits c i used size now
       (λ short. violated-ways DecisionFits c i used now Cause.MessagesShort (λ h. load) (λ h. load))
       (λ passed short. violated-ways DecisionFits c i used now (Cause.BytesShort (b .missing)) (λ h. load) (λ h. load))
-      (λ passed passes. roomed-fits used (m .level) (b .level) (tryReserve c i size) (room-fits size))
+      (λ passed passes. ceilingDecides-fits used (m .level) (b .level) (tryReserve c i size) (room-fits size))
 
   pub admit-fits : (rs : Peers) (k : List ℕ) (size now : ℕ) → LoadFits (admit c i rs k size now .ingress)
   unfolding admit carriedOut
   admit-fits rs k size now = by (entryForUpdate c now rs k (look k rs))
     where
-      by : (u : Update) → LoadFits (turnOf i Cause.LiveBan (λ e xs. carriedOut i k xs (judged c i e size now)) u .ingress)
+      by : (u : Update) → LoadFits (turnOf i Cause.LiveBan (λ e xs. carriedOut i k xs (decision c i e size now)) u .ingress)
       by banned = load
       by (update e xs) =
-          chosen (λ (t : Turn Cause). LoadFits (t .ingress)) (overflows (judged c i e size now .cause)) (λ h. load) (λ h. judged-fits e size now)
+          chosen (λ (t : Turn Cause). LoadFits (t .ingress)) (overflows (decision c i e size now .cause)) (λ h. load) (λ h. decision-fits e size now)
 
   -- an invalid message leaves the load as it is
   pub record-invalid-fits : (rs : Peers) (k : List ℕ) (now : ℕ) → LoadFits (recordInvalid c i rs k now .ingress)
   unfolding recordInvalid
   record-invalid-fits rs k now = by (entryForUpdate c now rs k (look k rs))
     where
-      by : (u : Update) → LoadFits (turnOf i InvalidCause.LiveBan (λ e xs. notedDown i k xs (judgedInvalid c e now)) u .ingress)
+      by : (u : Update) → LoadFits (turnOf i InvalidCause.LiveBan (λ e xs. notedDown i k xs (invalidDecision c e now)) u .ingress)
       by banned = load
       by (update e xs) = load
 

@@ -10,7 +10,7 @@ use Rattle.decimal.specs.DecimalLaws.{length-digits}
 use Rattle.text_pieces.specs.Text.{Wrote}
 use Rattle.text_pieces.specs.TextLaws.{byte-over, line-over}
 use Rattle.trace_lines.specs.Lines.{lineOf, wordText, numberText, answerText}
-use Rattle.trace_lines.specs.declared.line.Line.{Line}
+use Rattle.trace_lines.specs.declared.line.TraceLine.{TraceLine}
 use Rattle.trace_lines.specs.declared.line.Word.{Word}
 use Rattle.trace_lines.specs.declared.line.Word.the-variants.{Allow, Disconnect, Ban, Banned, Noted, Free, Closed, Released}
 
@@ -26,12 +26,12 @@ put-all s b h = rw (drop-of-length-le s {i = 0 + length b} (omega arith)) (appen
 
 -- what was written at the front of 64 zeros is the line
 pub line-is : {text bytes : List ℕ} {place : ℕ} → Wrote (zeros 64) 0 text place bytes → length text ≤ 64
-    → _≡_ {A = Line} (record { bytes = bytes; length = place }) (lineOf text)
+    → _≡_ {A = TraceLine} (record { bytes = bytes; length = place }) (lineOf text)
 line-is w h = let l = line-over 64 w h in (λ i. record { bytes = l .0 i; length = l .1 i })
 
 -- and so with a newline behind it
 pub line-ends : {text bytes : List ℕ} {place : ℕ} → Wrote (zeros 64) 0 text place bytes → length text + 1 ≤ 64
-    → _≡_ {A = Line} (record { bytes = set bytes place 10; length = place + 1 }) (lineOf (text ++ (10 ∷ [])))
+    → _≡_ {A = TraceLine} (record { bytes = set bytes place 10; length = place + 1 }) (lineOf (text ++ (10 ∷ [])))
 line-ends {text} w h = line-is (byte-over 64 w 10 h) (omega (arith, length-append text (10 ∷ [])))
 
 -- ════ An answer ════

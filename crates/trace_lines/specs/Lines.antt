@@ -19,7 +19,7 @@ use Rattle.trace_lines.specs.declared.event.EventKind.the-variants as ki
 use Rattle.trace_lines.specs.declared.event.KeyField.{KeyField}
 use Rattle.trace_lines.specs.declared.settings.Settings.{Settings}
 use Rattle.trace_lines.specs.declared.settings.Settings.the-variants as settings
-use Rattle.trace_lines.specs.declared.line.Line.{Line}
+use Rattle.trace_lines.specs.declared.line.TraceLine.{TraceLine}
 use Rattle.trace_lines.specs.declared.line.Word.{Word}
 use Rattle.trace_lines.specs.declared.line.Word.the-variants.{Allow, Disconnect, Ban, Banned, Noted, Free, Closed, Released}
 
@@ -194,7 +194,7 @@ eventOf line = eventBy (getD line 0 0) line
 -- ════ Lines that are written ════
 
 -- a text as a line of 64 bytes, the unused ones zero
-abbrev pub lineOf : List ℕ → Line
+abbrev pub lineOf : List ℕ → TraceLine
 lineOf text = record { bytes = text ++ replicate (64 - length text) 0; length = length text }
 
 -- the word of an answer

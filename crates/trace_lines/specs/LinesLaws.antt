@@ -17,7 +17,7 @@ use Rattle.refusal.specs.OneOutcome.{one-outcome}
 use Rattle.trace_lines.specs.Lines.{blankThenNumber, fieldOf, valueOf, endsLine, settingsOf, eventBy, eventOf, badEvent, lineOf, answerText, badLineText, refusalText}
 use Rattle.trace_lines.specs.declared.event.Event.{Event}
 use Rattle.trace_lines.specs.declared.settings.Settings.{Settings}
-use Rattle.trace_lines.specs.declared.line.Line.{Line}
+use Rattle.trace_lines.specs.declared.line.TraceLine.{TraceLine}
 use Rattle.trace_lines.specs.declared.line.Word.{Word}
 
 -- ════ Bounds of fields ════
@@ -64,12 +64,12 @@ settings-outcome line = one-outcome
 pub event-outcome : (line : List ℕ) {r s : Event} → r ≡ eventOf line → s ≡ eventOf line → r ≡ s
 event-outcome line = one-outcome
 
-pub answer-line-outcome : (w : Word) (messages bytes rows : ℕ) {r s : Line}
+pub answer-line-outcome : (w : Word) (messages bytes rows : ℕ) {r s : TraceLine}
     → r ≡ lineOf (answerText w messages bytes rows) → s ≡ lineOf (answerText w messages bytes rows) → r ≡ s
 answer-line-outcome w messages bytes rows = one-outcome
 
-pub bad-line-outcome : (k : ℕ) {r s : Line} → r ≡ lineOf (badLineText k) → s ≡ lineOf (badLineText k) → r ≡ s
+pub bad-line-outcome : (k : ℕ) {r s : TraceLine} → r ≡ lineOf (badLineText k) → s ≡ lineOf (badLineText k) → r ≡ s
 bad-line-outcome k = one-outcome
 
-pub refusal-line-outcome : (n : ℕ) {r s : Line} → r ≡ lineOf (refusalText n) → s ≡ lineOf (refusalText n) → r ≡ s
+pub refusal-line-outcome : (n : ℕ) {r s : TraceLine} → r ≡ lineOf (refusalText n) → s ≡ lineOf (refusalText n) → r ≡ s
 refusal-line-outcome n = one-outcome

@@ -9,7 +9,7 @@ use text_pieces::piece::put_refusal;
 use text_pieces::piece::put_text;
 
 // A line with its newline; the bytes behind its length are zero.
-pub struct Line {
+pub struct TraceLine {
     pub bytes: [u8; 64],
     pub length: usize,
 }
@@ -44,7 +44,7 @@ fn put_word(out: &mut [u8], word: Word) -> usize
 }
 
 // An answer, the messages and bytes in flight, the rows held: at most 64 bytes.
-pub fn answer_line(word: Word, messages: u32, bytes: u64, rows: u64) -> Line
+pub fn answer_line(word: Word, messages: u32, bytes: u64, rows: u64) -> TraceLine
     ensures { λ r. ⌜ r ≡ lineOf (answerText word messages bytes rows) ⌝ }
 {
     let mut out = [0u8; 64];
@@ -53,33 +53,33 @@ pub fn answer_line(word: Word, messages: u32, bytes: u64, rows: u64) -> Line
     let after_bytes = put_number(&mut out, after_messages, bytes);
     let after_rows = put_number(&mut out, after_bytes, rows);
     out[after_rows] = b'\n';
-    Line {
+    TraceLine {
         bytes: out,
         length: after_rows + 1,
     }
 }
 
 // `bad line K`: the settings are line 1.
-pub fn bad_line(number: u64) -> Line
+pub fn bad_line(number: u64) -> TraceLine
     ensures { λ r. ⌜ r ≡ lineOf (badLineText number) ⌝ }
 {
     let mut out = [0u8; 64];
     let after_words = put_text(&mut out, 0, b"bad line");
     let after_number = put_number(&mut out, after_words, number);
     out[after_number] = b'\n';
-    Line {
+    TraceLine {
         bytes: out,
         length: after_number + 1,
     }
 }
 
 // `refusal N`
-pub fn refusal_line(number: u32) -> Line
+pub fn refusal_line(number: u32) -> TraceLine
     ensures { λ r. ⌜ r ≡ lineOf (refusalText number) ⌝ }
 {
     let mut out = [0u8; 64];
     let end = put_refusal(&mut out, number as u64);
-    Line {
+    TraceLine {
         bytes: out,
         length: end,
     }

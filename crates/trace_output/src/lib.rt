@@ -1,7 +1,7 @@
 // What the programs over crate `trace` write: the lines that a scan hands out, on standard output.
 use trace::scan::next;
 use trace::scan::open;
-use trace_lines::line::Line;
+use trace_lines::line::TraceLine;
 
 // Writes what the scan of an input hands out, and answers whether that went well; behind a line that could not be written comes no
 // other.
@@ -27,7 +27,7 @@ pub fn write_answers(input: &[u8], table: &mut [u8]) -> bool {
 }
 
 // A line that a scan hands out is never longer than its bytes.
-fn write_line(line: Line) -> bool {
+fn write_line(line: TraceLine) -> bool {
     let bytes = line.bytes;
     let length = line.length;
     if length > 64 {

@@ -10,7 +10,7 @@ use Rattle.lent_bytes.specs.LentBytes.{put}
 use Rattle.lent_bytes.specs.LentBytesLaws.{put-nil}
 use Rattle.decimal.specs.Decimal.{digitsOf}
 use Rattle.decimal.specs.DecimalLaws.{lowDigits, low-within}
-use Rattle.decimal.proofs.Turns.{digit-written}
+use Rattle.decimal.proofs.Loops.{digit-written}
 use Rattle.decimal.proofs.put_decimal.Statement.{statement}
 use Rattle.decimal.proofs.put_decimal.Tie as tie
 

@@ -6,7 +6,7 @@ use native.Mathlib.Omega.{arith}
 use lib.ListN.{length, getD}
 use denote.Ref.{now}
 use Rattle.decimal.specs.DecimalLaws.{digits-none, digits-end, below-digits, above-digits}
-use Rattle.decimal.proofs.Turns.{outcome, outcome-ended, outcome-more, outcome-large}
+use Rattle.decimal.proofs.Loops.{outcome, outcome-ended, outcome-more, outcome-large}
 use Rattle.decimal.proofs.run_of_digits.Statement.{statement}
 use Rattle.decimal.proofs.run_of_digits.Tie as tie
 

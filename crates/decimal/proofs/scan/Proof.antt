@@ -5,7 +5,7 @@ use lib.ListN.{getD}
 use denote.Ref.{now}
 use Rattle.decimal.specs.Decimal.{scanOf}
 use Rattle.decimal.specs.DecimalLaws.{digits-none, digits-end, below-digits, above-digits}
-use Rattle.decimal.proofs.Turns.{zero-any, run-number}
+use Rattle.decimal.proofs.Loops.{zero-any, run-number}
 use borrow.Author.Needs.{needs}
 use Rattle.decimal.proofs.scan.Statement.{statement}
 use Rattle.decimal.proofs.scan.Tie as tie

@@ -5,7 +5,7 @@ use Prim.Native.Nat.{suc, _+_, _-_, _/_, _≤_}
 use native.Mathlib.Omega.{arith}
 use lib.ListN.{length}
 use Rattle.decimal.specs.Decimal.{digitsWithin, digitsOf}
-use Rattle.decimal.proofs.Turns.{one-digit, one-digit-more, last-digit}
+use Rattle.decimal.proofs.Loops.{one-digit, one-digit-more, last-digit}
 use Rattle.decimal.proofs.width.Statement.{statement}
 use Rattle.decimal.proofs.width.Tie as tie
 

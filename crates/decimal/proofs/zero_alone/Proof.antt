@@ -5,7 +5,7 @@ use native.Mathlib.Omega.{arith}
 use lib.ListN.{getD}
 use denote.Ref.{now}
 use Rattle.decimal.specs.DecimalLaws.{digits-none, digits-end, below-digits, above-digits}
-use Rattle.decimal.proofs.Turns.{zero-then-none, zero-then-digit}
+use Rattle.decimal.proofs.Loops.{zero-then-none, zero-then-digit}
 use borrow.Author.Needs.{needs}
 use Rattle.decimal.proofs.zero_alone.Statement.{statement}
 use Rattle.decimal.proofs.zero_alone.Tie as tie

@@ -1,7 +1,7 @@
 -- `snapshot_show::show_input` is safe: what it hands on is what was read, and lies within the buffer. Assumes nothing.
 use mathlib.Core.Path.{subst}
 use borrow.Author.Needs.{needs}
-use Rattle.standard.specs.Input.{Within}
+use Rattle.standard.specs.Input.{ReadInto}
 use Rattle.snapshot_show.proofs.show_input.Statement.{statement}
 use Rattle.snapshot_show.proofs.show_input.Tie as tie
 
@@ -15,10 +15,10 @@ enum-known-input : tie.Need-enum-known-input
 enum-known-input c = search needs
 
 slice-reshare-prefix-write-lines : tie.Need-slice-reshare-prefix-write-lines
-slice-reshare-prefix-write-lines c = subst (λ r. Within r (c .before .before .before .before .before .read .last .0)) (c .before .input .given .1) (c .before .before .before .before .before .read .ensures) .0
+slice-reshare-prefix-write-lines c = subst (λ r. ReadInto r (c .before .before .before .before .before .read .last .0)) (c .before .input .given .1) (c .before .before .before .before .before .read .ensures) .0
 
 slice-aggregate-write-lines : tie.Need-slice-aggregate-write-lines
-slice-aggregate-write-lines c = subst (λ r. Within r (c .before .before .before .before .before .before .read .last .0)) (c .before .before .input .given .1) (c .before .before .before .before .before .before .read .ensures) .1
+slice-aggregate-write-lines c = subst (λ r. ReadInto r (c .before .before .before .before .before .before .read .last .0)) (c .before .before .input .given .1) (c .before .before .before .before .before .before .read .ensures) .1
 
 write-lines-requires : tie.Need-write-lines-requires
 write-lines-requires c κs = search needs

@@ -2,7 +2,7 @@
 use mathlib.Core.Path.{sym, _∙_}
 use native.Mathlib.Omega.{arith}
 use Rattle.gossip_bans.proofs.Judged.{known-fits, known-look, score-fits}
-use Rattle.gossip_bans.proofs.Turns.{scored-expired, scored-live}
+use Rattle.gossip_bans.proofs.Branches.{scored-expired, scored-live}
 use borrow.Author.Needs.{needs}
 use Rattle.gossip_bans.proofs.calls.score_known.Statement.{statement}
 use Rattle.gossip_bans.proofs.calls.score_known.Tie as tie

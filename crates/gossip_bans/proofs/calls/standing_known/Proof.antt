@@ -2,7 +2,7 @@
 use mathlib.Core.Path.{sym, _∙_}
 use native.Mathlib.Omega.{arith}
 use Rattle.gossip_bans.proofs.Judged.{known-fits, known-look}
-use Rattle.gossip_bans.proofs.Turns.{standing-off, standing-expired, standing-live}
+use Rattle.gossip_bans.proofs.Branches.{standing-off, standing-expired, standing-live}
 use borrow.Author.Needs.{needs}
 use Rattle.gossip_bans.proofs.calls.standing_known.Statement.{statement}
 use Rattle.gossip_bans.proofs.calls.standing_known.Tie as tie

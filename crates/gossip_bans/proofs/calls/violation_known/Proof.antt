@@ -2,7 +2,7 @@
 use mathlib.Core.Path.{sym, _∙_}
 use native.Mathlib.Omega.{arith}
 use Rattle.gossip_bans.proofs.Judged.{known-fits, known-look}
-use Rattle.gossip_bans.proofs.Turns.{violated-off, violated-known}
+use Rattle.gossip_bans.proofs.Branches.{violated-off, violated-known}
 use borrow.Author.Needs.{needs}
 use Rattle.gossip_bans.proofs.calls.violation_known.Statement.{statement}
 use Rattle.gossip_bans.proofs.calls.violation_known.Tie as tie

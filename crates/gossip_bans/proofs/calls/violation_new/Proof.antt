@@ -1,7 +1,7 @@
 -- `gossip_bans::calls::violation_new` meets its contract: bans are off, or an entry is stored where room was made (`violated-new`). Assumes nothing.
 use mathlib.Core.Path.{sym, _∙_}
 use Rattle.gossip_bans.proofs.Judged.{unknown-look}
-use Rattle.gossip_bans.proofs.Turns.{violated-off, violated-new}
+use Rattle.gossip_bans.proofs.Branches.{violated-off, violated-new}
 use borrow.Author.Needs.{needs}
 use Rattle.gossip_bans.proofs.calls.violation_new.Statement.{statement}
 use Rattle.gossip_bans.proofs.calls.violation_new.Tie as tie

@@ -6,7 +6,7 @@ use Rattle.table_laws.specs.LentLaws.{known-inside, known-fits, known-rule}
 use Rattle.gossip_limiter_rows.specs.Rows.{limiterLayout, limiterSound}
 use Rattle.gossip_limiter_rows.specs.RowsLaws.{sound-level}
 use Rattle.gossip_limiter.specs.Limiter.{limitOf, limiterRecordSound}
-use Rattle.gossip_limiter.proofs.Turns.{few-rows, rows-inside, told-off, told-known}
+use Rattle.gossip_limiter.proofs.Branches.{few-rows, rows-inside, told-off, told-known}
 use borrow.Author.Needs.{needs}
 use Rattle.gossip_limiter.proofs.calls.acquire_known.Statement.{statement}
 use Rattle.gossip_limiter.proofs.calls.acquire_known.Tie as tie

@@ -4,7 +4,7 @@ use native.Mathlib.Omega.{arith}
 use Rattle.table_laws.specs.LentLaws.{rules-kept}
 use Rattle.gossip_limiter_rows.specs.Rows.{limiterLayout, limiterSound}
 use Rattle.gossip_limiter.specs.Limiter.{limitOf, limiterRecordSound}
-use Rattle.gossip_limiter.proofs.Turns.{limit-inside, rows-inside, told-off, told-full, told-new}
+use Rattle.gossip_limiter.proofs.Branches.{limit-inside, rows-inside, told-off, told-full, told-new}
 use borrow.Author.Needs.{needs}
 use Rattle.gossip_limiter.proofs.calls.acquire_new.Statement.{statement}
 use Rattle.gossip_limiter.proofs.calls.acquire_new.Tie as tie

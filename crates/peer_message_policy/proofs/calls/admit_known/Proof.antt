@@ -1,8 +1,8 @@
 -- `calls::admit_known` meets its contract. Assumes nothing.
 use mathlib.Core.Path.{sym, _∙_}
 use Rattle.peer_message_policy.specs.Policy.{rowsOf}
-use Rattle.peer_message_policy.proofs.Judged.{few-read, in-order, known-fits, known-look, known-sound, judged-on-sound}
-use Rattle.peer_message_policy.proofs.Turns.{update-known, left-same, admit-live, admit-overflow, admit-carried}
+use Rattle.peer_message_policy.proofs.Judged.{few-read, in-order, known-fits, known-look, known-sound, entry-to-update-sound}
+use Rattle.peer_message_policy.proofs.Branches.{update-known, left-same, admit-live, admit-overflow, admit-carried}
 use borrow.Author.Needs.{needs}
 use Rattle.peer_message_policy.proofs.calls.admit_known.Statement.{statement}
 use Rattle.peer_message_policy.proofs.calls.admit_known.Tie as tie
@@ -30,16 +30,16 @@ returns c =
     let e = at-entry-at .entry-at .result in
     admit-live (a .p) (a .table .now) (a .peer) (a .bytes) (a .now-ms) (begin .pre .is-sound) e (known-look (a .p) (a .table .now) (a .peer .bytes) (a .index) (begin .pre) e (at-entry-at .entry-at .ensures)) (sym (at-is-banned .is-banned .ensures) ∙ at-if1 .if1 .taken) (c .admission-of .result) (c .admission-of .ensures)
 
-entry-to-judge-requires : tie.Need-entry-to-judge-requires
-entry-to-judge-requires c κs = search needs
+entry-to-update-requires : tie.Need-entry-to-update-requires
+entry-to-update-requires c κs = search needs
 
-judged-requires : tie.Need-judged-requires
-judged-requires c κs =
+decide-requires : tie.Need-decide-requires
+decide-requires c κs =
     let at-entry-at = c .before .before .before in
     let begin = at-entry-at .before .before .before .before .before in
     let a = begin .args in
     let e = at-entry-at .entry-at .result in
-    judged-on-sound (a .p .config) e (a .now-ms) (c .entry-to-judge .result) (c .entry-to-judge .ensures) (known-sound (a .p) (a .table .now) (a .peer .bytes) (a .index) (begin .pre) e (at-entry-at .entry-at .ensures))
+    entry-to-update-sound (a .p .config) e (a .now-ms) (c .entry-to-update .result) (c .entry-to-update .ensures) (known-sound (a .p) (a .table .now) (a .peer .bytes) (a .index) (begin .pre) e (at-entry-at .entry-at .ensures))
 
 overflows-requires : tie.Need-overflows-requires
 overflows-requires c κs = search needs
@@ -54,17 +54,17 @@ returns-2 : tie.Need-returns-2
 returns-2 c =
     let at-if2 = c .before in
     let at-overflows = at-if2 .before in
-    let at-judged = at-overflows .before in
-    let at-entry-to-judge = at-judged .before in
-    let at-if1 = at-entry-to-judge .before in
+    let at-decide = at-overflows .before in
+    let at-entry-to-update = at-decide .before in
+    let at-if1 = at-entry-to-update .before in
     let at-is-banned = at-if1 .before in
     let at-entry-at = at-is-banned .before in
     let begin = at-entry-at .before .before .before .before .before in
     let a = begin .args in
     let e = at-entry-at .entry-at .result in
-    let x = at-entry-to-judge .entry-to-judge .result in
-    let u = update-known (a .p .config) (a .now-ms) (rowsOf (a .p) (a .table .now)) (a .peer .bytes) (few-read (a .p) (a .table .now) (begin .pre .is-sound)) (in-order (a .p) (a .table .now) (begin .pre .is-sound)) e (known-look (a .p) (a .table .now) (a .peer .bytes) (a .index) (begin .pre) e (at-entry-at .entry-at .ensures)) (sym (at-is-banned .is-banned .ensures) ∙ at-if1 .if1 .left) x (at-entry-to-judge .entry-to-judge .ensures) in
-    admit-overflow (a .p) (a .table .now) (a .peer) (a .bytes) (a .now-ms) (begin .pre .is-sound) x (u .among) (u .found) (at-judged .judged .result) (at-judged .judged .ensures) (sym (at-overflows .overflows .ensures) ∙ at-if2 .if2 .taken) (c .admission-of2 .result) (c .admission-of2 .ensures)
+    let x = at-entry-to-update .entry-to-update .result in
+    let u = update-known (a .p .config) (a .now-ms) (rowsOf (a .p) (a .table .now)) (a .peer .bytes) (few-read (a .p) (a .table .now) (begin .pre .is-sound)) (in-order (a .p) (a .table .now) (begin .pre .is-sound)) e (known-look (a .p) (a .table .now) (a .peer .bytes) (a .index) (begin .pre) e (at-entry-at .entry-at .ensures)) (sym (at-is-banned .is-banned .ensures) ∙ at-if1 .if1 .left) x (at-entry-to-update .entry-to-update .ensures) in
+    admit-overflow (a .p) (a .table .now) (a .peer) (a .bytes) (a .now-ms) (begin .pre .is-sound) x (u .among) (u .found) (at-decide .decide .result) (at-decide .decide .ensures) (sym (at-overflows .overflows .ensures) ∙ at-if2 .if2 .taken) (c .admission-of2 .result) (c .admission-of2 .ensures)
 
 store-known-requires : tie.Need-store-known-requires
 store-known-requires c κs = search needs
@@ -80,17 +80,17 @@ returns-3 c =
     let at-store-known = c .before .before .before in
     let at-if2 = at-store-known .before .before .before .before in
     let at-overflows = at-if2 .before in
-    let at-judged = at-overflows .before in
-    let at-entry-to-judge = at-judged .before in
-    let at-if1 = at-entry-to-judge .before in
+    let at-decide = at-overflows .before in
+    let at-entry-to-update = at-decide .before in
+    let at-if1 = at-entry-to-update .before in
     let at-is-banned = at-if1 .before in
     let at-entry-at = at-is-banned .before in
     let begin = at-entry-at .before .before .before .before .before in
     let a = begin .args in
     let e = at-entry-at .entry-at .result in
-    let x = at-entry-to-judge .entry-to-judge .result in
-    let u = update-known (a .p .config) (a .now-ms) (rowsOf (a .p) (a .table .now)) (a .peer .bytes) (few-read (a .p) (a .table .now) (begin .pre .is-sound)) (in-order (a .p) (a .table .now) (begin .pre .is-sound)) e (known-look (a .p) (a .table .now) (a .peer .bytes) (a .index) (begin .pre) e (at-entry-at .entry-at .ensures)) (sym (at-is-banned .is-banned .ensures) ∙ at-if1 .if1 .left) x (at-entry-to-judge .entry-to-judge .ensures) in
-    admit-carried (a .p) (a .table .now) (a .peer) (a .bytes) (a .now-ms) (begin .pre .is-sound) x (u .among) (u .found) (at-judged .judged .result) (at-judged .judged .ensures) (sym (at-overflows .overflows .ensures) ∙ at-if2 .if2 .left) (at-store-known .store-known .result) _ (left-same (u .stores _) (at-store-known .store-known .ensures)) (c .admission-of3 .result) (c .admission-of3 .ensures)
+    let x = at-entry-to-update .entry-to-update .result in
+    let u = update-known (a .p .config) (a .now-ms) (rowsOf (a .p) (a .table .now)) (a .peer .bytes) (few-read (a .p) (a .table .now) (begin .pre .is-sound)) (in-order (a .p) (a .table .now) (begin .pre .is-sound)) e (known-look (a .p) (a .table .now) (a .peer .bytes) (a .index) (begin .pre) e (at-entry-at .entry-at .ensures)) (sym (at-is-banned .is-banned .ensures) ∙ at-if1 .if1 .left) x (at-entry-to-update .entry-to-update .ensures) in
+    admit-carried (a .p) (a .table .now) (a .peer) (a .bytes) (a .now-ms) (begin .pre .is-sound) x (u .among) (u .found) (at-decide .decide .result) (at-decide .decide .ensures) (sym (at-overflows .overflows .ensures) ∙ at-if2 .if2 .left) (at-store-known .store-known .result) _ (left-same (u .stores _) (at-store-known .store-known .ensures)) (c .admission-of3 .result) (c .admission-of3 .ensures)
 
 pub admit-known-spec : {M : Type 1} → statement M
 admit-known-spec =
@@ -101,8 +101,8 @@ admit-known-spec =
     admission-of-requires
     same-length
     returns
-    entry-to-judge-requires
-    judged-requires
+    entry-to-update-requires
+    decide-requires
     overflows-requires
     admission-of-requires-2
     same-length-2

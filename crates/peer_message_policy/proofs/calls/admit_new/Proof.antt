@@ -3,7 +3,7 @@ use mathlib.Core.Path.{sym, _∙_}
 use Rattle.peer_table.specs.Room.{makeRoom}
 use Rattle.peer_message_policy.specs.Policy.{rowsOf}
 use Rattle.peer_message_policy.proofs.Judged.{unknown-look, new-on-sound}
-use Rattle.peer_message_policy.proofs.Turns.{update-new, admit-overflow, admit-carried}
+use Rattle.peer_message_policy.proofs.Branches.{update-new, admit-overflow, admit-carried}
 use borrow.Author.Needs.{needs}
 use Rattle.peer_message_policy.proofs.calls.admit_new.Statement.{statement}
 use Rattle.peer_message_policy.proofs.calls.admit_new.Tie as tie
@@ -11,8 +11,8 @@ use Rattle.peer_message_policy.proofs.calls.admit_new.Tie as tie
 new-requires : tie.Need-new-requires
 new-requires c κs = search needs
 
-judged-requires : tie.Need-judged-requires
-judged-requires c κs = let a = c .before .before .before .before .args in
+decide-requires : tie.Need-decide-requires
+decide-requires c κs = let a = c .before .before .before .before .args in
     new-on-sound (a .p .config) (a .now-ms) (c .new .result) (c .new .ensures)
 
 overflows-requires : tie.Need-overflows-requires
@@ -25,13 +25,13 @@ returns : tie.Need-returns
 returns c =
     let at-if1 = c .before in
     let at-overflows = at-if1 .before in
-    let at-judged = at-overflows .before in
-    let at-new = at-judged .before in
+    let at-decide = at-overflows .before in
+    let at-new = at-decide .before in
     let begin = at-new .before .before .before .before in
     let a = begin .args in
     let x = at-new .new .result in
     let rs = rowsOf (a .p) (a .table .now) in
-    admit-overflow (a .p) (a .table .now) (a .peer) (a .bytes) (a .now-ms) (begin .pre .is-sound) x (makeRoom (a .p .config) (a .now-ms) rs) (update-new (a .p .config) (a .now-ms) rs (a .peer .bytes) (unknown-look (a .p) (a .table .now) (a .peer .bytes) (a .gap) (begin .pre)) x (at-new .new .ensures)) (at-judged .judged .result) (at-judged .judged .ensures) (sym (at-overflows .overflows .ensures) ∙ at-if1 .if1 .taken) (c .admission-of .result) (c .admission-of .ensures)
+    admit-overflow (a .p) (a .table .now) (a .peer) (a .bytes) (a .now-ms) (begin .pre .is-sound) x (makeRoom (a .p .config) (a .now-ms) rs) (update-new (a .p .config) (a .now-ms) rs (a .peer .bytes) (unknown-look (a .p) (a .table .now) (a .peer .bytes) (a .gap) (begin .pre)) x (at-new .new .ensures)) (at-decide .decide .result) (at-decide .decide .ensures) (sym (at-overflows .overflows .ensures) ∙ at-if1 .if1 .taken) (c .admission-of .result) (c .admission-of .ensures)
 
 store-new-requires : tie.Need-store-new-requires
 store-new-requires c κs = search needs
@@ -47,20 +47,20 @@ returns-2 c =
     let at-store-new = c .before .before .before in
     let at-if1 = at-store-new .before .before .before .before in
     let at-overflows = at-if1 .before in
-    let at-judged = at-overflows .before in
-    let at-new = at-judged .before in
+    let at-decide = at-overflows .before in
+    let at-new = at-decide .before in
     let begin = at-new .before .before .before .before in
     let a = begin .args in
     let x = at-new .new .result in
     let rs = rowsOf (a .p) (a .table .now) in
-    admit-carried (a .p) (a .table .now) (a .peer) (a .bytes) (a .now-ms) (begin .pre .is-sound) x (makeRoom (a .p .config) (a .now-ms) rs) (update-new (a .p .config) (a .now-ms) rs (a .peer .bytes) (unknown-look (a .p) (a .table .now) (a .peer .bytes) (a .gap) (begin .pre)) x (at-new .new .ensures)) (at-judged .judged .result) (at-judged .judged .ensures) (sym (at-overflows .overflows .ensures) ∙ at-if1 .if1 .left) (at-store-new .store-new .result) _ (at-store-new .store-new .ensures) (c .admission-of2 .result) (c .admission-of2 .ensures)
+    admit-carried (a .p) (a .table .now) (a .peer) (a .bytes) (a .now-ms) (begin .pre .is-sound) x (makeRoom (a .p .config) (a .now-ms) rs) (update-new (a .p .config) (a .now-ms) rs (a .peer .bytes) (unknown-look (a .p) (a .table .now) (a .peer .bytes) (a .gap) (begin .pre)) x (at-new .new .ensures)) (at-decide .decide .result) (at-decide .decide .ensures) (sym (at-overflows .overflows .ensures) ∙ at-if1 .if1 .left) (at-store-new .store-new .result) _ (at-store-new .store-new .ensures) (c .admission-of2 .result) (c .admission-of2 .ensures)
 
 pub admit-new-spec : {M : Type 1} → statement M
 admit-new-spec =
     tie.close
     (tie.spec
     new-requires
-    judged-requires
+    decide-requires
     overflows-requires
     admission-of-requires
     returns

@@ -1,7 +1,7 @@
 -- `calls::disconnected_known` meets its contract. Assumes nothing.
 use mathlib.Core.Path.{sym, _∙_}
 use Rattle.peer_message_policy.proofs.Judged.{known-fits, known-look}
-use Rattle.peer_message_policy.proofs.Turns.{disconnected-live, disconnected-dropped, disconnected-expired}
+use Rattle.peer_message_policy.proofs.Branches.{disconnected-live, disconnected-dropped, disconnected-expired}
 use borrow.Author.Needs.{needs}
 use Rattle.peer_message_policy.proofs.calls.disconnected_known.Statement.{statement}
 use Rattle.peer_message_policy.proofs.calls.disconnected_known.Tie as tie

@@ -1,7 +1,7 @@
 -- `calls::held_known` meets its contract. Assumes nothing.
 use native.Mathlib.Omega.{arith}
 use Rattle.peer_message_policy.proofs.Judged.{known-fits, known-look}
-use Rattle.peer_message_policy.proofs.Turns.{held-later, held-given}
+use Rattle.peer_message_policy.proofs.Branches.{held-later, held-given}
 use Rattle.peer_message_policy.proofs.calls.held_known.Statement.{statement}
 use Rattle.peer_message_policy.proofs.calls.held_known.Tie as tie
 

@@ -2,7 +2,7 @@
 use mathlib.Core.Path.{sym, _∙_}
 use Rattle.peer_message_policy.specs.Policy.{rowsOf}
 use Rattle.peer_message_policy.proofs.Judged.{few-read, in-order, known-fits, known-look}
-use Rattle.peer_message_policy.proofs.Turns.{update-known, left-same, invalid-live, invalid-carried}
+use Rattle.peer_message_policy.proofs.Branches.{update-known, left-same, invalid-live, invalid-carried}
 use borrow.Author.Needs.{needs}
 use Rattle.peer_message_policy.proofs.calls.invalid_known.Statement.{statement}
 use Rattle.peer_message_policy.proofs.calls.invalid_known.Tie as tie
@@ -30,11 +30,11 @@ returns c =
     let e = at-entry-at .entry-at .result in
     invalid-live (a .p) (a .table .now) (a .peer) (a .now-ms) (begin .pre .is-sound) e (known-look (a .p) (a .table .now) (a .peer .bytes) (a .index) (begin .pre) e (at-entry-at .entry-at .ensures)) (sym (at-is-banned .is-banned .ensures) ∙ at-if1 .if1 .taken) (c .invalid-of .result) (c .invalid-of .ensures)
 
-entry-to-judge-requires : tie.Need-entry-to-judge-requires
-entry-to-judge-requires c κs = search needs
+entry-to-update-requires : tie.Need-entry-to-update-requires
+entry-to-update-requires c κs = search needs
 
-judged-invalid-requires : tie.Need-judged-invalid-requires
-judged-invalid-requires c κs = search needs
+decide-invalid-requires : tie.Need-decide-invalid-requires
+decide-invalid-requires c κs = search needs
 
 store-known-requires : tie.Need-store-known-requires
 store-known-requires c κs = search needs
@@ -48,17 +48,17 @@ same-length-2 c = search needs
 returns-2 : tie.Need-returns-2
 returns-2 c =
     let at-store-known = c .before .before .before in
-    let at-judged-invalid = at-store-known .before .before .before in
-    let at-entry-to-judge = at-judged-invalid .before in
-    let at-if1 = at-entry-to-judge .before in
+    let at-decide-invalid = at-store-known .before .before .before in
+    let at-entry-to-update = at-decide-invalid .before in
+    let at-if1 = at-entry-to-update .before in
     let at-is-banned = at-if1 .before in
     let at-entry-at = at-is-banned .before in
     let begin = at-entry-at .before .before .before .before .before in
     let a = begin .args in
     let e = at-entry-at .entry-at .result in
-    let x = at-entry-to-judge .entry-to-judge .result in
-    let u = update-known (a .p .config) (a .now-ms) (rowsOf (a .p) (a .table .now)) (a .peer .bytes) (few-read (a .p) (a .table .now) (begin .pre .is-sound)) (in-order (a .p) (a .table .now) (begin .pre .is-sound)) e (known-look (a .p) (a .table .now) (a .peer .bytes) (a .index) (begin .pre) e (at-entry-at .entry-at .ensures)) (sym (at-is-banned .is-banned .ensures) ∙ at-if1 .if1 .left) x (at-entry-to-judge .entry-to-judge .ensures) in
-    invalid-carried (a .p) (a .table .now) (a .peer) (a .now-ms) (begin .pre .is-sound) x (u .among) (u .found) (at-judged-invalid .judged-invalid .result) (at-judged-invalid .judged-invalid .ensures) (at-store-known .store-known .result) _ (left-same (u .stores _) (at-store-known .store-known .ensures)) (c .invalid-of2 .result) (c .invalid-of2 .ensures)
+    let x = at-entry-to-update .entry-to-update .result in
+    let u = update-known (a .p .config) (a .now-ms) (rowsOf (a .p) (a .table .now)) (a .peer .bytes) (few-read (a .p) (a .table .now) (begin .pre .is-sound)) (in-order (a .p) (a .table .now) (begin .pre .is-sound)) e (known-look (a .p) (a .table .now) (a .peer .bytes) (a .index) (begin .pre) e (at-entry-at .entry-at .ensures)) (sym (at-is-banned .is-banned .ensures) ∙ at-if1 .if1 .left) x (at-entry-to-update .entry-to-update .ensures) in
+    invalid-carried (a .p) (a .table .now) (a .peer) (a .now-ms) (begin .pre .is-sound) x (u .among) (u .found) (at-decide-invalid .decide-invalid .result) (at-decide-invalid .decide-invalid .ensures) (at-store-known .store-known .result) _ (left-same (u .stores _) (at-store-known .store-known .ensures)) (c .invalid-of2 .result) (c .invalid-of2 .ensures)
 
 pub invalid-known-spec : {M : Type 1} → statement M
 invalid-known-spec =
@@ -69,8 +69,8 @@ invalid-known-spec =
     invalid-of-requires
     same-length
     returns
-    entry-to-judge-requires
-    judged-invalid-requires
+    entry-to-update-requires
+    decide-invalid-requires
     store-known-requires
     invalid-of-requires-2
     same-length-2

@@ -1,7 +1,7 @@
 -- `calls::standing_known` meets its contract. Assumes nothing.
 use mathlib.Core.Path.{sym, _∙_}
 use Rattle.peer_message_policy.proofs.Judged.{known-fits, known-look}
-use Rattle.peer_message_policy.proofs.Turns.{standing-live, standing-kept, standing-dropped}
+use Rattle.peer_message_policy.proofs.Branches.{standing-live, standing-kept, standing-dropped}
 use borrow.Author.Needs.{needs}
 use Rattle.peer_message_policy.proofs.calls.standing_known.Statement.{statement}
 use Rattle.peer_message_policy.proofs.calls.standing_known.Tie as tie

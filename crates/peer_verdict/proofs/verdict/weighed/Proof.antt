@@ -37,8 +37,8 @@ returns-2 c =
 try-reserve-requires : tie.Need-try-reserve-requires
 try-reserve-requires c κs = search needs
 
-roomed-requires : tie.Need-roomed-requires
-roomed-requires c κs = rw (c .before .before .before .with-levels .ensures)
+ceiling-decides-requires : tie.Need-ceiling-decides-requires
+ceiling-decides-requires c κs = rw (c .before .before .before .with-levels .ensures)
 
 returns-3 : tie.Need-returns-3
 unfolding weighed
@@ -49,7 +49,7 @@ returns-3 c =
     let at-take-bytes = at-with-levels .before in
     let at-if1 = at-take-bytes .before .before in
     let at-take-message = at-if1 .before .before in
-    rw (c .roomed .ensures, at-try-reserve .try-reserve .ensures, at-with-levels .with-levels .ensures, at-take-bytes .take-bytes .ensures, at-take-message .take-message .ensures, rw (at-take-message .take-message .ensures) at (not-false (at-take-message .take-message .result .passes) (at-if1 .if1 .left)), rw (at-take-bytes .take-bytes .ensures) at (not-false (at-take-bytes .take-bytes .result .passes) (at-if2 .if2 .left)))
+    rw (c .ceiling-decides .ensures, at-try-reserve .try-reserve .ensures, at-with-levels .with-levels .ensures, at-take-bytes .take-bytes .ensures, at-take-message .take-message .ensures, rw (at-take-message .take-message .ensures) at (not-false (at-take-message .take-message .result .passes) (at-if1 .if1 .left)), rw (at-take-bytes .take-bytes .ensures) at (not-false (at-take-bytes .take-bytes .result .passes) (at-if2 .if2 .left)))
 
 pub weighed-spec : {M : Type 1} → statement M
 weighed-spec =
@@ -63,5 +63,5 @@ weighed-spec =
     violated-requires-2
     returns-2
     try-reserve-requires
-    roomed-requires
+    ceiling-decides-requires
     returns-3)

@@ -2,7 +2,7 @@
 use mathlib.Core.Path.{_≡_, ap, _∙_}
 use native.Mathlib.Omega.{arith}
 use borrow.Author.Tests.{lt-ltb, le-ltb, eq-eqb, ne-eqb}
-use Rattle.snapshot_text.specs.declared.line.Line.{Line}
+use Rattle.snapshot_text.specs.declared.line.ShownLine.{ShownLine}
 use Rattle.snapshot_text.specs.Scan.{following, rowHanded, numbers, policyNext}
 use borrow.Author.Needs.{needs}
 use Rattle.snapshot_text.proofs.scan.policy_next.Statement.{statement}
@@ -17,7 +17,7 @@ following-requires c κs = search needs
 returns : tie.Need-returns
 unfolding policyNext
 returns c = let scan = c .before .before .before .before .args .scan in
-    rw (lt-ltb (scan .line) numbers (omega arith)) (c .following .ensures ∙ ap (λ (l : Line). following (scan .made) (scan .line) (scan .at) l) (c .before .number-line .ensures))
+    rw (lt-ltb (scan .line) numbers (omega arith)) (c .following .ensures ∙ ap (λ (l : ShownLine). following (scan .made) (scan .line) (scan .at) l) (c .before .number-line .ensures))
 
 row-at-requires : tie.Need-row-at-requires
 row-at-requires c κs = search needs
@@ -48,7 +48,7 @@ returns-4 : tie.Need-returns-4
 unfolding policyNext
 returns-4 c = let a = c .before .before .before .before .before .before .before .args in let scan = a .scan in
     rw (le-ltb (scan .line) numbers (omega arith), le-ltb numbers (scan .line) (omega arith), ne-eqb (a .policy .rows) 0 (λ (e : a .policy .rows ≡ 0). omega arith))
-    (c .following2 .ensures ∙ ap (λ (l : Line). following (scan .made) (scan .line) (scan .at) l) (c .before .head-line .ensures))
+    (c .following2 .ensures ∙ ap (λ (l : ShownLine). following (scan .made) (scan .line) (scan .at) l) (c .before .head-line .ensures))
 
 pub policy-next-spec : {M : Type 1} → statement M
 policy-next-spec =

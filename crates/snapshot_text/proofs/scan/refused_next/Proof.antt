@@ -2,7 +2,7 @@
 use mathlib.Core.Path.{ap, _∙_}
 use native.Mathlib.Omega.{arith}
 use borrow.Author.Tests.{lt-ltb, le-ltb}
-use Rattle.snapshot_text.specs.declared.line.Line.{Line}
+use Rattle.snapshot_text.specs.declared.line.ShownLine.{ShownLine}
 use Rattle.snapshot_text.specs.Scan.{following, refusedNext}
 use borrow.Author.Needs.{needs}
 use Rattle.snapshot_text.proofs.scan.refused_next.Statement.{statement}
@@ -24,7 +24,7 @@ following-requires c κs = search needs
 returns-2 : tie.Need-returns-2
 unfolding refusedNext
 returns-2 c = let scan = c .before .before .before .args .scan in
-    rw (le-ltb 0 (scan .line) (omega arith)) (c .following .ensures ∙ ap (λ (l : Line). following (scan .made) (scan .line) (scan .at) l) (c .before .refusal-line .ensures))
+    rw (le-ltb 0 (scan .line) (omega arith)) (c .following .ensures ∙ ap (λ (l : ShownLine). following (scan .made) (scan .line) (scan .at) l) (c .before .refusal-line .ensures))
 
 pub refused-next-spec : {M : Type 1} → statement M
 refused-next-spec =

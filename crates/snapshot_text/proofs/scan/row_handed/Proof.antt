@@ -4,7 +4,7 @@ use mathlib.Core.Bool.{false}
 use native.Mathlib.Omega.{arith}
 use borrow.Author.Tests.{eq-eqb, ne-eqb}
 use Rattle.snapshot_reader.specs.Reader.{given}
-use Rattle.snapshot_text.specs.declared.line.Line.{Line}
+use Rattle.snapshot_text.specs.declared.line.ShownLine.{ShownLine}
 use Rattle.snapshot_text.specs.Scan.{rowHanded}
 use borrow.Author.Needs.{needs}
 use Rattle.snapshot_text.proofs.scan.row_handed.Statement.{statement}
@@ -24,7 +24,7 @@ returns-2 : tie.Need-returns-2
 unfolding rowHanded
 returns-2 c = let a = c .before .before .before .before .args in
     rw (eq-eqb (a .step .mark) given (omega arith))
-    (ap (λ (l : Line). record { done = false; line = l; scan = record { made = a .scan .made; line = a .scan .line; at = a .step .at } }) (c .row-line .ensures))
+    (ap (λ (l : ShownLine). record { done = false; line = l; scan = record { made = a .scan .made; line = a .scan .line; at = a .step .at } }) (c .row-line .ensures))
 
 pub row-handed-spec : {M : Type 1} → statement M
 row-handed-spec = tie.close (tie.spec ended-requires returns row-line-requires returns-2)

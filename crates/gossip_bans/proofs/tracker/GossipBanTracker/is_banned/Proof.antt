@@ -1,7 +1,7 @@
 -- `gossip_bans::tracker::GossipBanTracker::is_banned` meets its contract: by what is found. Assumes nothing.
 use mathlib.Core.Path.{sym, _∙_}
 use Rattle.gossip_bans.proofs.Judged.{sought-unsound, sought-known, sought-unknown, unknown-look}
-use Rattle.gossip_bans.proofs.Turns.{standing-unsound, standing-absent}
+use Rattle.gossip_bans.proofs.Branches.{standing-unsound, standing-absent}
 use borrow.Author.Needs.{needs}
 use Rattle.gossip_bans.proofs.tracker.GossipBanTracker.is_banned.Statement.{statement}
 use Rattle.gossip_bans.proofs.tracker.GossipBanTracker.is_banned.Tie as tie

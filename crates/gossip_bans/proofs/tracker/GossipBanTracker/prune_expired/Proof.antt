@@ -3,7 +3,7 @@ use mathlib.Core.Path.{sym, _∙_}
 use borrow.Author.Tests.{not-true, not-false}
 use Rattle.gossip_bans.proofs.Judged.{rows-fit}
 use Rattle.gossip_bans.proofs.Carried.{left-counted}
-use Rattle.gossip_bans.proofs.Turns.{pruned-unsound, pruned-done}
+use Rattle.gossip_bans.proofs.Branches.{pruned-unsound, pruned-done}
 use borrow.Author.Needs.{needs}
 use Rattle.gossip_bans.proofs.tracker.GossipBanTracker.prune_expired.Statement.{statement}
 use Rattle.gossip_bans.proofs.tracker.GossipBanTracker.prune_expired.Tie as tie

@@ -1,7 +1,7 @@
 -- `gossip_bans::tracker::GossipBanTracker::record_violation` meets its contract: by what is found. Assumes nothing.
 use mathlib.Core.Path.{sym, _∙_}
 use Rattle.gossip_bans.proofs.Judged.{sought-unsound, sought-known, sought-unknown}
-use Rattle.gossip_bans.proofs.Turns.{violation-unsound}
+use Rattle.gossip_bans.proofs.Branches.{violation-unsound}
 use borrow.Author.Needs.{needs}
 use Rattle.gossip_bans.proofs.tracker.GossipBanTracker.record_violation.Statement.{statement}
 use Rattle.gossip_bans.proofs.tracker.GossipBanTracker.record_violation.Tie as tie

@@ -1,7 +1,7 @@
 -- `gossip_bans::tracker::GossipBanTracker::score` meets its contract: by what is found. Assumes nothing.
 use mathlib.Core.Path.{sym, _∙_}
 use Rattle.gossip_bans.proofs.Judged.{sought-unsound, sought-known, sought-unknown, unknown-look}
-use Rattle.gossip_bans.proofs.Turns.{scored-unsound, scored-absent}
+use Rattle.gossip_bans.proofs.Branches.{scored-unsound, scored-absent}
 use borrow.Author.Needs.{needs}
 use Rattle.gossip_bans.proofs.tracker.GossipBanTracker.score.Statement.{statement}
 use Rattle.gossip_bans.proofs.tracker.GossipBanTracker.score.Tie as tie

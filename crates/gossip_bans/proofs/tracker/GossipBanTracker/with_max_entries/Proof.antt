@@ -3,7 +3,7 @@ use mathlib.Core.Path.{ap, _∙_}
 use Prim.Native.Nat.{ℕ, _*_}
 use native.Mathlib.Omega.{arith}
 use Rattle.lent_bytes.specs.LentBytes.{put, zeros}
-use Rattle.gossip_bans.proofs.Turns.{made-large, made-short, made-fresh}
+use Rattle.gossip_bans.proofs.Branches.{made-large, made-short, made-fresh}
 use borrow.Author.Needs.{needs}
 use Rattle.gossip_bans.proofs.tracker.GossipBanTracker.with_max_entries.Statement.{statement}
 use Rattle.gossip_bans.proofs.tracker.GossipBanTracker.with_max_entries.Tie as tie

@@ -4,7 +4,7 @@ use Rattle.pubkey.specs.Order.{limiterKeyBytes}
 use Rattle.table_laws.specs.LentLaws.{sought-unsound, sought-known, sought-unknown}
 use Rattle.gossip_limiter_rows.specs.Rows.{limiterLayout, limiterSound}
 use Rattle.gossip_limiter.specs.Limiter.{limitOf, limiterRecordSound}
-use Rattle.gossip_limiter.proofs.Turns.{told-unsound}
+use Rattle.gossip_limiter.proofs.Branches.{told-unsound}
 use borrow.Author.Needs.{needs}
 use Rattle.gossip_limiter.proofs.limiter.ChannelUpdateLimiter.try_acquire.Statement.{statement}
 use Rattle.gossip_limiter.proofs.limiter.ChannelUpdateLimiter.try_acquire.Tie as tie

@@ -1,7 +1,7 @@
 -- `PeerMessagePolicy::admit` meets its contract. Assumes nothing.
 use mathlib.Core.Path.{sym, _∙_}
 use Rattle.peer_message_policy.proofs.Judged.{sought-unsound, sought-known, sought-unknown}
-use Rattle.peer_message_policy.proofs.Turns.{admit-unsound}
+use Rattle.peer_message_policy.proofs.Branches.{admit-unsound}
 use borrow.Author.Needs.{needs}
 use Rattle.peer_message_policy.proofs.policy.PeerMessagePolicy.admit.Statement.{statement}
 use Rattle.peer_message_policy.proofs.policy.PeerMessagePolicy.admit.Tie as tie

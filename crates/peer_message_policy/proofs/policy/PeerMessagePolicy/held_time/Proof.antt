@@ -1,7 +1,7 @@
 -- `PeerMessagePolicy::held_time` meets its contract. Assumes nothing.
 use mathlib.Core.Path.{sym, _∙_}
 use Rattle.peer_message_policy.proofs.Judged.{sought-unsound, sought-known, sought-unknown, unknown-look}
-use Rattle.peer_message_policy.proofs.Turns.{held-unsound, held-nobody}
+use Rattle.peer_message_policy.proofs.Branches.{held-unsound, held-nobody}
 use borrow.Author.Needs.{needs}
 use Rattle.peer_message_policy.proofs.policy.PeerMessagePolicy.held_time.Statement.{statement}
 use Rattle.peer_message_policy.proofs.policy.PeerMessagePolicy.held_time.Tie as tie

@@ -1,7 +1,7 @@
 -- `PeerMessagePolicy::is_banned` meets its contract. Assumes nothing.
 use mathlib.Core.Path.{sym, _∙_}
 use Rattle.peer_message_policy.proofs.Judged.{sought-unsound, sought-known, sought-unknown, unknown-look}
-use Rattle.peer_message_policy.proofs.Turns.{standing-unsound, standing-nobody}
+use Rattle.peer_message_policy.proofs.Branches.{standing-unsound, standing-nobody}
 use borrow.Author.Needs.{needs}
 use Rattle.peer_message_policy.proofs.policy.PeerMessagePolicy.is_banned.Statement.{statement}
 use Rattle.peer_message_policy.proofs.policy.PeerMessagePolicy.is_banned.Tie as tie

@@ -1,7 +1,7 @@
 -- `PeerMessagePolicy::on_disconnected` meets its contract. Assumes nothing.
 use mathlib.Core.Path.{sym, _∙_}
 use Rattle.peer_message_policy.proofs.Judged.{sought-unsound, sought-known, sought-unknown, unknown-look}
-use Rattle.peer_message_policy.proofs.Turns.{disconnected-unsound, disconnected-nobody}
+use Rattle.peer_message_policy.proofs.Branches.{disconnected-unsound, disconnected-nobody}
 use borrow.Author.Needs.{needs}
 use Rattle.peer_message_policy.proofs.policy.PeerMessagePolicy.on_disconnected.Statement.{statement}
 use Rattle.peer_message_policy.proofs.policy.PeerMessagePolicy.on_disconnected.Tie as tie

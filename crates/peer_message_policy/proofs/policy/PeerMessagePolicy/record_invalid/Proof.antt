@@ -1,7 +1,7 @@
 -- `PeerMessagePolicy::record_invalid` meets its contract. Assumes nothing.
 use mathlib.Core.Path.{sym, _∙_}
 use Rattle.peer_message_policy.proofs.Judged.{sought-unsound, sought-known, sought-unknown}
-use Rattle.peer_message_policy.proofs.Turns.{invalid-unsound}
+use Rattle.peer_message_policy.proofs.Branches.{invalid-unsound}
 use borrow.Author.Needs.{needs}
 use Rattle.peer_message_policy.proofs.policy.PeerMessagePolicy.record_invalid.Statement.{statement}
 use Rattle.peer_message_policy.proofs.policy.PeerMessagePolicy.record_invalid.Tie as tie

@@ -1,4 +1,4 @@
--- One turn of the loops of `decimal`: a digit read, a digit counted, a digit written. Assumes nothing.
+-- One round of the loops of `decimal`: a digit read, a digit counted, a digit written. Assumes nothing.
 use mathlib.Core.Bool.{Bool, true, false, cond}
 use mathlib.Core.Path.{_≡_, refl, sym, ap, _∙_}
 use mathlib.Core.List.{List, [], _∷_, _++_}

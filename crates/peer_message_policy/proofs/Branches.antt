@@ -20,8 +20,8 @@ use Rattle.peer_verdict.specs.declared.verdict.Decision.{Decision}
 use Rattle.peer_verdict.specs.declared.verdict.InvalidCause.the-variants as InvalidCause
 use Rattle.peer_verdict.specs.declared.verdict.InvalidDecision.{InvalidDecision}
 use Rattle.peer_settings.specs.Config.{limit}
-use Rattle.peer_state.specs.Entry.{entryNew, entryIsBanned, entryIsSpent, entryExpireWindows, entryToJudge}
-use Rattle.peer_verdict.specs.Verdict.{judged, judgedInvalid, overflows}
+use Rattle.peer_state.specs.Entry.{entryNew, entryIsBanned, entryIsSpent, entryExpireWindows, entryToUpdate}
+use Rattle.peer_verdict.specs.Verdict.{decision, invalidDecision, overflows}
 use Rattle.peer_rows.specs.Rows.{Peers}
 use Rattle.peer_table.specs.Room.{makeRoom}
 use Rattle.peer_message_policy.specs.declared.policy.PeerMessagePolicy.{PeerMessagePolicy}
@@ -50,7 +50,7 @@ pub record GoesOn (c : PeerMessagePolicyConfig) (now : ℕ) (rs : Peers) (k : Li
   pub stores : (e : PeerMessagePolicyEntry) → store k e among ≡ store k e rs
 
 -- a known peer that is not banned is judged on its entry, or on a new one, which is stored in its place
-pub update-known : (c : PeerMessagePolicyConfig) (now : ℕ) (rs : Peers) (k : List ℕ) → length rs ≤ limit c → ascending rs ≡ true → (e : PeerMessagePolicyEntry) → look k rs ≡ some e → entryIsBanned e now ≡ false → (x : PeerMessagePolicyEntry) → x ≡ entryToJudge c e now → GoesOn c now rs k x
+pub update-known : (c : PeerMessagePolicyConfig) (now : ℕ) (rs : Peers) (k : List ℕ) → length rs ≤ limit c → ascending rs ≡ true → (e : PeerMessagePolicyEntry) → look k rs ≡ some e → entryIsBanned e now ≡ false → (x : PeerMessagePolicyEntry) → x ≡ entryToUpdate c e now → GoesOn c now rs k x
 unfolding entryForUpdate
 update-known c now rs k few order e found free x v =
     by-test (entryIsSpent e now)
@@ -80,7 +80,7 @@ module _ (p : PeerMessagePolicy) (s : List ℕ) (k : Pubkey) (size now : ℕ) wh
     unfolding AdmitMeets admitOutcome admit entryForUpdate
     admit-live e found banned r answer = rw (h, found, banned) (record { answers = answer; leaves = refl })
 
-    module _ (e : PeerMessagePolicyEntry) (rs : Peers) (u : entryForUpdate (p .config) now (rowsOf p s) (k .bytes) (look (k .bytes) (rowsOf p s)) ≡ update e rs) (d : Decision) (v : d ≡ judged (p .config) (p .ingress) e size now) where
+    module _ (e : PeerMessagePolicyEntry) (rs : Peers) (u : entryForUpdate (p .config) now (rowsOf p s) (k .bytes) (look (k .bytes) (rowsOf p s)) ≡ update e rs) (d : Decision) (v : d ≡ decision (p .config) (p .ingress) e size now) where
       pub admit-overflow : overflows (d .cause) ≡ true → (r : PeerMessageAdmission) → r ≡ admissionOf p (d .cause) → AdmitMeets p s k size now r s
       unfolding AdmitMeets admitOutcome admit carriedOut
       admit-overflow o r answer = rw (h, u, sym v, o) (record { answers = answer; leaves = refl })
@@ -103,7 +103,7 @@ module _ (p : PeerMessagePolicy) (s : List ℕ) (k : Pubkey) (now : ℕ) where
     unfolding RecordInvalidMeets recordInvalidOutcome recordInvalid entryForUpdate
     invalid-live e found banned r answer = rw (h, found, banned) (record { answers = answer; leaves = refl })
 
-    pub invalid-carried : (e : PeerMessagePolicyEntry) (rs : Peers) → entryForUpdate (p .config) now (rowsOf p s) (k .bytes) (look (k .bytes) (rowsOf p s)) ≡ update e rs → (d : InvalidDecision) → d ≡ judgedInvalid (p .config) e now → (q : PeerMessagePolicy) (t : List ℕ) → Left p (p .ingress) s (store (k .bytes) (d .entry) rs) q t → (r : Invalid) → r ≡ invalidOf q (d .cause) → RecordInvalidMeets p s k now r t
+    pub invalid-carried : (e : PeerMessagePolicyEntry) (rs : Peers) → entryForUpdate (p .config) now (rowsOf p s) (k .bytes) (look (k .bytes) (rowsOf p s)) ≡ update e rs → (d : InvalidDecision) → d ≡ invalidDecision (p .config) e now → (q : PeerMessagePolicy) (t : List ℕ) → Left p (p .ingress) s (store (k .bytes) (d .entry) rs) q t → (r : Invalid) → r ≡ invalidOf q (d .cause) → RecordInvalidMeets p s k now r t
     unfolding RecordInvalidMeets recordInvalidOutcome recordInvalid
     invalid-carried e rs u d v q t left r answer =
         rw (h, u, sym v)
