@@ -1,6 +1,6 @@
 -- Sums and order of integers that are given by a sign and a number, as the code has them. Assumes nothing.
 use mathlib.Core.Path.{_≡_, refl, sym, _∙_, ap}
-use mathlib.Core.Bool.{Bool, true, false, _&&_, not}
+use mathlib.Core.Bool.{Bool, true, false, _&&_, not, and-true, and-false}
 use mathlib.Core.List.{List}
 use Prim.Native.Nat.{ℕ, zero, suc, _+_, _-_, _^_, _<_, _≤_}
 use native.Mathlib.Omega.{arith}
@@ -71,10 +71,6 @@ zero-signed : (s : Bool) → signed s 0 ≡ pos 0
 zero-signed false = refl
 zero-signed true = refl
 
-and-false : (s : Bool) → (s && false) ≡ false
-and-false false = refl
-and-false true = refl
-
 pub zero-is : (s : Bool) (n : ℕ) {limbs : List ℕ} → digits limbs ≡ n → n ≡ 0 → Is (record { negative = false; limbs = limbs }) (signed s n)
 unfolding value minusZero
 zero-is s n {limbs} e z = record { stands = ap pos (e ∙ z) ∙ sym (rw z (zero-signed s)); plain = refl }
@@ -88,10 +84,6 @@ nonzero-is s n {limbs} e z =
     }
 
 -- ════ Whether a sign and a number are an i128 ════
-
-and-true : (s : Bool) → (s && true) ≡ s
-and-true false = refl
-and-true true = refl
 
 pub plus-i128 : (n : ℕ) (t : Bool) → (t ≡ true → n < 2 ^ 127) → (t ≡ false → 2 ^ 127 ≤ n) → t ≡ (inRange (pos n) && true)
 plus-i128 n true h k = sym (and-true (inRange (pos n)) ∙ le-leb n (2 ^ 127 - 1) (le-of-suc-le-suc (h refl)))

@@ -12,6 +12,7 @@ use mir.Val.{Fits}
 use mir.Syntax.{w32}
 use lib.IntN.{ℤ, pos, negsuc, _+ℤ_, _-ℤ_, +ℤ-negℤ-cancel}
 use lib.Signed.{ltZ}
+use Rattle.truths.specs.TruthLaws.{true-is-not-false, both-parts}
 use Rattle.amount.specs.declared.Amount.{Amount}
 use Rattle.amount_limbs.specs.Limbs.{digits}
 use Rattle.amount.specs.Amount.{signed, value, minusZero, Is, saturated, natural, lesser, inRange, isI128}
@@ -46,9 +47,6 @@ whole-below {a} w =
     (digit-under {P = 2 ^ 32} {Q = 2 ^ 32} (w .fit 0 .fits) (w .fit 1 .fits))
     (digit-under {P = 2 ^ 32} {Q = 2 ^ 32} (w .fit 2 .fits) (w .fit 3 .fits)))
 
-true-false : true ≡ false → ⊥
-true-false h = let z : _≡_ {A = ℕ} 0 1 = cc in omega arith
-
 never : (n m : ℕ) → negsuc n ≡ pos m → ⊥
 never n m h = let z : _≡_ {A = ℕ} 0 1 = cc in omega arith
 
@@ -68,12 +66,12 @@ digits-injective (x ∷ xs) (y ∷ ys) l f g e =
 -- a sign and a number are their integer's only ones, minus zero apart
 pub signed-injective : (s t : Bool) (n m : ℕ) → (s && eqb n 0) ≡ false → (t && eqb m 0) ≡ false → signed s n ≡ signed t m → (s ≡ t) × (n ≡ m)
 signed-injective false false n m h k e = (refl, (cc))
-signed-injective true false zero m h k e = absurd (true-false h)
+signed-injective true false zero m h k e = absurd (true-is-not-false refl h)
 signed-injective true false (suc n) m h k e = absurd (never n m e)
-signed-injective false true n zero h k e = absurd (true-false k)
+signed-injective false true n zero h k e = absurd (true-is-not-false refl k)
 signed-injective false true n (suc m) h k e = absurd (never m n (sym e))
-signed-injective true true zero m h k e = absurd (true-false h)
-signed-injective true true (suc n) zero h k e = absurd (true-false k)
+signed-injective true true zero m h k e = absurd (true-is-not-false refl h)
+signed-injective true true (suc n) zero h k e = absurd (true-is-not-false refl k)
 signed-injective true true (suc n) (suc m) h k e = (refl, (cc))
 
 -- an amount is its integer's only one
@@ -102,14 +100,6 @@ is-pos {a} {n} h =
     (same .1, same .0)
 
 -- ════ The range of an i128 ════
-
-and-left : (a b : Bool) → (a && b) ≡ true → a ≡ true
-and-left true b h = refl
-and-left false b h = h
-
-and-right : (a b : Bool) → (a && b) ≡ true → b ≡ true
-and-right true b h = h
-and-right false b h = absurd (true-false (sym h))
 
 -- what is in range stays
 pub saturated-pos : {n : ℕ} → n < 2 ^ 127 → saturated (pos n) ≡ pos n
@@ -145,11 +135,11 @@ saturated-in-range (negsuc n) = le-leb _ _ (min-le-right n (2 ^ 127 - 1))
 -- an i128 is in range and no minus zero
 pub i128-in-range : (a : Amount) → isI128 a ≡ true → inRange (value a) ≡ true
 unfolding isI128
-i128-in-range a h = and-left (inRange (value a)) (not (minusZero a)) h
+i128-in-range a h = both-parts (inRange (value a)) (not (minusZero a)) h .0
 
 pub i128-plain : (a : Amount) → isI128 a ≡ true → minusZero a ≡ false
 unfolding isI128
-i128-plain a h = not-true (minusZero a) (and-right (inRange (value a)) (not (minusZero a)) h)
+i128-plain a h = not-true (minusZero a) (both-parts (inRange (value a)) (not (minusZero a)) h .1)
 
 pub i128-saturated : (a : Amount) → isI128 a ≡ true → saturated (value a) ≡ value a
 i128-saturated a h = saturated-in (value a) (i128-in-range a h)
@@ -195,7 +185,7 @@ natural-negative (negsuc n) h = refl
 
 pub natural-other : (z : ℤ) → ltZ z (pos 0) ≡ false → z ≡ pos (natural z)
 natural-other (pos n) h = refl
-natural-other (negsuc n) h = absurd (true-false h)
+natural-other (negsuc n) h = absurd (true-is-not-false refl h)
 
 pub minus-pos : {n m : ℕ} → m ≤ n → pos n -ℤ pos m ≡ pos (n - m)
 minus-pos {n} {m} h =

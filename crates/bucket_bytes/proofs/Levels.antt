@@ -8,6 +8,7 @@ use borrow.Author.Tests.{eq-eqb, ne-eqb, ltb-true, ltb-false}
 use lib.Dec.{eqb, leb, ltb, lit≤}
 use lib.IntN.{ℤ, pos, negsuc, _+ℤ_, _-ℤ_}
 use lib.Signed.{ltZ}
+use Rattle.truths.specs.TruthLaws.{either}
 use Rattle.amount.specs.declared.Amount.{Amount}
 use Rattle.amount_limbs.specs.Limbs.{saturatedUnsigned, ceilDiv}
 use Rattle.amount.specs.Amount.{Is, value, amountOf, saturated, natural, lesser}
@@ -23,13 +24,9 @@ unfolding saturated
 saturated-twice (pos n) = ap pos (min-eq-left (min-le-right n (2 ^ 127 - 1)))
 saturated-twice (negsuc n) = ap negsuc (min-eq-left (min-le-right n (2 ^ 127 - 1)))
 
-by-test : (b : Bool) (x y : ℤ) → saturated x ≡ x → saturated y ≡ y → saturated (cond b x y) ≡ cond b x y
-by-test true x y h k = h
-by-test false x y h k = k
-
 -- the smaller of an i128 and a cap is an i128
 capped : (z : ℤ) (n : ℕ) → n < 2 ^ 127 → saturated (lesser (saturated z) (pos n)) ≡ lesser (saturated z) (pos n)
-capped z n h = by-test (ltZ (saturated z) (pos n)) (saturated z) (pos n) (saturated-twice z) (saturated-pos h)
+capped z n h = either (λ (x : ℤ). saturated x ≡ x) (ltZ (saturated z) (pos n)) (saturated-twice z) (saturated-pos h)
 
 -- a sum that saturates, then a cap
 pub topped : (available : Amount) (g cap : ℕ) {gain sum level : Amount} → cap < 2 ^ 64 → Whole level → Is gain (pos g) → Is sum (saturated (value available +ℤ value gain)) → Is level (saturated (lesser (value sum) (pos cap))) → level ≡ amountOf (lesser (saturated (value available +ℤ pos g)) (pos cap))

@@ -8,6 +8,7 @@ use borrow.Author.Tests.{ltb-true, ltb-false}
 use lib.Dec.{T, leb, ltb, lit≤}
 use lib.IntN.{ℤ, pos, _+ℤ_, _-ℤ_}
 use lib.Signed.{ltZ}
+use Rattle.truths.specs.TruthLaws.{same-choice}
 use Rattle.amount.specs.Amount.{value, amountOf, saturated, natural, lesser}
 use Rattle.amount.specs.AmountLaws.{saturated-pos, saturated-sum-pos, lesser-pos, minus-pos}
 use Rattle.amount.specs.AmountOfLaws.{value-amountOf}
@@ -53,10 +54,6 @@ refilled-within rate burst a last now h =
     within true x y h k = h
     within false x y h k = k
 
-by-test : {A : Type 0} (b : Bool) {x x′ y y′ : A} → (b ≡ true → x ≡ x′) → (b ≡ false → y ≡ y′) → cond b x y ≡ cond b x′ y′
-by-test true h k = h refl
-by-test false h k = k refl
-
 short : (a bytes : ℕ) → a < bytes → bytes < 2 ^ 64 → min (natural (saturated (pos bytes -ℤ pos a))) 18446744073709551615 ≡ bytes - a
 short a bytes h k =
     rw (minus-pos {n = bytes} {m = a} (le-of-lt h), saturated-pos {n = bytes - a} (lt-of-le-of-lt (sub-le bytes a) (lt-of-lt-of-le k (lit≤ tt))))
@@ -71,7 +68,7 @@ pub take-natural : (c : ByteRateLimitConfig) (a last bytes : ℕ) → a < 2 ^ 64
 unfolding byteTake
 take-natural c a last bytes h k =
     rw (value-of a h)
-    (by-test (ltb a bytes)
+    (same-choice (ltb a bytes)
     (λ e. ap (λ (n : ℕ). record { bucket = byteLevel c (pos a) last; answer = Consumed.No n }) (short a bytes (ltb-true a bytes e) k))
     (λ e. ap (λ (z : ℤ). record { bucket = byteLevel c z last; answer = Consumed.Yes }) (left a bytes (ltb-false a bytes e) h)))
 

@@ -5,16 +5,13 @@ use mathlib.Core.Bool.{Bool, true, false, _||_, cond}
 use Prim.Native.Nat.{ℕ, _+_, _-_, _*_, _/_, _%_, _≤_, min, max}
 use native.Mathlib.Omega.{arith}
 use lib.Dec.{leb, eqb}
+use Rattle.truths.specs.TruthLaws.{either}
 use Rattle.bucket_discrete.specs.declared.discrete.DiscreteTokenBucket.{DiscreteTokenBucket}
 use Rattle.bucket_discrete.specs.declared.discrete.DiscreteConsumed.{DiscreteConsumed}
 use Rattle.bucket_discrete.specs.DiscreteBucket.{discreteRefill, discreteTake}
 use Rattle.bucket_discrete.specs.ElapsedLaws.{counted-within-elapsed}
 
 -- what holds of both holds of the one that a test chooses
-either : {A : Type 0} (P : A → Type 0) (t : Bool) {x y : A} → P x → P y → P (cond t x y)
-either P true first second = first
-either P false first second = second
-
 capped : (a more cap : ℕ) → min (a + more) cap ≤ max a cap
 capped a more cap = omega arith
 

@@ -1,5 +1,5 @@
 -- The order in which entries are evicted: the rank is ordered as (is_currently_banned, score, last_updated_ms). Assumes nothing.
-use mathlib.Core.Bool.{Bool, true, false, _&&_, _||_, cond}
+use mathlib.Core.Bool.{Bool, true, false, _&&_, _||_, cond, or-false}
 use mathlib.Core.Path.{_≡_, refl, sym, ap, _∙_}
 use Prim.Native.Nat.{ℕ, _+_, _*_, _^_, _≤_, _<_}
 use native.Mathlib.Nat.{mul-le-mul-right, add-mul, one-mul}
@@ -32,13 +32,9 @@ goesBefore false e true f = true
 goesBefore true e true f = isLighter e f
 goesBefore false e false f = isLighter e f
 
-or-nothing : (b : Bool) → (b || false) ≡ b
-or-nothing true = refl
-or-nothing false = refl
-
 -- where the scores differ, they decide
 pub lighter-apart : (e f : GossipBanEntry) → (e .score ≡ f .score → ⊥) → ltb (e .score) (f .score) ≡ isLighter e f
-lighter-apart e f h = sym (rw (ne-eqb (e .score) (f .score) h) (or-nothing (ltb (e .score) (f .score))))
+lighter-apart e f h = sym (rw (ne-eqb (e .score) (f .score) h) (or-false (ltb (e .score) (f .score))))
 
 -- where they are equal, the updates do
 pub lighter-level : (e f : GossipBanEntry) → e .score ≡ f .score → ltb (e .«last_updated_ms») (f .«last_updated_ms») ≡ isLighter e f

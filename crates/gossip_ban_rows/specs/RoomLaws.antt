@@ -9,8 +9,9 @@ use native.Mathlib.Omega.{arith}
 use borrow.Author.Tests.{ltb-true, ltb-false, lt-ltb, le-ltb}
 use lib.Dec.{ltb}
 use lib.ListN.{length}
+use Rattle.truths.specs.TruthLaws.{by-test, or-else}
 use Rattle.table.specs.Table.{nothing, best, leastFrom, ascending, look, erase, removeAt}
-use Rattle.table.specs.TableLaws.{by-test, Sub, sub-all, sub-length, sub-erase, sub-retain, sub-removeAt, sub-trans}
+use Rattle.table.specs.TableLaws.{Sub, sub-all, sub-length, sub-erase, sub-retain, sub-removeAt, sub-trans}
 use Rattle.table.specs.LookLaws.{some-is-not-none, sub-look-none}
 use Rattle.table.specs.LeastLaws.{least-found, least-nothing}
 use Rattle.table.specs.PlaceLaws.{length-removeAt}
@@ -119,16 +120,12 @@ module _ (limit duration now : ℕ) (rs : Bans) where
       by-room (λ (qs : Bans). length qs + 1 ≤ limit) (λ h. omega arith) (λ h k. omega arith)
       (λ h k. omega (arith, sub-length (sub-prune duration now rs), length-evict now (pruneExpired duration now rs) (omega arith)))
 
-or-true : (b : Bool) {c : Bool} → c ≡ true → (b || c) ≡ true
-or-true true h = refl
-or-true false h = h
-
 module _ (limit now : ℕ) (k : List ℕ) where
   -- the while ends at once where there is room
   while-free : (turns : ℕ) (rs : Bans) → length rs < limit → evictWhileFull turns limit now k rs ≡ rs
   unfolding evictWhileFull
   while-free zero rs h = refl
-  while-free (suc turns) rs h = rw (or-true (contains k rs) (lt-ltb (length rs) limit h))
+  while-free (suc turns) rs h = rw (or-else (contains k rs) (λ _. lt-ltb (length rs) limit h))
 
   -- and after one turn where one row was too many
   while-full : (turns : ℕ) (rs : Bans) → 0 < turns → look k rs ≡ none → limit ≤ length rs → length (evict now rs) < limit
@@ -141,7 +138,7 @@ module _ (limit duration now : ℕ) (k : List ℕ) (rs : Bans) where
   -- there is room
   pub make-free : length rs < limit → makeRoom limit duration now k rs ≡ rs
   unfolding makeRoom
-  make-free h = rw (or-true (contains k rs) (lt-ltb (length rs) limit h))
+  make-free h = rw (or-else (contains k rs) (λ _. lt-ltb (length rs) limit h))
 
   -- a peer that has an entry needs none
   pub make-present : {e : GossipBanEntry} → look k rs ≡ some e → makeRoom limit duration now k rs ≡ rs

@@ -8,6 +8,7 @@ use Prim.Native.Nat.{ℕ, _*_, _/_, _≤_, _<_}
 use native.Mathlib.Omega.{arith}
 use borrow.Author.Tests.{lt-ltb, le-ltb}
 use lib.ListN.{length}
+use Rattle.truths.specs.TruthLaws.{by-test}
 use Rattle.lent_bytes.specs.LentBytes.{put, zeros, Bytes}
 use Rattle.pubkey.specs.declared.Pubkey.{Pubkey}
 use Rattle.refusal.specs.Refusal.{tooShort, limitTooLarge, unsound}
@@ -16,7 +17,6 @@ use Rattle.bucket_terms.specs.declared.answer.Told.the-variants as Told
 use Rattle.bucket_terms.specs.Answers.{told}
 use Rattle.table.specs.Table.{look, store, erase}
 use Rattle.table.specs.MemoryLaws.{length-rows, holds, put-clear}
-use Rattle.table.specs.TableLaws.{by-test}
 use Rattle.table.specs.Outcome.{same, become, Outcome, Meets}
 use Rattle.table_laws.specs.LentLaws.{long-enough, too-short}
 use Rattle.table_laws.specs.ChangeLaws.{unchanged}

@@ -8,11 +8,11 @@ use native.Mathlib.Omega.{arith}
 use borrow.Author.Tests.{leb-true}
 use lib.Dec.{leb}
 use lib.ListN.{length}
+use Rattle.truths.specs.TruthLaws.{both-parts}
 use Rattle.lent_bytes.specs.LentBytes.{part}
 use Rattle.table.specs.declared.seek.Seek.the-variants.{Unsound, At, Gap}
 use Rattle.table.specs.Table.{ascending, seek, look}
 use Rattle.table.specs.Memory.{rowOf}
-use Rattle.table.specs.TableLaws.{both-parts}
 use Rattle.table.specs.MemoryLaws.{length-rows}
 use Rattle.table_laws.specs.LentLaws as lent
 use Rattle.gossip_ban_rows.specs.declared.entry.GossipBanEntry.{GossipBanEntry}

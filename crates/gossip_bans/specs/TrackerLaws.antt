@@ -9,8 +9,8 @@ use native.Mathlib.Omega.{arith}
 use borrow.Author.Tests.{leb-true, le-leb}
 use lib.Dec.{leb}
 use lib.ListN.{length}
+use Rattle.truths.specs.TruthLaws.{by-test, both, both-parts}
 use Rattle.table.specs.Table.{ascending, look, erase}
-use Rattle.table.specs.TableLaws.{by-test, both, both-parts}
 use Rattle.table.specs.LookLaws.{look-erase-same, sub-look-none}
 use Rattle.table.specs.PlaceLaws.{length-erase-some}
 use Rattle.table.specs.Outcome.{become, same}

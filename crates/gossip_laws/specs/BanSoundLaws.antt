@@ -9,10 +9,10 @@ use native.Mathlib.Omega.{arith}
 use borrow.Author.Tests.{leb-true, le-leb, ltb-false}
 use lib.Dec.{ltb, leb, eqb}
 use lib.ListN.{length}
+use Rattle.truths.specs.TruthLaws.{by-test, both, both-parts}
 use Rattle.lent_bytes.specs.LentBytes.{Bytes}
 use Rattle.pubkey.specs.declared.Pubkey.{Pubkey}
 use Rattle.table.specs.Table.{every, ascending, look}
-use Rattle.table.specs.TableLaws.{by-test, both, both-parts}
 use Rattle.table.specs.LookLaws.{look-rule, sub-look-none}
 use Rattle.table.specs.PlaceLaws.{length-store-some, length-store-none}
 use Rattle.table.specs.Memory.{rows}

@@ -7,8 +7,8 @@ use Prim.Native.Nat.{ℕ, _+_, _-_, _/_, _%_, _<_, min}
 use native.Mathlib.Omega.{arith}
 use lib.Dec.{leb, eqb}
 use lib.ListN.{length}
+use Rattle.truths.specs.TruthLaws.{by-test, neither}
 use Rattle.table.specs.Table.{look}
-use Rattle.table.specs.TableLaws.{by-test}
 use Rattle.table.specs.Outcome.{Outcome}
 use Rattle.bucket_terms.specs.declared.answer.Told.{Told}
 use Rattle.bucket_terms.specs.declared.answer.Told.the-variants as Told
@@ -38,13 +38,9 @@ fresh-asked : (interval burst now : ℕ) → eqb burst 0 ≡ false → askedOf (
 unfolding askedOf discreteTryConsume discreteTake
 fresh-asked interval burst now some-burst = rw (refill-full interval burst now, some-burst)
 
-second-off : (a b : Bool) → (a || b) ≡ false → b ≡ false
-second-off true b h = absurd (let z : _≡_ {A = ℕ} 0 1 = cc in omega arith)
-second-off false b h = h
-
 -- a key without a row is let in wherever it gets one
 pub new-key-let-in : (c : ChannelUpdateRateLimitConfig) (limit : ℕ) (k : List ℕ) (now : ℕ) (rs : Limits) → channelUpdateDisabled c ≡ false
     → look k rs ≡ none → length (roomFor limit c now rs) < limit → tryAcquire c limit k now rs .answer ≡ Told.Yes
 new-key-let-in c limit k now rs on missing free =
     ap (λ (o : Outcome ChannelUpdateLimiterEntry Told). o .answer) (acquire-new c limit k now rs on missing free)
-    ∙ fresh-asked (c .«interval_ms») (c .burst) now (second-off (eqb (c .«interval_ms») 0) (eqb (c .burst) 0) on)
+    ∙ fresh-asked (c .«interval_ms») (c .burst) now (neither (eqb (c .«interval_ms») 0) (eqb (c .burst) 0) on .1)

@@ -10,6 +10,7 @@ use borrow.Author.Tests.{leb-true, leb-false, le-leb, ltb-false}
 use lib.Dec.{ltb, leb}
 use lib.ListN.{length, getD}
 use lib.Seq.{getD-append-add}
+use Rattle.truths.specs.TruthLaws.{by-test, both}
 use Rattle.lent_bytes.specs.LentBytes.{Bytes}
 use Rattle.lent_bytes.specs.LentBytesLaws.{Bytes-nil, Bytes-cons, Bytes-append}
 use Rattle.pubkey.specs.declared.ChannelUpdateLimiterKey.{ChannelUpdateLimiterKey}
@@ -17,7 +18,7 @@ use Rattle.pubkey.specs.Order.{sideByte, limiterKeyBytes}
 use Rattle.pubkey.specs.OrderLaws.{Whole, limiter-key-length}
 use Rattle.table.specs.Table.{rowUnder, every, ascending, look}
 use Rattle.table.specs.Memory.{rows}
-use Rattle.table.specs.TableLaws.{by-test, both, sub-retain}
+use Rattle.table.specs.TableLaws.{sub-retain}
 use Rattle.table.specs.LookLaws.{look-rule}
 use Rattle.table.specs.PlaceLaws.{length-store-some}
 use Rattle.table.specs.Outcome.{Change, become, rowsAfter, Memory, Outcome, Meets}

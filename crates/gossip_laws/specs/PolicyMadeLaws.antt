@@ -6,10 +6,10 @@ use Prim.Native.Nat.{ℕ, _^_, _≤_, _<_}
 use native.Mathlib.Omega.{arith}
 use borrow.Author.Tests.{leb-true}
 use lib.ListN.{length}
+use Rattle.truths.specs.TruthLaws.{both-parts}
 use Rattle.lent_bytes.specs.LentBytes.{Bytes}
 use Rattle.refusal.specs.Refusal.{tooShort}
 use Rattle.table.specs.Memory.{Layout}
-use Rattle.table.specs.TableLaws.{both-parts}
 use Rattle.table.specs.Outcome.{same, become, Memory, Meets}
 use Rattle.table_laws.specs.Lent.{longEnough}
 use Rattle.table_laws.specs.KeptLaws.{length-laid-keyed}

@@ -7,8 +7,8 @@ use Prim.Native.Nat.{ℕ, _≤_, _<_}
 use borrow.Author.Tests.{leb-true, le-leb, lt-leb}
 use lib.Dec.{leb}
 use lib.ListN.{length}
+use Rattle.truths.specs.TruthLaws.{both, both-parts}
 use Rattle.table.specs.Table.{look}
-use Rattle.table.specs.TableLaws.{both, both-parts}
 use Rattle.table.specs.Outcome.{same, become}
 use Rattle.bucket_terms.specs.declared.answer.Told.the-variants as Told
 use Rattle.bucket_discrete.specs.DiscreteBucket.{discreteNew}

@@ -6,9 +6,9 @@ use native.Mathlib.Omega.{arith}
 use borrow.Author.Tests.{leb-true, leb-false, le-leb, lt-leb}
 use lib.Dec.{leb}
 use lib.ListN.{length}
+use Rattle.truths.specs.TruthLaws.{by-test}
 use Rattle.lent_bytes.specs.LentBytes.{Bytes}
 use Rattle.table.specs.Memory.{rows}
-use Rattle.table.specs.TableLaws.{by-test}
 use Rattle.table.specs.RetainLaws.{length-retain}
 use Rattle.table.specs.MemoryLaws.{AllFit, fit-rows, fit-retain}
 use Rattle.table_laws.specs.Raw.{mapEntries}

@@ -8,11 +8,11 @@ use native.Mathlib.Omega.{arith}
 use borrow.Author.Tests.{leb-true, le-leb}
 use lib.Dec.{leb}
 use lib.ListN.{getD}
+use Rattle.truths.specs.TruthLaws.{both, both-parts}
 use Rattle.lent_bytes.specs.LentBytes.{part, le}
 use Rattle.lent_bytes.specs.LentBytesLaws.{getD-part}
 use Rattle.table.specs.Table.{Row}
 use Rattle.table.specs.Memory.{rowOf}
-use Rattle.table.specs.TableLaws.{both, both-parts}
 use Rattle.table.specs.MemoryLaws.{Faithful, key-rowOf}
 use Rattle.table_laws.specs.Raw.{mapRow}
 use Rattle.table_laws.specs.Words.{NumbersFit}

@@ -10,11 +10,11 @@ use borrow.Author.Tests.{leb-true}
 use lib.Dec.{eqb, leb}
 use lib.IntN.{pos}
 use lib.ListN.{length, getD}
+use Rattle.truths.specs.TruthLaws.{both, both-parts}
 use Rattle.amount.specs.declared.Amount.{Amount}
 use Rattle.amount.specs.Amount.{value, minusZero, isI128}
 use Rattle.amount.specs.AmountLaws.{Whole, one-representation, i128-plain}
 use Rattle.amount.specs.AmountOfLaws.{amountOf-whole}
-use Rattle.table.specs.TableLaws.{both, both-parts}
 use Rattle.bucket_terms.specs.declared.limit.ByteRateLimitConfig.{ByteRateLimitConfig}
 use Rattle.bucket_bytes.specs.declared.bytes.ByteTokenBucket.{ByteTokenBucket}
 use Rattle.bucket_bytes.specs.ByteBucket.{byteSound, byteLevel, byteNew}

@@ -9,12 +9,12 @@ use native.Mathlib.Omega.{arith}
 use borrow.Author.Tests.{leb-true, leb-false, le-leb}
 use lib.Dec.{leb}
 use lib.ListN.{length}
+use Rattle.truths.specs.TruthLaws.{both, both-parts, true-is-not-false}
 use Rattle.lent_bytes.specs.LentBytes.{part, Bytes}
 use Rattle.table.specs.declared.seek.Seek.{Seek}
 use Rattle.table.specs.declared.seek.Seek.the-variants.{Unsound, At, Gap}
 use Rattle.table.specs.Table.{look, store, erase, insertAt, removeAt, rowUnder}
 use Rattle.table.specs.Memory.{rowOf, rows, Holds}
-use Rattle.table.specs.TableLaws.{both, both-parts, true-is-not-false}
 use Rattle.table.specs.MemoryLaws.{length-rows}
 use Rattle.table.specs.PlaceLaws.{place-is-sound, gap-erase}
 use Rattle.table_laws.specs.Lent as lent

@@ -9,13 +9,13 @@ use native.Mathlib.Omega.{arith}
 use borrow.Author.Tests.{leb-true, ltb-false}
 use lib.Dec.{ltb}
 use lib.ListN.{length}
+use Rattle.truths.specs.TruthLaws.{by-test}
 use Rattle.lent_bytes.specs.LentBytes.{Bytes}
 use Rattle.pubkey.specs.declared.Pubkey.{Pubkey}
 use Rattle.refusal.specs.Refusal.{limitTooLarge, tooShort}
 use Rattle.table_laws.specs.KeptLaws.{numbers-encode, length-laid-keyed, bytes-laid-keyed}
 use Rattle.peer_rows.specs.RowsLaws.{peer-numbers}
 use Rattle.table.specs.Table.{every, ascending, look}
-use Rattle.table.specs.TableLaws.{by-test}
 use Rattle.table.specs.Memory.{rows}
 use Rattle.peer_settings.specs.declared.config.PeerMessagePolicyConfig.{PeerMessagePolicyConfig}
 use Rattle.peer_state.specs.declared.entry.PeerMessagePolicyEntry.{PeerMessagePolicyEntry}

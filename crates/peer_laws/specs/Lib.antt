@@ -1,4 +1,3 @@
-pub mod TestLaws
 pub mod OneOutcome
 pub mod SoundLaws
 pub mod CallLaws

@@ -10,8 +10,9 @@ use Prim.Native.Nat.{ℕ, _≤_, _<_}
 use native.Mathlib.Omega.{arith}
 use borrow.Author.Tests.{leb-true, ltb-true}
 use lib.Dec.{leb, ltb, eqb}
+use Rattle.truths.specs.TruthLaws.{by-test, both-parts, chosen}
 use Rattle.table.specs.Table.{ascending, look, store, erase}
-use Rattle.table.specs.TableLaws.{by-test, both-parts, Sub, sub-erase, sub-trans}
+use Rattle.table.specs.TableLaws.{Sub, sub-erase, sub-trans}
 use Rattle.table.specs.LookLaws.{look-store-same, look-store-other, sub-look}
 use Rattle.peer_settings.specs.declared.config.PeerMessagePolicyConfig.{PeerMessagePolicyConfig}
 use Rattle.peer_state.specs.declared.entry.PeerMessagePolicyEntry.{PeerMessagePolicyEntry}
@@ -22,7 +23,6 @@ use Rattle.peer_verdict.specs.declared.verdict.Decision.{Decision}
 use Rattle.peer_verdict.specs.declared.verdict.InvalidCause.{InvalidCause}
 use Rattle.peer_verdict.specs.declared.verdict.InvalidCause.the-variants as InvalidCause
 use Rattle.peer_state.specs.Entry.{entryNew, entryIsBanned, entryIsSpent, entryExpireWindows}
-use Rattle.peer_state.specs.EntryLaws.{chosen}
 use Rattle.peer_rows.specs.Rows.{Peers}
 use Rattle.peer_table.specs.Room.{makeRoom}
 use Rattle.peer_table.specs.RoomLaws.{sub-makeRoom}

@@ -8,9 +8,10 @@ use Prim.Native.Nat.{ℕ, _*_, _≤_}
 use native.Mathlib.Omega.{arith}
 use borrow.Author.Tests.{leb-true, le-leb}
 use lib.ListN.{length}
+use Rattle.truths.specs.TruthLaws.{true-is-not-false, chosen}
 use Rattle.lent_bytes.specs.LentBytes.{Bytes}
 use Rattle.table.specs.Table.{every, ascending, look, store}
-use Rattle.table.specs.TableLaws.{true-is-not-false, Sub, sub-erase}
+use Rattle.table.specs.TableLaws.{Sub, sub-erase}
 use Rattle.table.specs.LookLaws.{look-rule}
 use Rattle.table.specs.PlaceLaws.{length-store-some, length-store-none}
 use Rattle.table_laws.specs.Kept as kept
@@ -26,7 +27,7 @@ use Rattle.peer_verdict.specs.declared.verdict.Decision.{Decision}
 use Rattle.peer_verdict.specs.declared.verdict.InvalidCause.the-variants as InvalidCause
 use Rattle.peer_settings.specs.Config.{limit}
 use Rattle.peer_state.specs.Entry.{entrySound, entryIsBanned, entryIsSpent, entryExpireWindows}
-use Rattle.peer_state.specs.EntryLaws.{chosen, new-sound, expire-sound}
+use Rattle.peer_state.specs.EntryLaws.{new-sound, expire-sound}
 use Rattle.peer_state.specs.Ingress.{ingressSound}
 use Rattle.peer_verdict.specs.Verdict.{decision, invalidDecision, overflows}
 use Rattle.peer_verdict.specs.VerdictLaws.{decision-sound, invalid-decision-sound, decision-load}

@@ -8,10 +8,10 @@ use native.Mathlib.Nat.{max-eq-left, max-eq-right}
 use borrow.Author.Tests.{ltb-true, lt-leb}
 use lib.Dec.{eqb, ltb, leb}
 use lib.ListN.{length}
+use Rattle.truths.specs.TruthLaws.{by-test, both-parts}
 use Rattle.pubkey.specs.declared.Pubkey.{Pubkey}
 use Rattle.refusal.specs.Refusal.{unsound}
 use Rattle.table.specs.Table.{ascending, look, store, erase}
-use Rattle.table.specs.TableLaws.{by-test, both-parts}
 use Rattle.peer_settings.specs.declared.config.PeerMessagePolicyConfig.{PeerMessagePolicyConfig}
 use Rattle.peer_state.specs.declared.entry.PeerMessagePolicyEntry.{PeerMessagePolicyEntry}
 use Rattle.peer_state.specs.declared.ingress.FiberIngressBudget.{FiberIngressBudget}

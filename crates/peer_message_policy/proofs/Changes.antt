@@ -7,11 +7,11 @@ use native.Mathlib.Omega.{arith}
 use borrow.Author.Tests.{eqb-true, ltb-true, lt-ltb, le-ltb}
 use lib.Dec.{eqb, ltb, leb}
 use lib.ListN.{length}
+use Rattle.truths.specs.TruthLaws.{both-parts}
 use Rattle.lent_bytes.specs.LentBytes.{put, zeros, Bytes}
 use Rattle.refusal.specs.Refusal.{tooShort, limitTooLarge}
 use Rattle.table.specs.Table.{store, erase, insertAt, removeAt}
 use Rattle.table.specs.Memory.{rows, Holds}
-use Rattle.table.specs.TableLaws.{both-parts}
 use Rattle.table.specs.MemoryLaws.{AllFit, sub-fit, length-rows, fit-rows, holds, put-clear}
 use Rattle.table_laws.specs.ChangeLaws.{over as rows-over, holds-same, gap-within, stored-at, stored-gap, erased-at, store-again}
 use Rattle.table_laws.specs.RoomLaws.{changed-again, left-alone as alone}

@@ -9,11 +9,11 @@ use native.Mathlib.Omega.{arith}
 use borrow.Author.Tests.{leb-true}
 use lib.Dec.{leb}
 use lib.ListN.{length}
+use Rattle.truths.specs.TruthLaws.{both-parts, chosen}
 use Rattle.lent_bytes.specs.LentBytes.{part}
 use Rattle.table.specs.declared.seek.Seek.the-variants.{Unsound, At, Gap}
 use Rattle.table.specs.Table.{ascending, look}
 use Rattle.table.specs.Memory.{rowOf}
-use Rattle.table.specs.TableLaws.{both-parts}
 use Rattle.table.specs.PlaceLaws.{gap-look}
 use Rattle.table.specs.MemoryLaws.{length-rows}
 use Rattle.table_laws.specs.Lent.{lentSound}
@@ -23,7 +23,7 @@ use Rattle.peer_settings.specs.declared.config.PeerMessagePolicyConfig.{PeerMes
 use Rattle.peer_state.specs.declared.entry.PeerMessagePolicyEntry.{PeerMessagePolicyEntry}
 use Rattle.peer_settings.specs.Config.{limit}
 use Rattle.peer_state.specs.Entry.{entrySound, entryNew, entryIsSpent, entryToUpdate}
-use Rattle.peer_state.specs.EntryLaws.{chosen, new-sound}
+use Rattle.peer_state.specs.EntryLaws.{new-sound}
 use Rattle.peer_rows.specs.Rows.{peerLayout, peerSound}
 use Rattle.peer_message_policy.specs.declared.policy.PeerMessagePolicy.{PeerMessagePolicy}
 use Rattle.peer_message_policy.specs.Policy.{rowsOf, policySound, sound}

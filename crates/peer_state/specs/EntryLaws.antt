@@ -6,16 +6,12 @@ use native.Mathlib.Nat.{min-le-right}
 use native.Mathlib.Omega.{arith}
 use borrow.Author.Tests.{leb-true, le-leb}
 use lib.Dec.{ltb, leb, eqb}
+use Rattle.truths.specs.TruthLaws.{chosen}
 use Rattle.peer_settings.specs.declared.config.PeerMessagePolicyConfig.{PeerMessagePolicyConfig}
 use Rattle.peer_state.specs.declared.entry.ViolationWindow.{ViolationWindow}
 use Rattle.peer_state.specs.declared.entry.Ban.{Ban}
 use Rattle.peer_state.specs.declared.entry.PeerMessagePolicyEntry.{PeerMessagePolicyEntry}
 use Rattle.peer_state.specs.Entry.{windowExpire, windowCounted, windowRecord, entryNew, entryBan, entryExpireWindows, entryUsed, entrySound}
-
--- what holds of both sides of a choice, each under its test, holds of the choice
-pub chosen : {A : Type 0} (P : A → Type 0) (t : Bool) {x y : A} → (t ≡ true → P x) → (t ≡ false → P y) → P (cond t x y)
-chosen P true first second = first refl
-chosen P false first second = second refl
 
 -- ════ Windows ════
 

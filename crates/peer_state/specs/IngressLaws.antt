@@ -5,13 +5,13 @@ use Prim.Native.Nat.{ℕ, _+_, _-_, _≤_, _<_}
 use native.Mathlib.Omega.{arith}
 use borrow.Author.Tests.{leb-true, leb-false, ltb-true, ltb-false, le-leb}
 use lib.Dec.{ltb, leb, eqb}
+use Rattle.truths.specs.TruthLaws.{chosen, or-else}
 use Rattle.peer_settings.specs.declared.config.PeerMessagePolicyConfig.{PeerMessagePolicyConfig}
 use Rattle.peer_state.specs.declared.ingress.FiberIngressBudget.{FiberIngressBudget}
 use Rattle.peer_state.specs.declared.ingress.Reservation.{Reservation}
 use Rattle.peer_state.specs.declared.ingress.Reservation.the-variants.{Left, NoSlot, BytesShort, Overflow}
 use Rattle.peer_settings.specs.Config.{unlimited}
 use Rattle.peer_state.specs.Ingress.{ingressReserved, tryReserve, ingressReleased, ingressSound}
-use Rattle.peer_state.specs.EntryLaws.{chosen}
 
 -- how many messages and bytes may be in flight under a ceiling
 pub record UnderCeiling (c : PeerMessagePolicyConfig) (i : FiberIngressBudget) : Type 0 where
@@ -23,13 +23,9 @@ sound-within u h =
     let (m, b) = and-eq-true-iff _ _ .0 (rw u at h) in
     record { messages = leb-true _ _ m; bytes = leb-true _ _ b }
 
-or-true : (t : Bool) {s : Bool} → (t ≡ false → s ≡ true) → (t || s) ≡ true
-or-true true k = refl
-or-true false k = k refl
-
 pub within-sound : (c : PeerMessagePolicyConfig) (i : FiberIngressBudget) → (unlimited c ≡ false → UnderCeiling c i) → ingressSound c i ≡ true
 within-sound c i k =
-    or-true (unlimited c) (λ u. rw (le-leb _ _ (k u .messages), le-leb _ _ (k u .bytes)))
+    or-else (unlimited c) (λ u. rw (le-leb _ _ (k u .messages), le-leb _ _ (k u .bytes)))
 
 -- a released load stays within the ceiling
 pub released-sound : (c : PeerMessagePolicyConfig) (i : FiberIngressBudget) (size : ℕ) → ingressSound c i ≡ true → ingressSound c (ingressReleased i size) ≡ true

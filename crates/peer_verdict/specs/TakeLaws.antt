@@ -9,6 +9,7 @@ use borrow.Author.Tests.{ltb-true, le-leb, le-ltb}
 use lib.Dec.{ltb, leb, eqb, lit≤}
 use lib.IntN.{ℤ, pos, negsuc, negℤ, _+ℤ_, _-ℤ_}
 use lib.Signed.{ltZ}
+use Rattle.truths.specs.TruthLaws.{chosen}
 use Rattle.amount_limbs.specs.Limbs.{digits}
 use Rattle.amount.specs.Amount.{limbs, value, amountOf, Is, isI128, saturated, natural, lesser}
 use Rattle.amount.specs.AmountOfLaws.{amountOf-is}
@@ -24,7 +25,6 @@ use Rattle.peer_state.specs.declared.entry.Level.{Level}
 use Rattle.peer_verdict.specs.declared.verdict.Take.{Take}
 use Rattle.peer_settings.specs.Config.{messageLimitDisabled, bytesOf}
 use Rattle.peer_verdict.specs.Verdict.{passes, missing, messageBucket, takeMessage, takeBytes}
-use Rattle.peer_state.specs.EntryLaws.{chosen}
 
 -- ════ The message bucket ════
 

@@ -3,6 +3,7 @@ use mathlib.Core.Path.{_≡_, refl, subst}
 use mathlib.Core.Bool.{true, false, and-eq-true-iff}
 use Prim.Native.Nat.{ℕ, _≤_}
 use borrow.Author.Tests.{not-true}
+use Rattle.truths.specs.TruthLaws.{chosen}
 use Rattle.peer_settings.specs.declared.config.PeerMessagePolicyConfig.{PeerMessagePolicyConfig}
 use Rattle.peer_state.specs.declared.entry.Level.{Level}
 use Rattle.peer_state.specs.declared.entry.ViolationWindow.{ViolationWindow}
@@ -33,7 +34,7 @@ use Rattle.peer_verdict.specs.Verdict.{
   noted,
   invalidDecision,
 }
-use Rattle.peer_state.specs.EntryLaws.{chosen, EntryHolds, sound-holds, holds-sound, ban-holds, used-holds, count-record}
+use Rattle.peer_state.specs.EntryLaws.{EntryHolds, sound-holds, holds-sound, ban-holds, used-holds, count-record}
 use Rattle.peer_state.specs.IngressLaws.{ReservationHolds, reservation-holds}
 use Rattle.peer_verdict.specs.TakeLaws.{message-level, bytes-level, bytes-missing}
 

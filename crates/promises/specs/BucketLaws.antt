@@ -9,7 +9,7 @@ use native.Mathlib.Nat.{le-trans, le-of-lt, le-of-suc-le-suc, lt-of-le-of-lt, mu
 use native.Mathlib.Omega.{arith}
 use borrow.Author.Tests.{leb-true, leb-false, le-leb, lt-leb}
 use lib.Dec.{leb}
-use Rattle.table.specs.TableLaws.{by-test, both, both-parts}
+use Rattle.truths.specs.TruthLaws.{by-test, both, both-parts}
 use Rattle.peer_settings.specs.declared.config.PeerMessagePolicyConfig.{PeerMessagePolicyConfig}
 use Rattle.promises.specs.Lives.{Allow, within, Allowance, FromEvery}
 

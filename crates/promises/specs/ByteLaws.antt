@@ -9,7 +9,7 @@ use native.Mathlib.Omega.{arith}
 use borrow.Author.Tests.{leb-true, ltb-false, le-ltb}
 use lib.Dec.{leb, ltb}
 use lib.IntN.{pos}
-use Rattle.table.specs.TableLaws.{by-test}
+use Rattle.truths.specs.TruthLaws.{by-test}
 use Rattle.bucket_terms.specs.Limit.{byteDisabled}
 use Rattle.bucket_bytes.specs.ByteBucket.{byteLevel, byteTryConsume}
 use Rattle.bucket_bytes.specs.Natural.{refilledTo, refilledAt, naturalTake}

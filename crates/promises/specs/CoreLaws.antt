@@ -8,10 +8,10 @@ use mathlib.Core.Option.{Option, none, some}
 use Prim.Native.Nat.{ℕ, _^_, _<_, _≤_}
 use native.Mathlib.Nat.{le-trans}
 use native.Mathlib.Omega.{arith}
+use Rattle.truths.specs.TruthLaws.{by-test}
 use Rattle.pubkey.specs.declared.Pubkey.{Pubkey}
 use Rattle.refusal.specs.Refusal.{Said, gives, refused}
 use Rattle.table.specs.Table.{look, ascending}
-use Rattle.table.specs.TableLaws.{by-test}
 use Rattle.peer_settings.specs.declared.config.PeerMessagePolicyConfig.{PeerMessagePolicyConfig}
 use Rattle.peer_state.specs.declared.entry.PeerMessagePolicyEntry.{PeerMessagePolicyEntry}
 use Rattle.peer_state.specs.declared.ingress.Reservation.{Reservation}

@@ -7,10 +7,11 @@ use mathlib.Core.Logic.{⊎-elim}
 use mathlib.Core.Option.{Option, none, some}
 use Prim.Native.Nat.{ℕ, _≤_}
 use native.Mathlib.Omega.{arith}
+use Rattle.truths.specs.TruthLaws.{by-test, true-is-not-false, chosen}
 use Rattle.pubkey.specs.declared.Pubkey.{Pubkey}
 use Rattle.refusal.specs.Refusal.{Said, gives, refused}
 use Rattle.table.specs.Table.{look, ascending, erase}
-use Rattle.table.specs.TableLaws.{by-test, true-is-not-false, sub-ascending, sub-trans, sub-erase, ascending-store}
+use Rattle.table.specs.TableLaws.{sub-ascending, sub-trans, sub-erase, ascending-store}
 use Rattle.peer_settings.specs.declared.config.PeerMessagePolicyConfig.{PeerMessagePolicyConfig}
 use Rattle.peer_state.specs.declared.entry.PeerMessagePolicyEntry.{PeerMessagePolicyEntry}
 use Rattle.peer_verdict.specs.declared.verdict.Cause.{Cause}
@@ -19,7 +20,6 @@ use Rattle.peer_verdict.specs.declared.verdict.Decision.{Decision}
 use Rattle.peer_verdict.specs.declared.verdict.InvalidCause.{InvalidCause}
 use Rattle.peer_verdict.specs.declared.verdict.InvalidCause.the-variants as InvalidCause
 use Rattle.peer_state.specs.Entry.{entryIsBanned, entryIsSpent, entryExpireWindows}
-use Rattle.peer_state.specs.EntryLaws.{chosen}
 use Rattle.peer_verdict.specs.Verdict.{invalidDecision, overflows}
 use Rattle.peer_rows.specs.Rows.{Peers}
 use Rattle.peer_table.specs.RoomLaws.{sub-makeRoom}

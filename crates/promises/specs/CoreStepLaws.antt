@@ -8,12 +8,13 @@ use mathlib.Core.Logic.{_⊎_, inl, inr, ⊎-elim}
 use mathlib.Core.Option.{Option, none, some}
 use Prim.Native.Nat.{ℕ, _^_, _<_, _≤_}
 use native.Mathlib.Omega.{arith}
+use Rattle.truths.specs.TruthLaws.{by-test, true-is-not-false}
 use Rattle.pubkey.specs.declared.Pubkey.{Pubkey}
 use Rattle.pubkey.specs.Order.{compareBytes}
 use Rattle.pubkey.specs.OrderLaws.{compare-self, compare-equal, pubkey-fields}
 use Rattle.refusal.specs.Refusal.{Said, gives, refused, overflow}
 use Rattle.table.specs.Table.{look, ascending}
-use Rattle.table.specs.TableLaws.{by-answer, by-test, true-is-not-false}
+use Rattle.table.specs.TableLaws.{by-answer}
 use Rattle.peer_settings.specs.declared.config.PeerMessagePolicyConfig.{PeerMessagePolicyConfig}
 use Rattle.peer_state.specs.declared.entry.PeerMessagePolicyEntry.{PeerMessagePolicyEntry}
 use Rattle.peer_state.specs.declared.ingress.Reservation.{Reservation}

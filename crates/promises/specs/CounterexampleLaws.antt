@@ -4,7 +4,7 @@ use mathlib.Core.Bool.{true, false}
 use mathlib.Core.List.{List, [], _∷_}
 use Prim.Native.Nat.{ℕ, _-_, _/_, _≤_}
 use native.Mathlib.Omega.{arith}
-use Rattle.table.specs.TableLaws.{true-is-not-false}
+use Rattle.truths.specs.TruthLaws.{true-is-not-false}
 use Rattle.peer_settings.specs.declared.config.PeerMessagePolicyConfig.{PeerMessagePolicyConfig}
 use Rattle.bucket_discrete.specs.DiscreteBucket.{discreteTryConsume, discreteRefill, discreteTake}
 use Rattle.peer_settings.specs.Config.{messageLimitDisabled}

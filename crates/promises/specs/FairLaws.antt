@@ -7,7 +7,7 @@ use mathlib.Core.List.{List, [], _∷_}
 use Prim.Native.Nat.{ℕ, _+_, _-_, _*_, _/_, _^_, _<_, _≤_}
 use native.Mathlib.Nat.{le-refl, mul-add, mul-sub, mul-le-mul-left, mul-div-le}
 use native.Mathlib.Omega.{arith}
-use Rattle.table.specs.TableLaws.{by-test}
+use Rattle.truths.specs.TruthLaws.{by-test}
 use Rattle.bucket_terms.specs.Limit.{byteDisabled}
 use Rattle.peer_settings.specs.declared.config.PeerMessagePolicyConfig.{PeerMessagePolicyConfig}
 use Rattle.peer_state.specs.declared.entry.Level.{Level}

@@ -9,7 +9,7 @@ use native.Mathlib.Nat.{add-mul, mul-assoc, mul-comm, mul-le-mul-right, div-add-
 use native.Mathlib.Omega.{arith}
 use borrow.Author.Tests.{leb-true, leb-false, eqb-true, eqb-false, ne-eqb}
 use lib.Dec.{leb, eqb}
-use Rattle.table.specs.TableLaws.{by-test}
+use Rattle.truths.specs.TruthLaws.{by-test, neither, through}
 use Rattle.bucket_terms.specs.declared.answer.Consumed.{Consumed}
 use Rattle.bucket_terms.specs.declared.answer.Consumed.the-variants as Consumed
 use Rattle.bucket_discrete.specs.DiscreteBucket.{discreteTopped, discreteRefill, discreteTaken, discreteTake, discreteTryConsume}
@@ -19,7 +19,6 @@ use Rattle.peer_verdict.specs.declared.verdict.Take.{Take}
 use Rattle.peer_settings.specs.Config.{messageLimitDisabled}
 use Rattle.peer_state.specs.Entry.{level}
 use Rattle.peer_verdict.specs.Verdict.{messageBucket, messagesTaken, takeMessage}
-use Rattle.peer_laws.specs.TestLaws.{neither}
 use Rattle.promises.specs.Lives.{Allow, Near, allows}
 use Rattle.promises.specs.BucketLaws.{newest, InOrder, charged, Terms, Bounded, bounded-new, bounded-next, NotMore, NotLess, WithinParts, Backed, backed-next, backed-enough}
 
@@ -47,10 +46,6 @@ same-by : {A : Type 0} {x y : A} (s t : Bool) → (s ≡ true → x ≡ y) → (
 same-by true t h k = h refl
 same-by false true h k = k refl
 same-by false false h k = refl
-
-through : {A B : Type 0} (f : A → B) (t : Bool) (x y : A) → f (cond t x y) ≡ cond t (f x) (f y)
-through f true x y = refl
-through f false x y = refl
 
 module _ (c : PeerMessagePolicyConfig) (on : messageLimitDisabled c ≡ false) where
   both-on : (eqb (c .«peer_message_interval_ms») 0 ≡ false) × (eqb (c .«peer_message_burst») 0 ≡ false)

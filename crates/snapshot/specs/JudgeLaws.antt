@@ -9,9 +9,9 @@ use borrow.Author.Tests.{ltb-false, lt-ltb, le-ltb}
 use lib.Dec.{ltb}
 use lib.Seq.{take-all}
 use lib.ListN.{length, take, drop, length-drop}
+use Rattle.truths.specs.TruthLaws.{both, both-parts}
 use Rattle.lent_bytes.specs.LentBytes.{part}
 use Rattle.refusal.specs.Refusal.{limitTooLarge, unsound}
-use Rattle.table.specs.TableLaws.{both, both-parts}
 use Rattle.peer_settings.specs.declared.config.PeerMessagePolicyConfig.{PeerMessagePolicyConfig}
 use Rattle.peer_state.specs.declared.ingress.FiberIngressBudget.{FiberIngressBudget}
 use Rattle.peer_message_policy.specs.declared.policy.PeerMessagePolicy.{PeerMessagePolicy}

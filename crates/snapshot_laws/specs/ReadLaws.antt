@@ -8,10 +8,10 @@ use native.Mathlib.Omega.{arith}
 use borrow.Author.Tests.{leb-true}
 use lib.Seq.{take-at}
 use lib.ListN.{length, take, drop, length-drop}
+use Rattle.truths.specs.TruthLaws.{both-parts}
 use Rattle.lent_bytes.specs.LentBytes.{part, zeros, Bytes}
 use Rattle.lent_bytes.specs.LentBytesLaws.{length-part, Bytes-part, Bytes-drop}
 use Rattle.table.specs.Table.{every, ascending}
-use Rattle.table.specs.TableLaws.{both-parts}
 use Rattle.table.specs.Memory.{rows, tableBytes, laid, Holds}
 use Rattle.table.specs.MemoryLaws.{AllFit, length-rows, length-tableBytes, tableBytes-rows, fit-rows}
 use Rattle.table.specs.MemoryLaws as memory

@@ -7,9 +7,9 @@ use Prim.Native.Nat.{ℕ, _+_, _*_}
 use native.Mathlib.Omega.{arith}
 use lib.Seq.{take-at, drop-at, drop-drop}
 use lib.ListN.{length, take, drop}
+use Rattle.truths.specs.TruthLaws.{both}
 use Rattle.lent_bytes.specs.LentBytes.{part}
 use Rattle.table.specs.Table.{every, ascending}
-use Rattle.table.specs.TableLaws.{both}
 use Rattle.table.specs.MemoryLaws.{rows-front}
 use Rattle.peer_rows.specs.Rows.{Peers, peerLayout, peerSound}
 use Rattle.peer_message_policy.specs.declared.policy.PeerMessagePolicy.{PeerMessagePolicy}

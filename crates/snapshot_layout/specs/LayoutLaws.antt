@@ -10,11 +10,12 @@ use borrow.Author.Tests.{eqb-true, eq-eqb, ne-eqb}
 use lib.Dec.{eqb}
 use lib.ListN.{length, take, drop, length-append, take-append-drop, drop-of-length-le}
 use lib.Seq.{take-at, drop-drop, take-append-seam, drop-append-seam}
+use Rattle.truths.specs.TruthLaws.{both-parts}
 use Rattle.lent_bytes.specs.LentBytes.{part, le, bytes, put, Bytes}
 use Rattle.lent_bytes.specs.LentBytesLaws.{length-part, part-append, le-bytes-2, put-put-at}
 use Rattle.snapshot_layout.specs.Layout.{countSize, slotSize, contentsSize, Part, Slot, slotsOf, bodiesSize, snapshotSize}
 use Rattle.snapshot_layout.specs.Layout.{contentsFrom, contents, bodies, snapshotOf, slotSays, saysFrom, laidOut, cutFrom, cut, SlotsFit}
-use Rattle.snapshot_layout.specs.SlotLaws.{both, past-end, length-contentsFrom, length-contents, says-end, written-says-all, says-written-all, spelt, one-slot}
+use Rattle.snapshot_layout.specs.SlotLaws.{past-end, length-contentsFrom, length-contents, says-end, written-says-all, says-written-all, spelt, one-slot}
 
 -- ════ Lengths ════
 
@@ -34,7 +35,7 @@ length-snapshot ps =
 pub length-laid : (s : List ℕ) (qs : List Slot) → laidOut s qs ≡ true → length s ≡ snapshotSize qs
 unfolding laidOut
 length-laid s qs h =
-    says-end s countSize (contentsSize (length qs)) qs (both (eqb (le (part s 0 countSize)) (length qs)) _ h .1)
+    says-end s countSize (contentsSize (length qs)) qs (both-parts (eqb (le (part s 0 countSize)) (length qs)) _ h .1)
 
 -- bytes that are too short for their slots are not laid out
 pub too-short : (s : List ℕ) (qs : List Slot) → length s < snapshotSize qs → laidOut s qs ≡ false
@@ -116,7 +117,7 @@ unfolding laidOut snapshotOf contents cut part
 accepted-is s qs b h =
     let n : ℕ = length qs in
     let from : ℕ = contentsSize n in
-    let halves = both (eqb (le (part s 0 countSize)) n) _ h in
+    let halves = both-parts (eqb (le (part s 0 countSize)) n) _ h in
     let end : length s ≡ snapshotSize qs = length-laid s qs h in
     let count : part s 0 countSize ≡ bytes countSize n = spelt s 0 countSize n b (omega arith) (eqb-true _ _ (halves .0)) in
     let told : part s countSize (slotSize * n) ≡ contentsFrom from qs = says-written-all s countSize from qs b (omega arith) (halves .1) in
@@ -135,8 +136,8 @@ one-from s at from [] [] n f g = refl
 one-from s at from [] (r ∷ rs) n f g = let z : _≡_ {A = ℕ} 0 1 = omega arith in cc
 one-from s at from (q ∷ qs) [] n f g = let z : _≡_ {A = ℕ} 0 1 = omega arith in cc
 one-from s at from (q ∷ qs) (r ∷ rs) n f g =
-    let left = both (slotSays s at from q) _ f in
-    let right = both (slotSays s at from r) _ g in
+    let left = both-parts (slotSays s at from q) _ f in
+    let right = both-parts (slotSays s at from r) _ g in
     let first : q ≡ r = one-slot s at from q r (left .0) (right .0) in
     let others : qs ≡ rs =
     one-from s (at + slotSize) (from + q .size) qs rs (omega arith) (left .1)
@@ -147,8 +148,8 @@ one-from s at from (q ∷ qs) (r ∷ rs) n f g =
 pub one-layout : (s : List ℕ) (qs rs : List Slot) → laidOut s qs ≡ true → laidOut s rs ≡ true → qs ≡ rs
 unfolding laidOut
 one-layout s qs rs f g =
-    let left = both (eqb (le (part s 0 countSize)) (length qs)) _ f in
-    let right = both (eqb (le (part s 0 countSize)) (length rs)) _ g in
+    let left = both-parts (eqb (le (part s 0 countSize)) (length qs)) _ f in
+    let right = both-parts (eqb (le (part s 0 countSize)) (length rs)) _ g in
     let n : length qs ≡ length rs = sym (eqb-true _ _ (left .0)) ∙ eqb-true _ _ (right .0) in
     one-from s countSize (contentsSize (length qs)) qs rs n (left .1)
     (ap (λ (m : ℕ). saysFrom s countSize (contentsSize m) rs) n ∙ right .1)

@@ -7,6 +7,7 @@ use Prim.Native.Nat.{ℕ, _+_, _-_}
 use native.Mathlib.Omega.{arith}
 use lib.Dec.{eqb}
 use lib.ListN.{length}
+use Rattle.truths.specs.TruthLaws.{either}
 use Rattle.lent_bytes.specs.LentBytes.{part}
 use Rattle.snapshot_layout.specs.declared.place.Place.{Place}
 use Rattle.snapshot_layout.specs.declared.place.Place.the-variants as Place
@@ -14,18 +15,12 @@ use Rattle.snapshot_layout.specs.Layout.{contentsSize, Part, Slot, slots
 use Rattle.snapshot_layout.specs.Layout.{placeFrom, placeOf, Between}
 use Rattle.snapshot_layout.specs.LayoutLaws.{cut-snapshot}
 
--- a claim on the first of some slots and on the others
-first-or-later : (P : Place → Type 0) (b : Bool) (first later : Place) → P first → P later → P (cond b first later)
-first-or-later P true first later f l = f
-first-or-later P false first later f l = l
-
 -- a body that is found stands between where the bodies begin and where they end
 within-from : (kind from : ℕ) (qs : List Slot) (a e : ℕ) → placeFrom kind from qs ≡ Place.At a e → Between from a e (from + bodiesSize qs)
 unfolding placeFrom
 within-from kind from [] a e = λ h. let z : _≡_ {A = ℕ} 0 1 = cc in record { begins = omega arith; ends = omega arith; order = omega arith }
 within-from kind from (q ∷ qs) a e =
-    first-or-later (λ (p : Place). p ≡ Place.At a e → Between from a e (from + (q .size + bodiesSize qs))) (eqb (q .kind) kind)
-    (Place.At from (from + q .size)) (placeFrom kind (from + q .size) qs)
+    either (λ (p : Place). p ≡ Place.At a e → Between from a e (from + (q .size + bodiesSize qs))) (eqb (q .kind) kind)
     (λ h. let f : from ≡ a = cc in let g : from + q .size ≡ e = cc in record { begins = omega arith; ends = omega arith; order = omega arith })
     (λ h. let r = within-from kind (from + q .size) qs a e h in record { begins = omega arith; ends = omega arith; order = omega arith })
 

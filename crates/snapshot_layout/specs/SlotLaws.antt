@@ -9,17 +9,11 @@ use borrow.Author.Tests.{eqb-true, eq-eqb, ne-eqb}
 use lib.Dec.{eqb}
 use lib.ListN.{length, take, drop, getD, length-append}
 use lib.Seq.{take-at, drop-at, drop-cons}
+use Rattle.truths.specs.TruthLaws.{both-parts}
 use Rattle.lent_bytes.specs.LentBytes.{part, le, bytes, Bytes}
 use Rattle.lent_bytes.specs.LentBytesLaws.{length-part, part-part, part-append, take-part, drop-part, bytes-le, le-bytes-2, le-bytes-4, Bytes-part}
 use Rattle.snapshot_layout.specs.Layout.{kindSize, numberSize, slotSize, contentsSize, Slot, slots, bodiesSize}
 use Rattle.snapshot_layout.specs.Layout.{slotBytes, contentsFrom, contents, slotSays, saysFrom, KindsFit}
-
--- ════ Tests ════
-
--- both halves of a test that holds
-pub both : (a b : Bool) → (a && b) ≡ true → (a ≡ true) × (b ≡ true)
-both true b h = (refl, h)
-both false b h = let z : false ≡ true = h in (z, cc)
 
 -- ════ Lengths ════
 
@@ -69,8 +63,8 @@ spelt s at n v b h e =
 pub says-written : (s : List ℕ) (at from : ℕ) (q : Slot) → Bytes s → at + slotSize ≤ length s → slotSays s at from q ≡ true → part s at slotSize ≡ slotBytes from q
 unfolding slotSays slotBytes
 says-written s at from q b h e =
-    let halves = both (eqb (le (part s at kindSize)) (q .kind)) _ e in
-    let rest = both (eqb (le (part s (at + kindSize) numberSize)) from) _ (halves .1) in
+    let halves = both-parts (eqb (le (part s at kindSize)) (q .kind)) _ e in
+    let rest = both-parts (eqb (le (part s (at + kindSize) numberSize)) from) _ (halves .1) in
     let kind : part s at kindSize ≡ bytes kindSize (q .kind) = spelt s at kindSize (q .kind) b (omega arith) (eqb-true _ _ (halves .0)) in
     let place : part s (at + kindSize) numberSize ≡ bytes numberSize from =
     spelt s (at + kindSize) numberSize from b (omega arith) (eqb-true _ _ (rest .0)) in
@@ -84,12 +78,12 @@ says-written s at from q b h e =
 pub one-slot : (s : List ℕ) (at from : ℕ) (q r : Slot) → slotSays s at from q ≡ true → slotSays s at from r ≡ true → q ≡ r
 unfolding slotSays
 one-slot s at from q r f g =
-    let left = both (eqb (le (part s at kindSize)) (q .kind)) _ f in
-    let right = both (eqb (le (part s at kindSize)) (r .kind)) _ g in
+    let left = both-parts (eqb (le (part s at kindSize)) (q .kind)) _ f in
+    let right = both-parts (eqb (le (part s at kindSize)) (r .kind)) _ g in
     let kind : q .kind ≡ r .kind = sym (eqb-true _ _ (left .0)) ∙ eqb-true _ _ (right .0) in
     let size : q .size ≡ r .size =
-    sym (eqb-true _ _ (both (eqb (le (part s (at + kindSize) numberSize)) from) _ (left .1) .1))
-    ∙ eqb-true _ _ (both (eqb (le (part s (at + kindSize) numberSize)) from) _ (right .1) .1) in
+    sym (eqb-true _ _ (both-parts (eqb (le (part s (at + kindSize) numberSize)) from) _ (left .1) .1))
+    ∙ eqb-true _ _ (both-parts (eqb (le (part s (at + kindSize) numberSize)) from) _ (right .1) .1) in
     (λ d. record { kind = kind d; size = size d })
 
 -- ════ Many slots ════
@@ -118,7 +112,7 @@ pub says-end : (s : List ℕ) (at from : ℕ) (qs : List Slot) → saysFrom s at
 unfolding saysFrom
 says-end s at from [] h = omega (arith, eqb-true (length s) from h)
 says-end s at from (q ∷ qs) h =
-    omega (arith, says-end s (at + slotSize) (from + q .size) qs (both (slotSays s at from q) _ h .1))
+    omega (arith, says-end s (at + slotSize) (from + q .size) qs (both-parts (slotSays s at from q) _ h .1))
 
 -- written contents tell of every part
 pub written-says-all : (s : List ℕ) (at from : ℕ) (qs : List Slot) → KindsFit qs → from + bodiesSize qs < 2 ^ 32 → length s ≡ from + bodiesSize qs
@@ -136,7 +130,7 @@ pub says-written-all : (s : List ℕ) (at from : ℕ) (qs : List Slot) → Bytes
 unfolding saysFrom contentsFrom part
 says-written-all s at from [] b h e = refl
 says-written-all s at from (q ∷ qs) b h e =
-    let halves = both (slotSays s at from q) _ e in
+    let halves = both-parts (slotSays s at from q) _ e in
     let n : slotSize * suc (length qs) ≡ slotSize + slotSize * length qs = omega arith in
     let first : part s at slotSize ≡ slotBytes from q = says-written s at from q b (omega arith) (halves .0) in
     let others : part s (at + slotSize) (slotSize * length qs) ≡ contentsFrom (from + q .size) qs =

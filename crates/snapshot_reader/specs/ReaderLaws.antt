@@ -8,6 +8,7 @@ use borrow.Author.Tests.{leb-true, le-leb, lt-leb, eqb-true, eq-eqb, ne-eqb}
 use lib.Dec.{leb, eqb}
 use lib.Seq.{drop-drop}
 use lib.ListN.{getD, drop, take, length, drop-of-length-le}
+use Rattle.truths.specs.TruthLaws.{both-parts}
 use Rattle.lent_bytes.specs.LentBytes.{part, put}
 use Rattle.refusal.specs.Refusal.{wrongLayout}
 use Rattle.table.specs.Table.{Row}
@@ -17,7 +18,6 @@ use Rattle.peer_state.specs.declared.entry.PeerMessagePolicyEntry.{PeerMessageP
 use Rattle.peer_rows.specs.Rows.{peerLayout}
 use Rattle.peer_rows.specs.RowsLaws.{peer-faithful}
 use Rattle.peer_rows.specs.Peer.{peerRow}
-use Rattle.table.specs.TableLaws.{both-parts}
 use Rattle.snapshot_layout.specs.Layout.{placeFrom, placeOf}
 use Rattle.snapshot_settings.specs.declared.settings.ReadSettings.{ReadSettings}
 use Rattle.snapshot_settings.specs.declared.settings.ReadSettings.the-variants as ReadSettings

@@ -9,9 +9,9 @@ use borrow.Author.Tests.{le-leb, lt-ltb, eq-eqb, ne-eqb}
 use lib.Dec.{ltb, eqb}
 use lib.Seq.{drop-drop}
 use lib.ListN.{length, drop}
+use Rattle.truths.specs.TruthLaws.{true-is-not-false}
 use Rattle.lent_bytes.specs.LentBytes.{part}
 use Rattle.refusal.specs.Refusal.{wrongLayout}
-use Rattle.table.specs.TableLaws.{true-is-not-false}
 use Rattle.table.specs.Memory.{rowOf, rows}
 use Rattle.table.specs.MemoryLaws.{key-rowOf}
 use Rattle.peer_settings.specs.Config.{limit}

@@ -11,8 +11,8 @@ use borrow.Author.Tests.{ltb-true, ltb-false}
 use lib.Dec.{ltb}
 use lib.ListN.{length, drop, getD, drop-of-length-le}
 use lib.Seq.{drop-cons}
+use Rattle.truths.specs.TruthLaws.{by-test}
 use Rattle.table.specs.Table.{Row, Best, nothing, best, better, leastFrom}
-use Rattle.table.specs.TableLaws.{by-test}
 use Rattle.table.specs.LookLaws.{some-is-not-none}
 
 -- ════ Measures at indexes ════

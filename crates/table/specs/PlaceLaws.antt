@@ -11,13 +11,14 @@ use native.Mathlib.Numerals.{add-one}
 use native.Mathlib.Omega.{arith}
 use lib.ListN.{length, take, drop, getD, set, length-append, length-take, length-drop, length-set}
 use lib.Seq.{set-split}
+use Rattle.truths.specs.TruthLaws.{by-test, both-parts}
 use Rattle.pubkey.specs.declared.Ordering.the-variants.{Less, Equal, Greater}
 use Rattle.pubkey.specs.Order.{compareBytes}
 use Rattle.pubkey.specs.OrderLaws.{compare-self, compare-equal, less-flip}
 use Rattle.table.specs.declared.seek.Seek.{Seek}
 use Rattle.table.specs.declared.seek.Seek.the-variants.{Unsound, At, Gap}
 use Rattle.table.specs.Table.{Row, ascending, every, placeFrom, seek, look, store, erase, removeRun, removeAt, insertAt}
-use Rattle.table.specs.TableLaws.{by-answer, by-test, both-parts, ascending-parts, below-each, removeAt-first, removeAt-later}
+use Rattle.table.specs.TableLaws.{by-answer, ascending-parts, below-each, removeAt-first, removeAt-later}
 use Rattle.table.specs.LookLaws.{some-is-not-none, look-below, look-before, look-first, look-later, look-erase-same, look-erase-other}
 
 -- ════ Answers ════

@@ -9,12 +9,13 @@ use native.Mathlib.Numerals.{add-one}
 use native.Mathlib.Omega.{arith}
 use lib.ListN.{length, take, getD, length-take}
 use lib.Seq.{take-suc, take-all}
+use Rattle.truths.specs.TruthLaws.{by-test, true-is-not-false}
 use Rattle.pubkey.specs.declared.Ordering.{Ordering}
 use Rattle.pubkey.specs.declared.Ordering.the-variants.{Less, Equal, Greater}
 use Rattle.pubkey.specs.Order.{compareBytes}
 use Rattle.pubkey.specs.OrderLaws.{compare-equal}
 use Rattle.table.specs.Table.{Row, rowUnder, below, ascending, every, look, retain}
-use Rattle.table.specs.TableLaws.{by-answer, by-test, true-is-not-false, ascending-parts, equal-below, before-below}
+use Rattle.table.specs.TableLaws.{by-answer, ascending-parts, equal-below, before-below}
 use Rattle.table.specs.TableLaws.{every-parts, every-cons, every-fails, sub-length, sub-below, sub-retain}
 use Rattle.table.specs.LookLaws.{look-below, look-before, look-first, look-later}
 

@@ -9,6 +9,7 @@ use native.Mathlib.Nat.{suc-add}
 use native.Mathlib.Numerals.{add-one}
 use native.Mathlib.Omega.{arith}
 use lib.ListN.{length, drop, getD}
+use Rattle.truths.specs.TruthLaws.{true-is-not-false, both-parts}
 use Rattle.pubkey.specs.declared.Ordering.{Ordering}
 use Rattle.pubkey.specs.declared.Ordering.the-variants.{Less, Equal, Greater}
 use Rattle.pubkey.specs.Order.{compareBytes}
@@ -22,29 +23,6 @@ pub by-answer {ℓ} : {B : Type ℓ} (o : Ordering) → (o ≡ Less → B) → (
 by-answer Less a b c = a refl
 by-answer Equal a b c = b refl
 by-answer Greater a b c = c refl
-
--- a fact by the two answers of a test, each with the equation that says it
-pub by-test {ℓ} : {B : Type ℓ} (t : Bool) → (t ≡ true → B) → (t ≡ false → B) → B
-by-test true a b = a refl
-by-test false a b = b refl
-
--- a test is not both true and false
-pub true-is-not-false : {t : Bool} → t ≡ true → t ≡ false → ⊥
-true-is-not-false h k = let z : _≡_ {A = ℕ} 0 1 = cc in omega arith
-
--- where both of two tests are passed, each is
-pub both-parts : (a b : Bool) → (a && b) ≡ true → (a ≡ true) × (b ≡ true)
-both-parts true b h = (refl, h)
-both-parts false b h = absurd (true-is-not-false h refl)
-
--- two tests that are passed are passed together
-pub both : {a b : Bool} → a ≡ true → b ≡ true → (a && b) ≡ true
-both h k = rw (h, k)
-
--- where the second of two tests fails, they fail together
-pub second-fails : (a : Bool) {b : Bool} → b ≡ false → (a && b) ≡ false
-second-fails true h = h
-second-fails false h = refl
 
 -- the rules of all, then their order: the rule of the first, its order, then those of the others
 regroup : (a b c d : Bool) → ((a && b) && (c && d)) ≡ (a && (c && (b && d)))

@@ -8,11 +8,12 @@ use mathlib.Core.List.{List, [], _∷_, _++_, append-nil}
 use Prim.Native.Nat.{ℕ, zero, suc, _+_, _-_, _*_, _≤_, _<_}
 use native.Mathlib.Omega.{arith}
 use lib.ListN.{length, take, getD, length-append}
+use Rattle.truths.specs.TruthLaws.{by-test}
 use Rattle.lent_bytes.specs.LentBytes.{part, put, zeros, Bytes}
 use Rattle.lent_bytes.specs.LentBytesLaws.{put-nil, put-put, length-part, Bytes-part}
 use Rattle.table.specs.Table.{Row, every, retain}
 use Rattle.table.specs.Memory.{Layout, rowBytes, rowOf, rows, tableBytes, Holds}
-use Rattle.table.specs.TableLaws.{by-test, every-at}
+use Rattle.table.specs.TableLaws.{every-at}
 use Rattle.table.specs.RetainLaws.{retain-keeps, retain-drops, retain-ends, length-retain-tried}
 use Rattle.table.specs.MemoryLaws.{Faithful, AllFit, length-rows, getD-rows, rowBytes-rowOf, length-tableBytes, tableBytes-append}
 use Rattle.table.specs.MemoryLaws.{fit-rows, fit-take, fit-retain, part-kept, put-retained, holds}

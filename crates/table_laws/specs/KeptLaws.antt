@@ -10,13 +10,14 @@ use native.Mathlib.Omega.{arith}
 use borrow.Author.Tests.{le-leb}
 use lib.ListN.{length, take, drop, length-append, length-drop}
 use lib.Seq.{length-take-le}
+use Rattle.truths.specs.TruthLaws.{both}
 use Rattle.lent_bytes.specs.LentBytes.{Bytes, zeros}
 use Rattle.lent_bytes.specs.LentBytesLaws.{length-zeros, Bytes-nil, Bytes-append, Bytes-take, Bytes-drop, Bytes-zeros}
 use Rattle.pubkey.specs.Order.{compareBytes}
 use Rattle.table.specs.Table.{Row, rowUnder, every, ascending, store}
 use Rattle.table.specs.Memory.{Layout, rowOf, rows, rowBytes, tableBytes, laid}
 use Rattle.table.specs.Outcome.{Change, same, become, Memory, changedRows, rowsAfter}
-use Rattle.table.specs.TableLaws.{by-answer, both, every-store, ascending-store, Sub, done, keep, leave, sub-every, sub-ascending, sub-length}
+use Rattle.table.specs.TableLaws.{by-answer, every-store, ascending-store, Sub, done, keep, leave, sub-every, sub-ascending, sub-length}
 use Rattle.table.specs.MemoryLaws.{Faithful, length-rows, bytes-used}
 use Rattle.table_laws.specs.Words.{Numbers}
 use Rattle.table_laws.specs.WordsLaws.{OfNumbers, length-encode, encode-bytes}

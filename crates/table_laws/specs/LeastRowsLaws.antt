@@ -8,10 +8,10 @@ use Prim.Native.Nat.{ℕ, _+_, _*_, _≤_, _<_}
 use native.Mathlib.Omega.{arith}
 use lib.Dec.{ltb}
 use lib.ListN.{drop}
+use Rattle.truths.specs.TruthLaws.{by-test}
 use Rattle.lent_bytes.specs.LentBytes.{part}
 use Rattle.table.specs.Table.{Row, Best, nothing, best, better, leastFrom}
 use Rattle.table.specs.Memory.{Layout, rowOf, rows}
-use Rattle.table.specs.TableLaws.{by-test}
 use Rattle.table.specs.LeastLaws.{least-ends, least-goes-on, least-found}
 use Rattle.table.specs.MemoryLaws.{length-rows, getD-rows}
 

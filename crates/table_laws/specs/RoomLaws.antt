@@ -8,10 +8,11 @@ use native.Mathlib.Omega.{arith}
 use borrow.Author.Tests.{ltb-true, ltb-false, lt-ltb, le-ltb}
 use lib.Dec.{ltb}
 use lib.ListN.{length}
+use Rattle.truths.specs.TruthLaws.{by-test}
 use Rattle.lent_bytes.specs.LentBytes.{Bytes}
 use Rattle.table.specs.Table.{Row, Best, nothing, best, retain, removeAt}
 use Rattle.table.specs.Memory.{Layout, rows, Holds}
-use Rattle.table.specs.TableLaws.{by-test, Sub, sub-all, sub-retain, sub-removeAt, sub-trans}
+use Rattle.table.specs.TableLaws.{Sub, sub-all, sub-retain, sub-removeAt, sub-trans}
 use Rattle.table.specs.RetainLaws.{length-retain}
 use Rattle.table.specs.PlaceLaws.{length-removeAt}
 use Rattle.table.specs.MemoryLaws.{Faithful, AllFit, length-rows, fit-rows, sub-fit}

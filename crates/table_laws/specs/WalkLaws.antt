@@ -12,6 +12,7 @@ use borrow.Author.Tests.{ltb-true}
 use lib.Dec.{ltb}
 use lib.ListN.{length, drop, getD, drop-of-length-le}
 use lib.Seq.{take-take}
+use Rattle.truths.specs.TruthLaws.{by-test, both-parts, second-fails}
 use Rattle.lent_bytes.specs.LentBytes.{part, front, Bytes}
 use Rattle.lent_bytes.specs.LentBytesLaws.{part-all}
 use Rattle.pubkey.specs.declared.Ordering.the-variants.{Less, Equal, Greater}
@@ -22,7 +23,7 @@ use Rattle.table.specs.declared.seek.Seek.{Seek}
 use Rattle.table.specs.declared.seek.Seek.the-variants.{Unsound, At, Gap}
 use Rattle.table.specs.Table.{Row, byOrder, below, ascending, every, placeFrom, seek}
 use Rattle.table.specs.Memory.{Layout, rowOf, rows}
-use Rattle.table.specs.TableLaws.{by-test, both-parts, second-fails, below-each, ascending-parts, sound-cons}
+use Rattle.table.specs.TableLaws.{below-each, ascending-parts, sound-cons}
 use Rattle.table.specs.PlaceLaws.{place-before, place-first, place-later, seek-sound, seek-unsound}
 use Rattle.table.specs.MemoryLaws.{length-rows, getD-rows, rows-cons}
 use Rattle.table_laws.specs.Walk.{rises, rowAt, follows, soundFrom, Walkable, Walking}

@@ -7,6 +7,7 @@ use Prim.Native.Nat.{ℕ, _+_, _-_}
 use native.Mathlib.Omega.{arith}
 use borrow.Author.Tests.{leb-false, ltb-false, eqb-false}
 use lib.Dec.{leb, ltb, eqb}
+use Rattle.truths.specs.TruthLaws.{chosen, neither}
 use Rattle.table.specs.Table.{look}
 use Rattle.peer_settings.specs.declared.config.PeerMessagePolicyConfig.{PeerMessagePolicyConfig}
 use Rattle.peer_state.specs.declared.entry.PeerMessagePolicyEntry.{PeerMessagePolicyEntry}
@@ -22,7 +23,6 @@ use Rattle.peer_verdict.specs.declared.verdict.Decision.{Decision}
 use Rattle.peer_settings.specs.Config.{unlimited}
 use Rattle.peer_settings.specs.Fits.{ConfigFits}
 use Rattle.peer_state.specs.Entry.{entryUsed}
-use Rattle.peer_state.specs.EntryLaws.{chosen}
 use Rattle.peer_state.specs.Ingress.{tryReserve}
 use Rattle.peer_verdict.specs.Verdict.{ceilingDecides, takeMessage, takeBytes, decision, invalidDecision}
 use Rattle.peer_verdict.specs.VerdictLaws.{violated-ways, weighed-ways}
@@ -31,7 +31,6 @@ use Rattle.peer_message_policy.specs.declared.policy.PeerMessagePolicy.{PeerMes
 use Rattle.peer_verdict.specs.Verdict.{overflows}
 use Rattle.peer_message_policy.specs.Policy.{Change, Update, banned, update, turnOf, carriedOut, notedDown, entryForUpdate, Turn, admit, recordInvalid, isBanned, isBannedChange}
 use Rattle.peer_message_policy.specs.Calls.{policyAfter, admissionTurn, invalidTurn, standingChanged}
-use Rattle.peer_laws.specs.TestLaws.{neither}
 use Rattle.peer_laws.specs.CallLaws.{of-admission, of-invalid, of-standing}
 use Rattle.trace_lines.specs.declared.settings.Settings.{Settings}
 use Rattle.trace_lines.specs.declared.settings.Settings.the-variants as Settings

@@ -6,9 +6,9 @@ use Prim.Native.Nat.{ℕ, zero, suc, _+_}
 use borrow.Author.Tests.{ltb-true}
 use lib.Dec.{eqb}
 use lib.ListN.{length, getD}
+use Rattle.truths.specs.TruthLaws.{chosen}
 use Rattle.lent_bytes.specs.LentBytes.{Bytes}
 use Rattle.lent_bytes.specs.LentBytesLaws.{length-zeros, Bytes-nil, Bytes-cons, Bytes-zeros}
-use Rattle.peer_state.specs.EntryLaws.{chosen}
 use Rattle.peer_laws.specs.SoundLaws.{Key}
 use Rattle.trace_lines.specs.declared.event.Event.{Event}
 use Rattle.trace_lines.specs.declared.event.EventKind.{EventKind}

@@ -9,8 +9,8 @@ use native.Mathlib.Omega.{arith}
 use borrow.Author.Tests.{leb-true, leb-false, le-leb, lt-leb}
 use lib.Dec.{leb, ltb}
 use lib.ListN.{length, drop}
+use Rattle.truths.specs.TruthLaws.{by-test}
 use Rattle.refusal.specs.Refusal.{tooShort, limitTooLarge}
-use Rattle.table.specs.TableLaws.{by-test}
 use Rattle.table.specs.Memory.{rows}
 use Rattle.peer_settings.specs.declared.config.PeerMessagePolicyConfig.{PeerMessagePolicyConfig}
 use Rattle.peer_settings.specs.Config.{limit}

@@ -8,9 +8,9 @@ use native.Mathlib.Omega.{arith}
 use borrow.Author.Tests.{ltb-false}
 use lib.Dec.{ltb}
 use lib.ListN.{length, replicate}
+use Rattle.truths.specs.TruthLaws.{true-is-not-false}
 use Rattle.lent_bytes.specs.LentBytes.{Bytes}
 use Rattle.lent_bytes.specs.LentBytesLaws.{length-zeros, Bytes-zeros}
-use Rattle.table.specs.TableLaws.{true-is-not-false}
 use Rattle.trace_lines.specs.Lines.{badLineText}
 use Rattle.trace.specs.declared.scan.Phase.{Phase}
 use Rattle.trace.specs.declared.scan.Phase.the-variants as Phase

@@ -12,6 +12,7 @@ use borrow.Author.Tests.{ltb-true, ltb-false, leb-true, eqb-true, lt-ltb, le-ltb
 use lib.Dec.{leb, ltb, eqb}
 use lib.ListN.{length, drop, getD, replicate, take-append-drop, List·getD-eq-default}
 use lib.Seq.{drop-cons, drop-drop, drop-length}
+use Rattle.truths.specs.TruthLaws.{true-is-not-false, both-parts, chosen}
 use Rattle.decimal.specs.Decimal.{digitsOf, scanOf}
 use Rattle.decimal.specs.DecimalLaws.{only-spelling}
 use Rattle.decimal.specs.declared.Scanned.{Scanned}
@@ -39,9 +40,6 @@ abbrev pub behind : List ℕ → Scanned → List ℕ
 behind line (Number v at) = drop at line
 behind line Bad = []
 
-false-is-not-true : false ≡ true → ⊥
-false-is-not-true h = let z : _≡_ {A = ℕ} 0 1 = cc in omega arith
-
 -- a byte that is no zero stands within the line
 pub byte-within : (line : List ℕ) (at b : ℕ) → getD line at 0 ≡ b → 0 < b → drop at line ≡ b ∷ drop (at + 1) line
 byte-within line at b e h = go (ltb at (length line)) refl
@@ -59,7 +57,7 @@ scan-front line at most m (Number n end) e h =
     ∙ ap (λ (l : List ℕ). l ++ drop (end - at) (drop at line)) (sp .digits)
     ∙ ap (λ (l : List ℕ). digitsOf n ++ l) (drop-drop (end - at) at line)
     ∙ ap (λ (k : ℕ). digitsOf n ++ drop k line) back
-scan-front line at most m Bad e h = absurd (false-is-not-true h)
+scan-front line at most m Bad e h = absurd (true-is-not-false h refl)
 
 -- the digits of a number at a place, and what stands behind them
 pub scan-spelling : (line : List ℕ) (at most : ℕ) → most < 10 ^ 20 → isNumber (scanOf line at most) ≡ true
@@ -77,18 +75,18 @@ blank-spelling line at most m h = go (eqb (getD line at 0) 32) refl h
     go true p k =
         byte-within line at 32 (eqb-true (getD line at 0) 32 p) (omega arith)
         ∙ ap (λ (l : List ℕ). 32 ∷ l) (scan-spelling line (at + 1) most m k)
-    go false p k = absurd (false-is-not-true k)
+    go false p k = absurd (true-is-not-false k refl)
 
 -- behind a field stand a blank, the digits of the next one, and what is behind that
 pub field-spelling : (line : List ℕ) (before : Scanned) (most : ℕ) → most < 10 ^ 20 → isNumber (fieldOf line before most) ≡ true
     → (isNumber before ≡ true) × (behind line before ≡ numberText (valueOf (fieldOf line before most)) ++ behind line (fieldOf line before most))
 field-spelling line (Number v at) most m h = (refl, blank-spelling line at most m h)
-field-spelling line Bad most m h = absurd (false-is-not-true h)
+field-spelling line Bad most m h = absurd (true-is-not-false h refl)
 
 -- behind the last field stands nothing
 pub ends-spelling : (line : List ℕ) (last : Scanned) → endsLine line last ≡ true → (isNumber last ≡ true) × (behind line last ≡ [])
 ends-spelling line (Number v at) h = (refl, rw (eqb-true at (length line) h) (drop-length line))
-ends-spelling line Bad h = absurd (false-is-not-true h)
+ends-spelling line Bad h = absurd (true-is-not-false h refl)
 
 -- ════ The settings line ════
 
@@ -132,13 +130,8 @@ range-told low high b h = go (leb low b) (leb b high) refl refl h
   where
     go : (p q : Bool) → leb low b ≡ p → leb b high ≡ q → p && q ≡ true → (low ≤ b) × (b ≤ high)
     go true true e f k = (leb-true low b e, leb-true b high f)
-    go true false e f k = absurd (false-is-not-true k)
-    go false q e f k = absurd (false-is-not-true k)
-
-both-told : (p q : Bool) → p && q ≡ true → (p ≡ true) × (q ≡ true)
-both-told true true k = (refl, refl)
-both-told true false k = absurd (false-is-not-true k)
-both-told false q k = absurd (false-is-not-true k)
+    go true false e f k = absurd (true-is-not-false k refl)
+    go false q e f k = absurd (true-is-not-false k refl)
 
 -- a byte that is a hex digit is the digit of its value
 hex-digit-back : (b : ℕ) → hexDigit b < 16 → b ≡ hexChar (hexDigit b)
@@ -171,7 +164,7 @@ pair-told h l k = go (ltb h 16 && ltb l 16) refl k
     go : (b : Bool) → ltb h 16 && ltb l 16 ≡ b → cond b (16 * h + l) 256 < 256
         → (h < 16) × ((l < 16) × (cond b (16 * h + l) 256 ≡ 16 * h + l))
     go true p q =
-        let r = both-told (ltb h 16) (ltb l 16) p in
+        let r = both-parts (ltb h 16) (ltb l 16) p in
         (ltb-true h 16 (r .0), (ltb-true l 16 (r .1), refl))
     go false p q = absurd (omega arith)
 
@@ -198,7 +191,7 @@ bytes-spelling : (line : List ℕ) (n at : ℕ) → allSpelled (hexBytes line at
 unfolding allSpelled hexBytes
 bytes-spelling line zero at h = let e : at + 2 * 0 ≡ at = omega arith in rw e
 bytes-spelling line (suc n) at h =
-    let r = both-told (ltb (hexByte line at) 256) (allSpelled (hexBytes line (at + 2) 2 n)) h in
+    let r = both-parts (ltb (hexByte line at) 256) (allSpelled (hexBytes line (at + 2) 2 n)) h in
     let e : at + 2 + 2 * n ≡ at + 2 * suc n = omega arith in
     let v : ℕ = hexByte line at in
     pair-spelling line at (ltb-true v 256 (r .0))
@@ -216,7 +209,7 @@ equal-bytes line (suc n) at =
 first-spelled : (line : List ℕ) (at step n : ℕ) → allSpelled (hexBytes line at step (suc n)) ≡ true → hexByte line at < 256
 unfolding allSpelled hexBytes
 first-spelled line at step n h =
-    ltb-true (hexByte line at) 256 (both-told (ltb (hexByte line at) 256) (allSpelled (hexBytes line (at + step) step n)) h .0)
+    ltb-true (hexByte line at) 256 (both-parts (ltb (hexByte line at) 256) (allSpelled (hexBytes line (at + step) step n)) h .0)
 
 -- ════ A letter, a blank and a key ════
 
@@ -241,7 +234,7 @@ module _ (line : List ℕ) (letter : ℕ) (first : getD line 0 0 ≡ letter) (ab
         spells = inl refl;
         whole = letter-blank (hexText (hexBytes line 2 2 33) ++ drop 68 line) second (bytes-spelling line 33 2 p);
       }
-      go false p k = absurd (false-is-not-true k)
+      go false p k = absurd (true-is-not-false k refl)
 
   short-key : getD line 1 0 ≡ 32 → isNumber (keySpelled line 0 .end) ≡ true
       → SpellsKeyed line letter (keySpelled line 0 .key) (behind line (keySpelled line 0 .end))
@@ -262,7 +255,7 @@ module _ (line : List ℕ) (letter : ℕ) (first : getD line 0 0 ≡ letter) (ab
             spells = inr (ap (λ (x : ℕ). hexText (x ∷ [])) f, same ∙ ap (λ (x : ℕ). replicate 33 x) f);
             whole = letter-blank (hexText (v ∷ []) ++ drop 4 line) second (pair-spelling line 2 (first-spelled line 2 0 32 p));
           }
-      go false p k = absurd (false-is-not-true k)
+      go false p k = absurd (true-is-not-false k refl)
 
   -- a line with a good key, by what stands behind the key
   keyed-front : isNumber (keyOf line .end) ≡ true → SpellsKeyed line letter (keyOf line .key) (behind line (keyOf line .end))
@@ -275,7 +268,7 @@ module _ (line : List ℕ) (letter : ℕ) (first : getD line 0 0 ≡ letter) (ab
           (behind line (cond b (keySpelled line (cond s 0 2)) (record { key = noKey; end = Bad }) .end))
       go true true p k = short-key (eqb-true (getD line 1 0) 32 p) k
       go true false p k = long-key (eqb-true (getD line 1 0) 32 p) k
-      go false s p k = absurd (false-is-not-true k)
+      go false s p k = absurd (true-is-not-false k refl)
 
   -- the same where it is known what stands behind the key
   keyed-numbers : (numbers : List ℕ) → isNumber (keyOf line .end) ≡ true → behind line (keyOf line .end) ≡ numbers
@@ -290,25 +283,20 @@ module _ (line : List ℕ) (letter : ℕ) (first : getD line 0 0 ≡ letter) (ab
 
 -- ════ Events ════
 
--- one of two events, by a test
-by-test : (P : Event → Type 0) (b : Bool) (x y : Event) → (b ≡ true → P x) → P y → P (cond b x y)
-by-test P true x y f g = f refl
-by-test P false x y f g = g
-
 admit-spelling : (line : List ℕ) → getD line 0 0 ≡ 97 → SpellsEvent line (admitOf line)
 unfolding admitOf
 admit-spelling line first =
     let key : Scanned = keyOf line .end in
     let bytes : Scanned = fieldOf line key largest64 in
     let now : Scanned = fieldOf line bytes largest64 in
-    by-test (SpellsEvent line) (endsLine line now) (event kind.Admit (keyOf line .key) (valueOf bytes) (valueOf now)) badEvent
+    chosen (SpellsEvent line) (endsLine line now)
     (λ p. let e = ends-spelling line now p in
     let g = field-spelling line bytes largest64 (omega arith) (e .0) in
     let f = field-spelling line key largest64 (omega arith) (g .0) in
     keyed-numbers line 97 first (omega arith) (numberText (valueOf bytes) ++ numberText (valueOf now)) (f .0)
     (f .1 ∙ ap (λ (l : List ℕ). numberText (valueOf bytes) ++ l)
     (g .1 ∙ ap (λ (l : List ℕ). numberText (valueOf now) ++ l) (e .1) ∙ append-nil (numberText (valueOf now)))))
-    tt
+    (λ _. tt)
 
 keyed-spelling : (line : List ℕ) (k : EventKind) (letter : ℕ) → getD line 0 0 ≡ letter → 0 < letter
     → ((key : Pubkey) (now : ℕ) → SpellsKeyed line letter key (numberText now) → SpellsEvent line (event k key 0 now))
@@ -317,24 +305,24 @@ unfolding keyedOf
 keyed-spelling line k letter first above spells =
     let key : Scanned = keyOf line .end in
     let now : Scanned = fieldOf line key largest64 in
-    by-test (SpellsEvent line) (endsLine line now) (event k (keyOf line .key) 0 (valueOf now)) badEvent
+    chosen (SpellsEvent line) (endsLine line now)
     (λ p. let e = ends-spelling line now p in
     let f = field-spelling line key largest64 (omega arith) (e .0) in
     spells (keyOf line .key) (valueOf now)
     (keyed-numbers line letter first above (numberText (valueOf now)) (f .0)
     (f .1 ∙ ap (λ (l : List ℕ). numberText (valueOf now) ++ l) (e .1) ∙ append-nil (numberText (valueOf now)))))
-    tt
+    (λ _. tt)
 
 release-spelling : (line : List ℕ) → getD line 0 0 ≡ 114 → SpellsEvent line (releaseOf line)
 unfolding releaseOf
 release-spelling line first =
     let bytes : Scanned = blankThenNumber line 1 largest64 in
-    by-test (SpellsEvent line) (endsLine line bytes) (event kind.Release noKey (valueOf bytes) 0) badEvent
+    chosen (SpellsEvent line) (endsLine line bytes)
     (λ p. let e = ends-spelling line bytes p in
     byte-within line 0 114 first (omega arith)
     ∙ ap (λ (l : List ℕ). 114 ∷ l) (blank-spelling line 1 largest64 (omega arith) (e .0)
     ∙ ap (λ (l : List ℕ). numberText (valueOf bytes) ++ l) (e .1) ∙ append-nil (numberText (valueOf bytes))))
-    tt
+    (λ _. tt)
 
 -- a line that gives an event is a spelling of it: the only one but for the two spellings of its key
 pub event-spelling : (line : List ℕ) → SpellsEvent line (eventOf line)
@@ -342,8 +330,8 @@ unfolding eventOf
 event-spelling line =
     let k : ℕ = getD line 0 0 in
     let P : Event → Type 0 = SpellsEvent line in
-    by-test P (eqb k 97) (admitOf line) _ (λ p. admit-spelling line (eqb-true k 97 p))
-    (by-test P (eqb k 105) (keyedOf kind.Invalid line) _ (λ p. keyed-spelling line kind.Invalid 105 (eqb-true k 105 p) (omega arith) (λ key now s. s))
-    (by-test P (eqb k 98) (keyedOf kind.BanQuery line) _ (λ p. keyed-spelling line kind.BanQuery 98 (eqb-true k 98 p) (omega arith) (λ key now s. s))
-    (by-test P (eqb k 100) (keyedOf kind.Disconnected line) _ (λ p. keyed-spelling line kind.Disconnected 100 (eqb-true k 100 p) (omega arith) (λ key now s. s))
-    (by-test P (eqb k 114) (releaseOf line) badEvent (λ p. release-spelling line (eqb-true k 114 p)) tt))))
+    chosen P (eqb k 97) (λ p. admit-spelling line (eqb-true k 97 p))
+    (λ _. chosen P (eqb k 105) (λ p. keyed-spelling line kind.Invalid 105 (eqb-true k 105 p) (omega arith) (λ key now s. s))
+    (λ _. chosen P (eqb k 98) (λ p. keyed-spelling line kind.BanQuery 98 (eqb-true k 98 p) (omega arith) (λ key now s. s))
+    (λ _. chosen P (eqb k 100) (λ p. keyed-spelling line kind.Disconnected 100 (eqb-true k 100 p) (omega arith) (λ key now s. s))
+    (λ _. chosen P (eqb k 114) (λ p. release-spelling line (eqb-true k 114 p)) (λ _. tt)))))

@@ -1,6 +1,6 @@
 -- `walk::rows_sound` meets its contract: the walk says Unsound just where the rows are. Assumes nothing.
 use mathlib.Core.Path.{sym, _∙_}
-use Rattle.table.specs.TableLaws.{both}
+use Rattle.truths.specs.TruthLaws.{both}
 use Rattle.table.specs.PlaceLaws.{seek-unsound, seek-at, seek-gap}
 use borrow.Author.Needs.{needs}
 use Rattle.peer_rows.proofs.walk.rows_sound.Statement.{statement}

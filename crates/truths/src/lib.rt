@@ -1,0 +1,1 @@
+// Laws of tests, for every crate above: `specs/` is all there is.
