@@ -1,16 +1,15 @@
 -- Laws of `amountOf`: it stands for its integer, and is every amount that does. Assumes nothing.
 use mathlib.Core.Path.{_≡_, refl, sym, _∙_, ap}
 use mathlib.Core.Bool.{Bool, true, false}
-use mathlib.Core.List.{List, [], _∷_}
-use Prim.Native.Nat.{ℕ, zero, suc, _+_, _*_, _/_, _%_, _^_, _<_, _≤_}
-use native.Mathlib.Nat.{div-lt-iff-lt-mul, pow-suc, lt-of-le-of-lt}
+use Prim.Native.Nat.{ℕ, zero, suc, _/_, _^_, _<_}
+use native.Mathlib.Nat.{div-lt-iff-lt-mul, pow-suc}
 use native.Mathlib.Omega.{arith}
 use borrow.Author.Tests.{ne-eqb}
 use lib.ListN.{length, getD}
 use lib.IntN.{ℤ, pos, negsuc}
 use Rattle.amount.specs.declared.Amount.{Amount}
 use Rattle.amount_limbs.specs.Limbs.{digits}
-use Rattle.amount.specs.Amount.{limbs, amountOf, signed, value, minusZero, Is, isI128, inRange}
+use Rattle.amount.specs.Amount.{limbs, amountOf, signed, value, minusZero, Is}
 use Rattle.amount.specs.AmountLaws.{Whole, is-unique, whole-below}
 
 -- the limbs of a number that has room in them spell it

@@ -1,5 +1,5 @@
 -- Products column by column: what a column holds at most, the columns of a number times a limb, and where a number times four limbs stops. Assumes nothing.
-use mathlib.Core.Path.{_≡_, sym, ap, subst, _∙_}
+use mathlib.Core.Path.{_≡_, sym, subst, _∙_}
 use Prim.Native.Nat.{ℕ, _+_, _-_, _*_, _^_, _<_, _≤_}
 use native.Mathlib.Nat.{le-of-lt, le-trans, min-eq-left, min-eq-right, mul-le-mul, mul-le-mul-left}
 use native.Mathlib.Omega.{arith}

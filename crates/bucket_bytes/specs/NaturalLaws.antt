@@ -1,21 +1,18 @@
 -- A byte bucket that is not in debt gives the same on plain naturals. Assumes nothing.
-use mathlib.Core.Path.{_≡_, refl, sym, _∙_, ap}
-use mathlib.Core.Bool.{Bool, true, false, _||_, cond}
+use mathlib.Core.Path.{_≡_, refl, ap}
+use mathlib.Core.Bool.{Bool, true, false, cond}
 use Prim.Native.Nat.{ℕ, _+_, _-_, _*_, _/_, _^_, _<_, _≤_, min}
 use native.Mathlib.Nat.{lt-of-le-of-lt, lt-of-lt-of-le, le-trans, le-of-lt, min-le-right, sub-le}
 use native.Mathlib.Omega.{arith}
 use borrow.Author.Tests.{ltb-true, ltb-false}
-use lib.Dec.{T, leb, ltb, lit≤}
+use lib.Dec.{leb, ltb, lit≤}
 use lib.IntN.{ℤ, pos, _+ℤ_, _-ℤ_}
-use lib.Signed.{ltZ}
 use Rattle.truths.specs.TruthLaws.{same-choice}
 use Rattle.amount.specs.Amount.{value, amountOf, saturated, natural, lesser}
 use Rattle.amount.specs.AmountLaws.{saturated-pos, saturated-sum-pos, lesser-pos, minus-pos}
 use Rattle.amount.specs.AmountOfLaws.{value-amountOf}
 use Rattle.bucket_terms.specs.declared.answer.Consumed.the-variants as Consumed
 use Rattle.bucket_terms.specs.declared.limit.ByteRateLimitConfig.{ByteRateLimitConfig}
-use Rattle.bucket_bytes.specs.declared.bytes.ByteTokenBucket.{ByteTokenBucket}
-use Rattle.bucket_bytes.specs.declared.bytes.ByteConsumed.{ByteConsumed}
 use Rattle.bucket_terms.specs.Limit.{byteDisabled}
 use Rattle.bucket_bytes.specs.ByteBucket.{msPerSec, byteLevel, byteRefill, byteTake, byteTryConsume}
 use Rattle.bucket_bytes.specs.Natural.{refilledTo, refilledAt, naturalTake}

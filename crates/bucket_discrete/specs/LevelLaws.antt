@@ -1,7 +1,7 @@
 -- What a refill and a take leave of the message bucket: its settings, and bounds of its level and of the time of its last refill. They
 -- ask for no range of the numbers. Assumes nothing.
 use mathlib.Core.Path.{_≡_, refl}
-use mathlib.Core.Bool.{Bool, true, false, _||_, cond}
+use mathlib.Core.Bool.{_||_}
 use Prim.Native.Nat.{ℕ, _+_, _-_, _*_, _/_, _%_, _≤_, min, max}
 use native.Mathlib.Omega.{arith}
 use lib.Dec.{leb, eqb}

@@ -10,7 +10,6 @@ use Rattle.peer_message_policy.specs.declared.answer.InFlight.the-variants as I
 use Rattle.peer_message_policy.specs.declared.answer.HeldTime.{HeldTime}
 use Rattle.peer_message_policy.specs.declared.answer.HeldTime.the-variants as HeldTime
 use Rattle.peer_message_policy.specs.Calls.{NewMeets, AdmitMeets, RecordInvalidMeets, IsBannedMeets, OnDisconnectedMeets, ReleaseIngressMeets, InFlightMeets, HeldTimeMeets}
-use Rattle.c_words.specs.declared.answers.Numbered.{Numbered}
 use Rattle.c_words.specs.Words.{configOf, policyOf, Leaves}
 use Rattle.c_words.specs.Answers.{madeNumbered, admissionNumbered, invalidNumbered, standingNumbered, changedNumbered}
 

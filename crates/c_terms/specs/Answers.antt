@@ -1,6 +1,5 @@
 -- The number of each answer and the value that goes with it. Definitions only.
 use mathlib.Core.Bool.{Bool, true, false, cond}
-use mathlib.Core.List.{List}
 use Prim.Native.Nat.{ℕ}
 use lib.Dec.{ltb}
 use Rattle.bucket_terms.specs.declared.answer.Refilled.{Refilled}

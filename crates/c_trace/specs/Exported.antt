@@ -1,5 +1,4 @@
 -- The exported calls of a scan. Definitions only.
-use mathlib.Core.Path.{_≡_}
 use mathlib.Core.List.{List}
 use Prim.Native.Nat.{ℕ}
 use Rattle.refusal.specs.Some.{Some}

@@ -1,6 +1,6 @@
 -- Laws of the lines that a scan hands out: each is a text with zeros behind it, so in 64 bytes it is no longer than they are, and it is empty
 -- exactly where the scan is done. Nobody needs to believe these: they are proved. Assumes nothing.
-use mathlib.Core.Path.{_≡_, refl, sym, ap, _∙_}
+use mathlib.Core.Path.{_≡_, sym, ap, _∙_}
 use mathlib.Core.Bool.{Bool, true, false, cond}
 use mathlib.Core.List.{List, [], _∷_, _++_}
 use mathlib.Core.Option.{Option, none, some}

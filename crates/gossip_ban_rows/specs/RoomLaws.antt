@@ -1,6 +1,6 @@
 -- Laws of expiry and of making room, which callers' proofs cite: what the Rust's steps come to; rows are taken out and no more; there is
 -- room for one more. In order: one entry; the row evicted; making room. Assumes nothing.
-use mathlib.Core.Bool.{Bool, true, false, _||_}
+use mathlib.Core.Bool.{true, false}
 use mathlib.Core.Path.{_≡_, refl, sym, _∙_, subst}
 use mathlib.Core.List.{List, [], _∷_}
 use mathlib.Core.Option.{Option, none, some}

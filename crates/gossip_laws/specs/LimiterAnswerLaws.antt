@@ -1,5 +1,5 @@
 -- A key that gets a fresh bucket is let in: where the limit is on a burst is at least one token. Assumes nothing.
-use mathlib.Core.Bool.{Bool, true, false, _||_}
+use mathlib.Core.Bool.{false, _||_}
 use mathlib.Core.Path.{_≡_, ap, _∙_}
 use mathlib.Core.List.{List}
 use mathlib.Core.Option.{none}

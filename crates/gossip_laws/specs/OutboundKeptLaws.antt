@@ -41,7 +41,7 @@ use Rattle.gossip_outbound.specs.declared.answer.OutboundTold.{OutboundTold}
 use Rattle.gossip_outbound.specs.declared.answer.OutboundReserved.{OutboundReserved}
 use Rattle.gossip_outbound.specs.declared.answer.OutboundSettled.{OutboundSettled}
 use Rattle.gossip_outbound.specs.declared.answer.Settled.the-variants as Settled
-use Rattle.gossip_outbound.specs.Outbound.{turn, refuse, outboundTold, outboundReserved, outboundSettled, kept, allow, reserve, refund, removed}
+use Rattle.gossip_outbound.specs.Outbound.{turn, refuse, outboundTold, outboundReserved, outboundSettled, kept, removed}
 use Rattle.gossip_outbound.specs.Calls.{AllowMeets, allowOutcome, RemoveMeets, removeOutcome, ReserveMeets, reserveOutcome, RefundMeets, refundOutcome}
 use Rattle.gossip_laws.specs.OutboundKept.{Given, Kept, fresh}
 

@@ -4,7 +4,7 @@
 -- The record is a declared struct and the answer a declared enum, both of plain data; the pair is a struct of just these two, the
 -- record first. A declared type's module has all that is asked (`the-type`, and `the-laws`, `the-plain`, `the-copy` and `lowers` of its `Laws`).
 use mathlib.Core.Path.{_≡_}
-use mathlib.Core.List.{List, [], _∷_}
+use mathlib.Core.List.{[], _∷_}
 use mir.Syntax.{Sym, Ty}
 use mir.Val.{Val}
 use denote.Enum.Declared as enums

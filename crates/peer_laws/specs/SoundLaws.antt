@@ -1,6 +1,6 @@
 -- Laws of soundness, on settings, rows and changes: soundness part by part; what a change of the rows must keep, so that the policy after
 -- it is sound; that each call's change keeps it; and that refusal 4 undoes everything. The calls themselves are in `CallLaws`. Assumes nothing.
-use mathlib.Core.Path.{_≡_, refl, ap, _∙_}
+use mathlib.Core.Path.{_≡_, refl}
 use mathlib.Core.Bool.{true, and-eq-true-iff}
 use mathlib.Core.List.{List}
 use mathlib.Core.Option.{Option, none, some}

@@ -7,7 +7,7 @@ use Prim.Native.Nat.{ℕ, _+_, _^_, _<_}
 use native.Mathlib.Omega.{arith}
 use lib.Dec.{leb, eqb}
 use lib.ListN.{length, getD}
-use Rattle.lent_bytes.specs.LentBytes.{part, le, Bytes}
+use Rattle.lent_bytes.specs.LentBytes.{part, le}
 use Rattle.table.specs.Memory.{rowOf}
 use Rattle.table.specs.MemoryLaws.{Faithful}
 use Rattle.table_laws.specs.Words.{Numbers, NumbersFit}

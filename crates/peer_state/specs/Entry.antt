@@ -5,7 +5,6 @@ use lib.Dec.{ltb, leb, eqb}
 use Rattle.peer_settings.specs.declared.config.PeerMessagePolicyConfig.{PeerMessagePolicyConfig}
 use Rattle.peer_state.specs.declared.entry.Level.{Level}
 use Rattle.peer_state.specs.declared.entry.ViolationWindow.{ViolationWindow}
-use Rattle.peer_state.specs.declared.entry.Ban.{Ban}
 use Rattle.peer_state.specs.declared.entry.PeerMessagePolicyEntry.{PeerMessagePolicyEntry}
 
 -- ════ ViolationWindow ════

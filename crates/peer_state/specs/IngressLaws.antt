@@ -1,6 +1,6 @@
 -- Laws of the load in flight: what keeps it within the ceiling, and where its numbers have no room. Assumes nothing.
 use mathlib.Core.Path.{_≡_, refl, sym, _∙_}
-use mathlib.Core.Bool.{Bool, true, false, _||_, and-eq-true-iff, true≢false}
+use mathlib.Core.Bool.{true, false, _||_, and-eq-true-iff, true≢false}
 use Prim.Native.Nat.{ℕ, _+_, _-_, _≤_, _<_}
 use native.Mathlib.Omega.{arith}
 use borrow.Author.Tests.{leb-true, leb-false, ltb-true, ltb-false, le-leb}

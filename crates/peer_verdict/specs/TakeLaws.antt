@@ -19,7 +19,7 @@ use Rattle.bucket_bytes.specs.declared.bytes.ByteTokenBucket.{ByteTokenBucket}
 use Rattle.bucket_bytes.specs.declared.bytes.ByteConsumed.{ByteConsumed}
 use Rattle.bucket_terms.specs.Limit.{byteDisabled}
 use Rattle.bucket_discrete.specs.DiscreteBucket.{discreteRefill, discreteTake, discreteTryConsume}
-use Rattle.bucket_bytes.specs.ByteBucket.{byteSound, byteLevel, byteRefill, byteDeficit, byteTake, byteTryConsume}
+use Rattle.bucket_bytes.specs.ByteBucket.{byteSound, byteLevel, byteRefill, byteTake, byteTryConsume}
 use Rattle.peer_settings.specs.declared.config.PeerMessagePolicyConfig.{PeerMessagePolicyConfig}
 use Rattle.peer_state.specs.declared.entry.Level.{Level}
 use Rattle.peer_verdict.specs.declared.verdict.Take.{Take}

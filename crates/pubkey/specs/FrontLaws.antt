@@ -1,7 +1,7 @@
 -- Fronts, the n bytes at a place as one number, the first the highest, decide a comparison, or what stands behind them
 -- does. One law for every width; the code takes eight bytes at a time. Assumes nothing.
 use mathlib.Core.Logic.{⊎-elim}
-use mathlib.Core.Path.{_≡_, refl, sym, ap, _∙_}
+use mathlib.Core.Path.{_≡_, sym, ap, _∙_}
 use mathlib.Core.List.{List}
 use Prim.Native.Nat.{ℕ, zero, suc, _+_, _*_, _≤_, _<_}
 use native.Mathlib.Nat.{add-zero, add-assoc}

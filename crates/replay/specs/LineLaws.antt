@@ -1,12 +1,10 @@
 -- Laws of `Line`: what is added to a line, and the digits of a number. Assumes nothing.
-use mathlib.Core.Path.{_≡_, refl, sym, _∙_, ap, subst}
+use mathlib.Core.Path.{_≡_, refl, sym, _∙_, ap}
 use mathlib.Core.Bool.{Bool, true, false, cond}
 use mathlib.Core.List.{List, [], _∷_, _++_, append-assoc, append-nil}
 use Prim.Native.Nat.{ℕ, zero, suc, _+_, _*_, _/_, _%_, _^_, _<_, _≤_}
 use native.Mathlib.Omega.{arith}
-use native.Mathlib.Numerals.{add-one, unary-clauses}
-use native.Mathlib.Nat.{pow-suc, pow-le-pow-right}
-use borrow.Author.Tests.{lt-ltb, le-ltb, ltb-true, ltb-false}
+use native.Mathlib.Numerals.{add-one}
 use lib.Dec.{ltb}
 use lib.ListN.{length, getD, take, set, length-take, length-append}
 use lib.Seq.{take-all, take-append-le, take-suc, take-suc-set, length-take-le}

@@ -3,12 +3,12 @@
 use mathlib.Core.Path.{_≡_, refl, ap, _∙_}
 use mathlib.Core.Bool.{Bool, true, false}
 use mathlib.Core.List.{List}
-use Prim.Native.Nat.{ℕ, zero, suc, _+_, _*_, _≤_, _<_}
+use Prim.Native.Nat.{ℕ, suc, _+_, _≤_, _<_}
 use native.Mathlib.Omega.{arith}
 use borrow.Author.Tests.{leb-true, leb-false}
 use lib.Dec.{leb}
 use denote.Ref.{now}
-use Rattle.snapshot.specs.Form.{rowSize, first, rowsPlace, rowsIn}
+use Rattle.snapshot.specs.Form.{first, rowsIn}
 use Rattle.snapshot.specs.Snapshot.{layoutRight}
 use Rattle.snapshot_reader.specs.declared.row.RowStep.{RowStep}
 use Rattle.snapshot_reader.specs.declared.reader.SnapshotReader.{SnapshotReader}

@@ -6,7 +6,7 @@ use mathlib.Core.List.{List, [], _∷_, _++_, map, flatten}
 use Prim.Native.Nat.{ℕ, zero, suc, _+_, _*_, _≤_, _<_}
 use native.Mathlib.Omega.{arith}
 use borrow.Author.Tests.{le-leb, lt-ltb, eq-eqb, ne-eqb}
-use lib.Dec.{ltb, eqb}
+use lib.Dec.{ltb}
 use lib.Seq.{drop-drop}
 use lib.ListN.{length, drop}
 use Rattle.truths.specs.TruthLaws.{true-is-not-false}
@@ -24,7 +24,6 @@ use Rattle.peer_message_policy.specs.Policy.{rowsOf}
 use Rattle.snapshot.specs.Form.{rowSize, first, rowsPlace, rowsIn}
 use Rattle.snapshot.specs.Snapshot.{wasRead, layoutRight, policyIn, restored, readOutcome, ReadMeets}
 use Rattle.snapshot.specs.JudgeLaws.{Describes, policy-describes}
-use Rattle.snapshot_reader.specs.declared.row.RowStep.{RowStep}
 use Rattle.snapshot_reader.specs.Reader.{stepAt}
 use Rattle.snapshot_reader.specs.ReaderLaws.{placeOfRow, walk-row, walk-done}
 use Rattle.text_pieces.specs.Text.{refusalText}

@@ -1,8 +1,7 @@
 -- Laws of the search for the least measure: it finds the first row with the least measure among those that have one. The i-th row
 -- is `getD rs i d`, with any row d. In order: measures at indexes; the search as a loop; what is found. Assumes nothing.
-use mathlib.Core.Bool.{true, false}
 use mathlib.Core.Path.{_≡_, refl, sym, ap, _∙_}
-use mathlib.Core.List.{List, [], _∷_}
+use mathlib.Core.List.{List, _∷_}
 use mathlib.Core.Option.{Option, none, some}
 use Prim.Native.Nat.{ℕ, zero, suc, _+_, _≤_, _<_}
 use native.Mathlib.Numerals.{add-one}

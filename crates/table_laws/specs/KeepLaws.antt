@@ -3,7 +3,7 @@
 -- those that pass stand at the front of t, and k counts them. In order: the walk over any rows; the walk that rewrites entries; the plain
 -- walk. Assumes nothing.
 use mathlib.Core.Bool.{Bool, true, false, cond}
-use mathlib.Core.Path.{_≡_, refl, sym, ap, _∙_, subst}
+use mathlib.Core.Path.{_≡_, refl, sym, ap, _∙_}
 use mathlib.Core.List.{List, [], _∷_, _++_, append-nil}
 use Prim.Native.Nat.{ℕ, zero, suc, _+_, _-_, _*_, _≤_, _<_}
 use native.Mathlib.Omega.{arith}

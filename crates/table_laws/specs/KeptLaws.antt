@@ -1,8 +1,8 @@
 -- Soundness kept, for any layout, row rule and limit: rows taken out of rows that hold, and a row stored among them, hold; and memory
 -- after a change to rows that hold is sound again, of the same length, and bytes. In order: keys; the bytes of keyed rows; rows that
 -- hold; memory that holds; a change kept. Assumes nothing.
-use mathlib.Core.Path.{_≡_, refl, sym, ap, _∙_, subst}
-use mathlib.Core.Bool.{Bool, true, _&&_}
+use mathlib.Core.Path.{_≡_, sym, ap, _∙_, subst}
+use mathlib.Core.Bool.{Bool, true}
 use mathlib.Core.List.{List, [], _∷_, _++_}
 use Prim.Native.Nat.{ℕ, zero, suc, _+_, _-_, _*_, _≤_, max}
 use native.Mathlib.Nat.{mul-zero, mul-suc, mul-sub, mul-le-mul-left}
@@ -18,7 +18,7 @@ use Rattle.table.specs.Table.{Row, rowUnder, every, ascending, store}
 use Rattle.table.specs.Memory.{Layout, rowOf, rows, rowBytes, tableBytes, laid}
 use Rattle.table.specs.Outcome.{Change, same, become, Memory, changedRows, rowsAfter}
 use Rattle.table.specs.TableLaws.{by-answer, every-store, ascending-store, Sub, done, keep, leave, sub-every, sub-ascending, sub-length}
-use Rattle.table.specs.MemoryLaws.{Faithful, length-rows, bytes-used}
+use Rattle.table.specs.MemoryLaws.{length-rows, bytes-used}
 use Rattle.table_laws.specs.Words.{Numbers}
 use Rattle.table_laws.specs.WordsLaws.{OfNumbers, length-encode, encode-bytes}
 use Rattle.table_laws.specs.Lent.{lentSound}

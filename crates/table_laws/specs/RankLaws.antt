@@ -1,8 +1,8 @@
 -- Measures by several numbers, the first the most important: one number that is ordered as they are, over any base above those that come
 -- later. So `leastFrom` serves an order by (banned, score, last used). Assumes nothing.
-use mathlib.Core.Bool.{Bool, true, false, _&&_, _||_}
+use mathlib.Core.Bool.{_&&_, _||_}
 use mathlib.Core.Logic.{⊎-elim}
-use mathlib.Core.Path.{_≡_, refl, sym, ap, _∙_}
+use mathlib.Core.Path.{_≡_, sym, ap, _∙_}
 use Prim.Native.Nat.{ℕ, _+_, _*_, _≤_, _<_}
 use native.Mathlib.Nat.{mul-le-mul-right, add-mul, one-mul}
 use native.Mathlib.Omega.{arith}

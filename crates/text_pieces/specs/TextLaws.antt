@@ -8,7 +8,7 @@ use native.Mathlib.Numerals.{add-one}
 use native.Mathlib.Omega.{arith}
 use lib.Dec.{ltb}
 use lib.Seq.{drop-at, take-suc}
-use lib.ListN.{length, take, drop, getD, set, replicate, length-append, length-set, length-replicate, replicate-append-replicate}
+use lib.ListN.{length, take, drop, getD, set, length-append, length-set, length-replicate, replicate-append-replicate}
 use Rattle.lent_bytes.specs.LentBytes.{put, zeros}
 use Rattle.lent_bytes.specs.LentBytesLaws.{length-zeros, length-put, put-put, put-nil, set-put, put-snoc}
 use Rattle.decimal.specs.Decimal.{digitsWithin, digitsOf}

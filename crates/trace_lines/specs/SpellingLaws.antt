@@ -19,7 +19,7 @@ use Rattle.decimal.specs.declared.Scanned.{Scanned}
 use Rattle.decimal.specs.declared.Scanned.the-variants.{Number, Bad}
 use Rattle.peer_settings.specs.declared.config.PeerMessagePolicyConfig.{PeerMessagePolicyConfig}
 use Rattle.pubkey.specs.declared.Pubkey.{Pubkey}
-use Rattle.trace_lines.specs.Lines.{largest32, largest64, blankThenNumber, fieldOf, valueOf, endsLine, numberText, event, badEvent, noKey, admitOf, keyedOf, releaseOf, eventOf}
+use Rattle.trace_lines.specs.Lines.{largest32, largest64, blankThenNumber, fieldOf, valueOf, endsLine, numberText, event, noKey, admitOf, keyedOf, releaseOf, eventOf}
 use Rattle.trace_lines.specs.Lines.{interval, burst, rate, burstBytes, threshold, banDuration, maxTracked, maxMessages, maxBytes, configOf, settingsOf}
 use Rattle.trace_lines.specs.Lines.{hexDigit, hexPair, hexByte, hexBytes, allSpelled, keySpelled, keyOf, keyField}
 use Rattle.trace_lines.specs.Spelling.{settingsText, hexChar, hexText, SpellsKeyed, SpellsEvent}

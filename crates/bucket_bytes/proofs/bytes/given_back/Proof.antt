@@ -1,8 +1,5 @@
-use mathlib.Core.Path.{_≡_, sym, _∙_}
 use native.Mathlib.Omega.{arith}
-use lib.ListN.{length, getD}
 use Rattle.amount.specs.AmountLaws.{Whole}
-use Rattle.bucket_bytes.specs.ByteBucket.{byteGivenBack}
 use Rattle.bucket_bytes.proofs.Levels.{topped}
 use borrow.Author.Needs.{needs}
 use Rattle.bucket_bytes.proofs.bytes.given_back.Statement.{statement}

@@ -1,8 +1,6 @@
-use mathlib.Core.Path.{_≡_, sym, _∙_}
-use mathlib.Core.Bool.{true, false}
+use mathlib.Core.Path.{sym}
 use borrow.Author.Tests.{not-true, not-false}
 use Rattle.bucket_bytes.specs.ByteBucket.{byteSound}
-use Rattle.amount.specs.Amount.{isI128}
 use borrow.Author.Needs.{needs}
 use Rattle.bucket_bytes.proofs.bytes.is_sound.Statement.{statement}
 use Rattle.bucket_bytes.proofs.bytes.is_sound.Tie as tie

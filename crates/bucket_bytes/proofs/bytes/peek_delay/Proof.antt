@@ -1,6 +1,5 @@
-use mathlib.Core.Path.{_≡_, sym, _∙_}
+use mathlib.Core.Path.{sym, _∙_}
 use borrow.Author.Tests.{not-true, not-false}
-use Rattle.bucket_bytes.specs.ByteBucket.{bytePeekDelay}
 use Rattle.bucket_bytes.proofs.Levels.{no-deficit, some-deficit, delay-of}
 use borrow.Author.Needs.{needs}
 use Rattle.bucket_bytes.proofs.bytes.peek_delay.Statement.{statement}

@@ -1,9 +1,5 @@
-use mathlib.Core.Path.{_≡_, sym, _∙_}
-use native.Mathlib.Omega.{arith}
-use lib.ListN.{length, getD}
 use Rattle.amount.specs.AmountLaws.{Whole}
 use Rattle.amount.specs.AmountOfLaws.{is-amountOf}
-use Rattle.bucket_bytes.specs.ByteBucket.{bytePromised}
 use borrow.Author.Needs.{needs}
 use Rattle.bucket_bytes.proofs.bytes.promised.Statement.{statement}
 use Rattle.bucket_bytes.proofs.bytes.promised.Tie as tie

@@ -1,7 +1,6 @@
 use Prim.Native.Nat.{_-_, _*_, _/_}
-use mathlib.Core.Path.{_≡_, sym, _∙_}
+use mathlib.Core.Path.{sym}
 use native.Mathlib.Omega.{arith}
-use lib.ListN.{length, getD}
 use borrow.Author.Tests.{le-leb, lt-leb}
 use Rattle.amount.specs.AmountLaws.{Whole}
 use Rattle.bucket_bytes.specs.ByteBucket.{msPerSec, byteRefill}

@@ -1,7 +1,4 @@
 use Rattle.bucket_bytes.proofs.Levels.{below-number}
-use mathlib.Core.Path.{_≡_, sym, _∙_}
-use native.Mathlib.Omega.{arith}
-use lib.ListN.{length, getD}
 use Rattle.amount.specs.AmountLaws.{Whole}
 use Rattle.amount.specs.AmountOfLaws.{is-amountOf}
 use Rattle.bucket_bytes.specs.ByteBucket.{byteTake}

@@ -1,5 +1,4 @@
 -- `reply::truth` meets its contract. Assumes nothing.
-use borrow.Author.Tests.{not-true, not-false}
 use Rattle.c_terms.proofs.reply.truth.Statement.{statement}
 use Rattle.c_terms.proofs.reply.truth.Tie as tie
 

@@ -1,7 +1,7 @@
 -- `keyed_rows::change::store` meets its contract: by the key's place (`stored-over`, `stored-into`); a search never says unsound. Assumes
 -- nothing.
-use mathlib.Core.Path.{_≡_, sym, _∙_}
-use Prim.Native.Nat.{_+_, _*_, _≤_, _<_}
+use mathlib.Core.Path.{sym, _∙_}
+use Prim.Native.Nat.{_+_, _*_}
 use native.Mathlib.Omega.{arith}
 use borrow.Author.Needs.{needs}
 use lib.ListN.{length}

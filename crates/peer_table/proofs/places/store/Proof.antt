@@ -1,10 +1,7 @@
 -- `peer_table::places::store` meets its contract: a store among raw rows is one among the peers' rows (`stored-under`). Assumes nothing.
-use mir.Syntax.{w8}
-use mir.Val.{Fits}
 use mathlib.Core.Path.{_≡_, ap}
 use native.Mathlib.Omega.{arith}
-use lib.ListN.{length, getD}
-use Rattle.lent_bytes.specs.LentBytes.{Bytes}
+use lib.ListN.{length}
 use Rattle.table.specs.Memory.{wordBytes}
 use Rattle.table_laws.specs.ChangeLaws.{stored-under}
 use Rattle.peer_rows.specs.RowsLaws.{length-entryWords, peer-faithful}

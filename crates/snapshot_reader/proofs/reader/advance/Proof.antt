@@ -44,7 +44,7 @@ use denote.Triple.Entry.{Vals, onEntry}
 use denote.Triple.Spec.{Meets, tripleOf}
 use denote.Triple.Table.{entered, cited}
 use denote.Triple.Walked.{says, Stays, stay-ref, walkOf, goes-ref, Walks, ends-at, walked, walk-meets}
-use Rattle.snapshot_reader.specs.Reader.{stepAt, Advanced}
+use Rattle.snapshot_reader.specs.Reader.{stepAt}
 use Rattle.snapshot_reader.specs.declared.reader.SnapshotReader.{SnapshotReader}
 use Rattle.snapshot_reader.specs.declared.row.RowStep.{RowStep}
 use Rattle.snapshot_reader.proofs.reader.SnapshotReader as T

@@ -1,5 +1,5 @@
 -- `snapshot_text::line::field_line` meets its contract. A name, its number and a newline, each behind what stands there. Assumes nothing.
-use mathlib.Core.Path.{_≡_, ap, _∙_}
+use mathlib.Core.Path.{ap, _∙_}
 use mathlib.Core.List.{_++_}
 use Prim.Native.Nat.{_-_}
 use native.Mathlib.Omega.{arith}

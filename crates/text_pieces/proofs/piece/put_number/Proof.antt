@@ -1,8 +1,6 @@
 -- `text_pieces::piece::put_number` meets its contract. A blank, and the digits behind it. Assumes nothing.
-use mathlib.Core.List.{[], _∷_}
-use Prim.Native.Nat.{_+_}
 use native.Mathlib.Omega.{arith}
-use lib.ListN.{length, set, length-set}
+use lib.ListN.{length-set}
 use Rattle.text_pieces.specs.Text.{numberText, Wrote}
 use Rattle.text_pieces.specs.TextLaws.{wrote-length, wrote-more, wrote-byte}
 use borrow.Author.Needs.{needs}

@@ -1,6 +1,6 @@
 -- `text_pieces::piece::put_refusal` meets its contract. A word, a number and a newline, each behind what stands there. Assumes nothing.
-use mathlib.Core.List.{List, [], _∷_, _++_, append-assoc}
-use Prim.Native.Nat.{ℕ, _+_, _≤_}
+use mathlib.Core.List.{[], _∷_, _++_, append-assoc}
+use Prim.Native.Nat.{_+_, _≤_}
 use native.Mathlib.Omega.{arith}
 use lib.ListN.{length, set, length-append}
 use Rattle.text_pieces.specs.Text.{numberText, refusalWord, refusalText, Wrote}

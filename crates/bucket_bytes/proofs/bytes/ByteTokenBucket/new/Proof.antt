@@ -1,10 +1,5 @@
-use mathlib.Core.Path.{_≡_, ap}
-use Prim.Native.Nat.{ℕ}
-use lib.ListN.{length, getD}
-use native.Mathlib.Omega.{arith}
 use Rattle.amount.specs.AmountLaws.{Whole}
 use Rattle.amount.specs.AmountOfLaws.{is-amountOf}
-use Rattle.bucket_bytes.specs.ByteBucket.{byteNew}
 use borrow.Author.Needs.{needs}
 use Rattle.bucket_bytes.proofs.bytes.ByteTokenBucket.new.Statement.{statement}
 use Rattle.bucket_bytes.proofs.bytes.ByteTokenBucket.new.Tie as tie

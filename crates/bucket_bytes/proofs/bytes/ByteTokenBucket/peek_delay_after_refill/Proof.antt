@@ -1,5 +1,5 @@
 use Rattle.bucket_bytes.proofs.Levels.{refilled-rate}
-use mathlib.Core.Path.{_≡_, sym, _∙_}
+use mathlib.Core.Path.{sym}
 use borrow.Author.Tests.{not-true, not-false}
 use Rattle.bucket_bytes.specs.ByteBucket.{BytePeekDelayMeets, bytePeekDelayAfterRefill}
 use borrow.Author.Needs.{needs}

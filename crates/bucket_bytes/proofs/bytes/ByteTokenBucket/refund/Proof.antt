@@ -1,4 +1,4 @@
-use mathlib.Core.Path.{_≡_, sym, _∙_}
+use mathlib.Core.Path.{sym}
 use borrow.Author.Tests.{not-true, not-false}
 use Rattle.bucket_bytes.specs.ByteBucket.{ByteRefundMeets, byteRefund}
 use borrow.Author.Needs.{needs}
