@@ -9,7 +9,7 @@ use borrow.Author.Tests.{ltb-true, ltb-false, ne-eqb}
 use lib.Dec.{ltb, eqb, lit<}
 use Rattle.amount.specs.declared.magnitude.Magnitude.{Magnitude}
 use Rattle.amount.specs.AmountLaws.{digit-under}
-use Rattle.amount.specs.Magnitude.{size}
+use Rattle.amount.specs.Private.{size}
 use Rattle.amount.proofs.Tests.{same-ltb, same-eqb}
 
 -- ════ Two digits in base P: a and b the low ones, h and k the high ones ════

@@ -11,7 +11,8 @@ use lib.IntN.{ℤ, pos, negℤ, _+ℤ_, negℤ-negℤ, negℤ-+ℤ, +ℤ-comm}
 use lib.Signed.{ltZ}
 use Rattle.amount.specs.declared.Amount.{Amount}
 use Rattle.amount_limbs.specs.Limbs.{digits}
-use Rattle.amount.specs.Amount.{signed, value, minusZero, saturated, inRange, natural, Is}
+use Rattle.amount.specs.Amount.{signed, value, minusZero, saturated, inRange, natural}
+use Rattle.amount.specs.Private.{Is}
 use Rattle.amount.specs.AmountLaws.{minus-pos, saturated-beyond, saturated-signed, saturated-in-range, natural-negative, natural-other}
 
 pub signed-not : (s : Bool) (n : ℕ) → signed (not s) n ≡ negℤ (signed s n)

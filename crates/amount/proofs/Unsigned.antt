@@ -6,7 +6,8 @@ use Prim.Native.Nat.{ℕ, zero, suc}
 use lib.IntN.{pos}
 use Rattle.amount.specs.declared.Amount.{Amount}
 use Rattle.amount_limbs.specs.Limbs.{digits}
-use Rattle.amount.specs.Amount.{Is, signed, value, minusZero, natural}
+use Rattle.amount.specs.Amount.{signed, value, minusZero, natural}
+use Rattle.amount.specs.Private.{Is}
 
 natural-signed : (n : ℕ) → natural (signed true n) ≡ 0
 natural-signed zero = refl

@@ -1,6 +1,5 @@
 -- What the contracts of `amount` say: an `Amount` as an integer, and Rust's i128 and u128 as ranges of integers.
 -- Definitions only; their laws are in `AmountLaws`.
-use mathlib.Core.Path.{_≡_}
 use mathlib.Core.Bool.{Bool, true, false, _&&_, not, cond}
 use mathlib.Core.List.{List, [], _∷_}
 use Prim.Native.Nat.{ℕ, zero, suc, _-_, _/_, _%_, _^_, min}
@@ -32,11 +31,6 @@ amountOf (negsuc n) = record { negative = true; limbs = limbs 4 (suc n) }
 -- whether an amount is the minus zero that no i128 has
 unfoldable pub minusZero : Amount → Bool
 minusZero a = (a .negative) && eqb (digits (a .limbs)) 0
-
--- how a contract names the amount that a call answers: the integer, and that it is no minus zero
-pub record Is (a : Amount) (z : ℤ) : Type 0 where
-  pub stands : value a ≡ z
-  pub plain : minusZero a ≡ false
 
 -- the nearest i128, -2^127 to 2^127 - 1: where Rust's saturating operations stop
 unfoldable pub saturated : ℤ → ℤ

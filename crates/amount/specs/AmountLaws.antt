@@ -15,7 +15,8 @@ use lib.Signed.{ltZ}
 use Rattle.truths.specs.TruthLaws.{true-is-not-false, both-parts}
 use Rattle.amount.specs.declared.Amount.{Amount}
 use Rattle.amount_limbs.specs.Limbs.{digits}
-use Rattle.amount.specs.Amount.{signed, value, minusZero, Is, saturated, natural, lesser, inRange, isI128}
+use Rattle.amount.specs.Amount.{signed, value, minusZero, saturated, natural, lesser, inRange, isI128}
+use Rattle.amount.specs.Private.{Is}
 
 -- ════ Four limbs, each below 2^32: what the language gives of any amount that a program holds (`search needs` finds it) ════
 

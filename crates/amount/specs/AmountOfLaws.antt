@@ -9,7 +9,8 @@ use lib.ListN.{length, getD}
 use lib.IntN.{ℤ, pos, negsuc}
 use Rattle.amount.specs.declared.Amount.{Amount}
 use Rattle.amount_limbs.specs.Limbs.{digits}
-use Rattle.amount.specs.Amount.{limbs, amountOf, signed, value, minusZero, Is}
+use Rattle.amount.specs.Amount.{limbs, amountOf, signed, value, minusZero}
+use Rattle.amount.specs.Private.{Is}
 use Rattle.amount.specs.AmountLaws.{Whole, is-unique, whole-below}
 
 -- the limbs of a number that has room in them spell it

@@ -1,4 +1,4 @@
 pub mod Amount
 pub mod AmountLaws
-pub mod Magnitude
+pub mod Private
 pub mod AmountOfLaws

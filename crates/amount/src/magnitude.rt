@@ -4,7 +4,7 @@ ghost use mathlib.Core.Path.{_≡_};
 ghost use Prim.Native.Nat.{_+_, _-_, _*_, _^_, _≤_};
 ghost use lib.Dec.{eqb, ltb};
 ghost use Rattle.amount_limbs.specs.Limbs.{digits};
-ghost use Rattle.amount.specs.Magnitude.{size};
+ghost use Rattle.amount.specs.Private.{size};
 
 pub struct Magnitude {
     pub low: u64,

@@ -7,7 +7,8 @@ ghost use mathlib.Core.Path.{_≡_};
 ghost use Prim.Native.Nat.{_*_, _/_, _<_};
 ghost use lib.IntN.{pos};
 ghost use Rattle.amount_limbs.specs.Limbs.{saturatedUnsigned};
-ghost use Rattle.amount.specs.Amount.{Is, value, natural};
+ghost use Rattle.amount.specs.Amount.{value, natural};
+ghost use Rattle.amount.specs.Private.{Is};
 
 impl Amount {
     // a * b / divisor, rounded down, of the whole 128-bit product. It runs for every admit, so it has no loop and no long division, and

@@ -8,8 +8,9 @@ ghost use mathlib.Core.Bool.{not};
 ghost use Prim.Native.Nat.{_+_, _^_};
 ghost use lib.IntN.{_+ℤ_};
 ghost use lib.Signed.{ltZ};
-ghost use Rattle.amount.specs.Amount.{Is, signed, saturated};
-ghost use Rattle.amount.specs.Magnitude.{size};
+ghost use Rattle.amount.specs.Amount.{signed, saturated};
+ghost use Rattle.amount.specs.Private.{Is};
+ghost use Rattle.amount.specs.Private.{size};
 
 // The amount with that sign and magnitude. Zero has no sign.
 pub fn amount_of(negative: bool, m: Magnitude) -> Amount

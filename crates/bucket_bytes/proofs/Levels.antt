@@ -11,7 +11,8 @@ use lib.Signed.{ltZ}
 use Rattle.truths.specs.TruthLaws.{either}
 use Rattle.amount.specs.declared.Amount.{Amount}
 use Rattle.amount_limbs.specs.Limbs.{saturatedUnsigned, ceilDiv}
-use Rattle.amount.specs.Amount.{Is, value, amountOf, saturated, natural, lesser}
+use Rattle.amount.specs.Amount.{value, amountOf, saturated, natural, lesser}
+use Rattle.amount.specs.Private.{Is}
 use Rattle.amount.specs.AmountLaws.{Whole, saturated-pos}
 use Rattle.amount.specs.AmountOfLaws.{is-amountOf}
 use Rattle.bucket_terms.specs.declared.limit.ByteRateLimitConfig.{ByteRateLimitConfig}

@@ -22,7 +22,7 @@ use Rattle.trace.specs.declared.step.Answered.{Answered}
 use Rattle.trace.specs.declared.step.Answered.the-variants.{Says, Refused, NoEvent}
 use Rattle.trace.specs.Step.{spokenText, stepOutcome, answeredOutcome}
 use Rattle.trace.specs.Scan.{firstLine, last, ended, lineOutcome, eventsOutcome, EventsMeets, settledScan, SettledMeets, SettingsBy, SettingsMeets, NextIn, NextMeets}
-use Rattle.c_trace.specs.Written.{Written}
+use Rattle.c_trace.specs.Private.{Written}
 
 -- ════ No text is empty ════
 

@@ -1,7 +1,8 @@
 // The exported functions: a scan is made of the words, the proved call is called, and the scan behind it is left.
 ghost use mathlib.Core.Path.{_≡_};
 ghost use Rattle.c_trace.specs.Exported.{OpenExported, NextExported};
-ghost use Rattle.c_trace.specs.Written.{Written, LineLeft};
+ghost use Rattle.c_trace.specs.Written.{LineLeft};
+ghost use Rattle.c_trace.specs.Private.{Written};
 use super::words;
 use trace::scan;
 use trace_lines::line::TraceLine;

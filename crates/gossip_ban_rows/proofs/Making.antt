@@ -12,7 +12,8 @@ use Rattle.table_laws.specs.ChangeLaws.{unchanged}
 use Rattle.table_laws.specs.StoreLaws.{Counted, counted-then}
 use Rattle.gossip_ban_rows.specs.Rows.{Bans, banLayout}
 use Rattle.gossip_ban_rows.specs.RowsLaws.{EntryFits, ban-faithful}
-use Rattle.gossip_ban_rows.specs.Room.{unexpired, pruneExpired, evict, roomFor}
+use Rattle.gossip_ban_rows.specs.Room.{unexpired, pruneExpired, evict}
+use Rattle.gossip_ban_rows.specs.Private.{roomFor}
 use Rattle.gossip_ban_rows.specs.RoomLaws.{sub-prune, room-free, room-pruned, room-evicted}
 
 -- rows counted in memory, by an equation of the rows

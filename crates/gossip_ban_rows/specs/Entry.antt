@@ -39,10 +39,6 @@ bannedIfReached c e now =
     cond (reaches c e)
     (banEntry (e .score) 1 (min (now + c .«duration_ms») 18446744073709551615) (e .«last_updated_ms»)) e
 
--- the entry as it is, or where it is expired a new one
-unfoldable pub unexpiredOrDefault : GossipBanEntry → ℕ → ℕ → GossipBanEntry
-unexpiredOrDefault e duration now = cond (isExpired e duration now) entryDefault e
-
 -- the entry's own rules: a score within 32 bits, a mark of 0 or 1, and no end without a ban
 unfoldable pub entrySound : GossipBanEntry → Bool
 entrySound e = leb (e .score) 4294967295 && (eqb (e .mark) 1 || (eqb (e .mark) 0 && eqb (e .«until_ms») 0))

@@ -1,4 +1,5 @@
 pub mod Entry
+pub mod Private
 pub mod Rows
 pub mod Room
 pub mod RowsLaws

@@ -9,7 +9,8 @@ use lib.Dec.{ltb, eqb}
 use Rattle.table_laws.specs.RankLaws.{ranked, ltb-pair}
 use Rattle.gossip_ban_rows.specs.declared.entry.GossipBanEntry.{GossipBanEntry}
 use Rattle.gossip_ban_rows.specs.Entry.{isCurrentlyBanned}
-use Rattle.gossip_ban_rows.specs.Room.{isLighter, rank}
+use Rattle.gossip_ban_rows.specs.Room.{rank}
+use Rattle.gossip_ban_rows.specs.Private.{isLighter}
 
 -- two digits are below the square of their base
 two-digits : (base a b : ℕ) → a < base → b < base → ranked base a b < base * base

@@ -1,9 +1,9 @@
 -- Entries that expire, and room for a new one, as gossip_policy.rs has them. Definitions only.
-use mathlib.Core.Bool.{Bool, true, false, not, _&&_, _||_, cond}
+use mathlib.Core.Bool.{Bool, true, false, not, _||_, cond}
 use mathlib.Core.List.{List}
 use mathlib.Core.Option.{Option, none, some}
 use Prim.Native.Nat.{ℕ, zero, suc, _+_, _*_, _^_}
-use lib.Dec.{ltb, eqb}
+use lib.Dec.{ltb}
 use lib.ListN.{length}
 use Rattle.table.specs.Table.{Row, Best, nothing, best, leastFrom, look, erase, retain, removeAt}
 use Rattle.gossip_ban_rows.specs.declared.entry.GossipBanEntry.{GossipBanEntry}
@@ -25,11 +25,6 @@ unexpired duration now r = not (isExpired (r .entry) duration now)
 -- prune_expired: all expired entries go
 abbrev pub pruneExpired : ℕ → ℕ → Bans → Bans
 pruneExpired duration now rs = retain (unexpired duration now) rs
-
--- whether an entry comes before another by (score, last_updated_ms)
-abbrev pub isLighter : GossipBanEntry → GossipBanEntry → Bool
-isLighter e f =
-    ltb (e .score) (f .score) || (eqb (e .score) (f .score) && ltb (e .«last_updated_ms») (f .«last_updated_ms»))
 
 -- (is_currently_banned, score, last_updated_ms) as one number: the entry with the least goes first
 unfoldable pub rank : ℕ → GossipBanEntry → ℕ
@@ -71,12 +66,3 @@ unfoldable pub makeRoom : ℕ → ℕ → ℕ → List ℕ → Bans → Bans
 makeRoom limit duration now k rs =
     cond (hasRoom limit k rs) rs
     (evictWhileFull (length (pruneExpired duration now rs)) limit now k (pruneExpired duration now rs))
-
--- the expired entries have gone; where the table is still full, one row more
-abbrev pub evictIfFull : ℕ → ℕ → Bans → Bans
-evictIfFull limit now rs = cond (ltb (length rs) limit) rs (evict now rs)
-
--- what making room comes to for a peer that has no entry (`room-absent` of `RoomLaws`)
-unfoldable pub roomFor : ℕ → ℕ → ℕ → Bans → Bans
-roomFor limit duration now rs =
-    cond (ltb (length rs) limit) rs (evictIfFull limit now (pruneExpired duration now rs))

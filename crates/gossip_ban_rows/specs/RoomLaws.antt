@@ -19,7 +19,8 @@ use Rattle.table_laws.specs.RoomLaws.{by-best}
 use Rattle.gossip_ban_rows.specs.declared.entry.GossipBanEntry.{GossipBanEntry}
 use Rattle.gossip_ban_rows.specs.Entry.{isExpired}
 use Rattle.gossip_ban_rows.specs.Rows.{Bans}
-use Rattle.gossip_ban_rows.specs.Room.{expireFound, maybeExpire, unexpired, pruneExpired, evictionRank, evict, contains, evictWhileFull, makeRoom, roomFor}
+use Rattle.gossip_ban_rows.specs.Room.{expireFound, maybeExpire, unexpired, pruneExpired, evictionRank, evict, contains, evictWhileFull, makeRoom}
+use Rattle.gossip_ban_rows.specs.Private.{roomFor}
 
 -- ════ One entry ════
 

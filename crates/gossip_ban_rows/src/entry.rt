@@ -4,7 +4,8 @@
 ghost use mathlib.Core.Path.{_≡_};
 ghost use Prim.Native.Nat.{_+_, min};
 ghost use Rattle.gossip_ban_rows.specs.Entry.{entryDefault, expiresAtMs, isExpired, isCurrentlyBanned, entrySound};
-ghost use Rattle.gossip_ban_rows.specs.Entry.{raised as raisedBy, reaches as reachedBy, bannedIfReached, unexpiredOrDefault};
+ghost use Rattle.gossip_ban_rows.specs.Entry.{raised as raisedBy, reaches as reachedBy, bannedIfReached};
+ghost use Rattle.gossip_ban_rows.specs.Private.{unexpiredOrDefault};
 use gossip_settings::ban::GossipBanConfig;
 
 // `mark` and `until_ms` are the Rust's `banned_until_ms: Option<u64>`: a mark, 1 where there is a ban, beside its end.

@@ -24,10 +24,12 @@ use Rattle.gossip_settings.specs.declared.ban.GossipBanConfig.{GossipBanConfig}
 use Rattle.gossip_settings.specs.declared.violation.GossipViolation.{GossipViolation}
 use Rattle.gossip_settings.specs.Settings.{gossipBanDisabled, violationScore}
 use Rattle.gossip_ban_rows.specs.declared.entry.GossipBanEntry.{GossipBanEntry}
-use Rattle.gossip_ban_rows.specs.Entry.{entryDefault, isExpired, isCurrentlyBanned, raised, reaches, bannedIfReached, unexpiredOrDefault}
+use Rattle.gossip_ban_rows.specs.Entry.{entryDefault, isExpired, isCurrentlyBanned, raised, reaches, bannedIfReached}
+use Rattle.gossip_ban_rows.specs.Private.{unexpiredOrDefault}
 use Rattle.gossip_ban_rows.specs.Rows.{Bans, banLayout}
 use Rattle.gossip_ban_rows.specs.RowsLaws.{ban-faithful}
-use Rattle.gossip_ban_rows.specs.Room.{pruneExpired, roomFor}
+use Rattle.gossip_ban_rows.specs.Room.{pruneExpired}
+use Rattle.gossip_ban_rows.specs.Private.{roomFor}
 use Rattle.gossip_bans.specs.declared.tracker.GossipBanTracker.{GossipBanTracker}
 use Rattle.gossip_bans.specs.declared.answer.MadeTracker.the-variants as MadeTracker
 use Rattle.gossip_bans.specs.declared.answer.Scored.the-variants as Scored
@@ -35,7 +37,7 @@ use Rattle.gossip_bans.specs.declared.answer.Pruned.the-variants as Prun
 use Rattle.gossip_bans.specs.Tracker.{rowsOf, limitOf, sound, turn, recordedOver, recordViolation}
 use Rattle.gossip_bans.specs.TrackerLaws.{violation-off, violation-known, violation-new, banned-off, banned-absent, banned-expired, banned-live, score-absent, score-expired, score-live}
 use Rattle.gossip_bans.specs.Calls.{carried, fresh, madeOutcome, MadeMeets, banTold, recordViolationOutcome, RecordViolationMeets, isBannedOutcome, IsBannedMeets, banScored, scoreOutcome, ScoreMeets, banPruned, pruneExpiredOutcome, PruneExpiredMeets}
-use Rattle.gossip_bans.specs.Carry.{Left}
+use Rattle.gossip_bans.specs.Private.{Left}
 use Rattle.gossip_bans.proofs.Judged.{few-rows, rows-fit, order}
 
 -- ════ Any call ════

@@ -14,12 +14,12 @@ use Rattle.table_laws.specs.StoreLaws.{Counted, counted-then}
 use Rattle.gossip_ban_rows.specs.declared.entry.GossipBanEntry.{GossipBanEntry}
 use Rattle.gossip_ban_rows.specs.Rows.{Bans, banLayout}
 use Rattle.gossip_ban_rows.specs.RowsLaws.{EntryFits, ban-faithful}
-use Rattle.gossip_ban_rows.specs.Room.{roomFor}
+use Rattle.gossip_ban_rows.specs.Private.{roomFor}
 use Rattle.gossip_ban_rows.specs.RoomLaws.{sub-room, room-for-one}
 use Rattle.gossip_bans.specs.declared.tracker.GossipBanTracker.{GossipBanTracker}
 use Rattle.gossip_bans.specs.Tracker.{rowsOf, limitOf}
 use Rattle.gossip_bans.specs.Calls.{trackerWith}
-use Rattle.gossip_bans.specs.Carry.{Known, Unknown, Left}
+use Rattle.gossip_bans.specs.Private.{Known, Unknown, Left}
 use Rattle.gossip_bans.proofs.Judged.{few-rows, limit-fits, rows-fit}
 
 -- rows counted in memory are what the tracker goes on with

@@ -11,7 +11,8 @@ use lib.ListN.{length}
 use Rattle.truths.specs.TruthLaws.{both-parts}
 use Rattle.lent_bytes.specs.LentBytes.{part}
 use Rattle.table.specs.declared.seek.Seek.the-variants.{Unsound, At, Gap}
-use Rattle.table.specs.Table.{ascending, seek, look}
+use Rattle.table.specs.Table.{ascending, look}
+use Rattle.table.specs.Private.{seek}
 use Rattle.table.specs.Memory.{rowOf}
 use Rattle.table.specs.MemoryLaws.{length-rows}
 use Rattle.table_laws.specs.LentLaws as lent
@@ -19,9 +20,10 @@ use Rattle.gossip_ban_rows.specs.declared.entry.GossipBanEntry.{GossipBanEntry}
 use Rattle.gossip_ban_rows.specs.Entry.{entrySound}
 use Rattle.gossip_ban_rows.specs.Rows.{banLayout, banSound}
 use Rattle.gossip_bans.specs.declared.tracker.GossipBanTracker.{GossipBanTracker}
-use Rattle.gossip_bans.specs.Tracker.{rowsOf, limitOf, trackerSound, sound, soughtIn}
+use Rattle.gossip_bans.specs.Tracker.{rowsOf, limitOf, trackerSound, sound}
+use Rattle.gossip_bans.specs.Private.{soughtIn}
 use Rattle.gossip_bans.specs.TrackerLaws.{rows-within}
-use Rattle.gossip_bans.specs.Carry.{Known, Unknown}
+use Rattle.gossip_bans.specs.Private.{Known, Unknown}
 
 module _ (t : GossipBanTracker) (s : List ℕ) where
   module _ (k : List ℕ) where

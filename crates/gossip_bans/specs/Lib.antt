@@ -1,4 +1,4 @@
 pub mod Tracker
+pub mod Private
 pub mod Calls
-pub mod Carry
 pub mod TrackerLaws

@@ -4,11 +4,10 @@ use mathlib.Core.List.{List}
 use mathlib.Core.Option.{Option, none, some}
 use Prim.Native.Nat.{ℕ, max}
 use lib.Dec.{leb}
-use Rattle.table.specs.declared.seek.Seek.{Seek}
 use Rattle.table.specs.Table.{look, store}
 use Rattle.table.specs.Memory.{rows}
 use Rattle.table.specs.Outcome.{Change, same, become, Outcome}
-use Rattle.table_laws.specs.Lent.{lentSound, lentSought}
+use Rattle.table_laws.specs.Lent.{lentSound}
 use Rattle.gossip_settings.specs.declared.ban.GossipBanConfig.{GossipBanConfig}
 use Rattle.gossip_settings.specs.Settings.{gossipBanDisabled}
 use Rattle.gossip_ban_rows.specs.declared.entry.GossipBanEntry.{GossipBanEntry}
@@ -34,10 +33,6 @@ trackerSound t = leb (t .«max_entries») 1024 && leb (t .rows) (limitOf (t .«m
 -- a tracker and the memory lent to it
 abbrev pub sound : GossipBanTracker → List ℕ → Bool
 sound t s = lentSound banLayout banSound (trackerSound t) (limitOf (t .«max_entries»)) s (t .rows)
-
--- what every call begins with: unsound, or the place of a key, or the gap where it would stand
-abbrev pub soughtIn : GossipBanTracker → List ℕ → List ℕ → Seek
-soughtIn t s k = lentSought banLayout banSound (trackerSound t) (limitOf (t .«max_entries»)) s (t .rows) k
 
 -- ════ The calls, on rows ════
 

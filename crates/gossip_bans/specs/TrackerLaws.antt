@@ -18,9 +18,11 @@ use Rattle.table_laws.specs.StoreLaws.{store-erase}
 use Rattle.gossip_settings.specs.declared.ban.GossipBanConfig.{GossipBanConfig}
 use Rattle.gossip_settings.specs.Settings.{gossipBanDisabled}
 use Rattle.gossip_ban_rows.specs.declared.entry.GossipBanEntry.{GossipBanEntry}
-use Rattle.gossip_ban_rows.specs.Entry.{entryDefault, isExpired, isCurrentlyBanned, raised, reaches, bannedIfReached, unexpiredOrDefault}
+use Rattle.gossip_ban_rows.specs.Entry.{entryDefault, isExpired, isCurrentlyBanned, raised, reaches, bannedIfReached}
+use Rattle.gossip_ban_rows.specs.Private.{unexpiredOrDefault}
 use Rattle.gossip_ban_rows.specs.Rows.{Bans}
-use Rattle.gossip_ban_rows.specs.Room.{maybeExpire, makeRoom, roomFor}
+use Rattle.gossip_ban_rows.specs.Room.{maybeExpire, makeRoom}
+use Rattle.gossip_ban_rows.specs.Private.{roomFor}
 use Rattle.gossip_ban_rows.specs.RoomLaws.{expire-absent, expire-expired, expire-live, make-free, make-present, room-absent, sub-room}
 use Rattle.gossip_bans.specs.declared.tracker.GossipBanTracker.{GossipBanTracker}
 use Rattle.gossip_bans.specs.Tracker.{limitOf, trackerSound, turn, orDefault, recordedOver, recordedAmong, recordViolation, isLive, bannedAmong, isBanned, scoreOr, scoreAmong, score}

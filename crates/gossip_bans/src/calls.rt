@@ -2,7 +2,7 @@
 ghost use mathlib.Core.Path.{_≡_};
 ghost use Rattle.bucket_terms.specs.Answers.{told as toldBy};
 ghost use Rattle.gossip_bans.specs.Calls.{RecordViolationMeets, IsBannedMeets, ScoreMeets};
-ghost use Rattle.gossip_bans.specs.Carry.{Known, Unknown};
+ghost use Rattle.gossip_bans.specs.Private.{Known, Unknown};
 use super::answer::BanScored;
 use super::answer::BanTold;
 use super::answer::Scored;

@@ -1,10 +1,10 @@
 // Rows written once a call is decided: the tracker goes on with as many rows as are left.
 ghost use mathlib.Core.Path.{_≡_};
 ghost use Rattle.table.specs.Table.{store, erase};
-ghost use Rattle.gossip_ban_rows.specs.Room.{roomFor};
+ghost use Rattle.gossip_ban_rows.specs.Private.{roomFor};
 ghost use Rattle.gossip_bans.specs.Tracker.{limitOf, rowsOf};
 ghost use Rattle.gossip_bans.specs.Calls.{trackerWith};
-ghost use Rattle.gossip_bans.specs.Carry.{Known, Unknown, Left};
+ghost use Rattle.gossip_bans.specs.Private.{Known, Unknown, Left};
 use super::judge::limit_of;
 use super::tracker::GossipBanTracker;
 use gossip_ban_rows::entry::GossipBanEntry;

@@ -1,6 +1,7 @@
 // Judging a tracker and the memory lent to it, and finding a peer: what every call begins with.
 ghost use mathlib.Core.Path.{_≡_};
-ghost use Rattle.gossip_bans.specs.Tracker.{limitOf, trackerSound, sound, soughtIn};
+ghost use Rattle.gossip_bans.specs.Tracker.{limitOf, trackerSound, sound};
+ghost use Rattle.gossip_bans.specs.Private.{soughtIn};
 use super::tracker::GossipBanTracker;
 use gossip_settings::ban::GossipBanConfig;
 use pubkey::Pubkey;

@@ -26,9 +26,11 @@ use Rattle.gossip_settings.specs.declared.ban.GossipBanConfig.{GossipBanConfig}
 use Rattle.gossip_settings.specs.declared.violation.GossipViolation.{GossipViolation}
 use Rattle.gossip_settings.specs.Settings.{gossipBanDisabled, violationScore}
 use Rattle.gossip_ban_rows.specs.declared.entry.GossipBanEntry.{GossipBanEntry}
-use Rattle.gossip_ban_rows.specs.Entry.{entryDefault, raised, reaches, bannedIfReached, unexpiredOrDefault, isExpired, entrySound}
+use Rattle.gossip_ban_rows.specs.Entry.{entryDefault, raised, reaches, bannedIfReached, isExpired, entrySound}
+use Rattle.gossip_ban_rows.specs.Private.{unexpiredOrDefault}
 use Rattle.gossip_ban_rows.specs.Rows.{Bans, banNumbers, banLayout, banSound}
-use Rattle.gossip_ban_rows.specs.Room.{maybeExpire, pruneExpired, roomFor}
+use Rattle.gossip_ban_rows.specs.Room.{maybeExpire, pruneExpired}
+use Rattle.gossip_ban_rows.specs.Private.{roomFor}
 use Rattle.gossip_ban_rows.specs.RoomLaws.{sub-expire, sub-prune, sub-room, room-for-one}
 use Rattle.gossip_bans.specs.declared.tracker.GossipBanTracker.{GossipBanTracker}
 use Rattle.gossip_bans.specs.declared.answer.MadeTracker.{MadeTracker}

@@ -34,7 +34,7 @@ use Rattle.gossip_limiter.specs.declared.limiter.ChannelUpdateLimiter.{C
 use Rattle.gossip_limiter.specs.declared.answer.LimiterTold.{LimiterTold}
 use Rattle.gossip_limiter.specs.Limiter.{rowsOf, limitOf, limiterRecordSound, sound, turn, tryAcquire}
 use Rattle.gossip_limiter.specs.Calls.{limiterWith, limiterAfter, limiterTold, tryAcquireOutcome, TryAcquireMeets}
-use Rattle.gossip_limiter.specs.Carry.{Known, Unknown}
+use Rattle.gossip_limiter.specs.Private.{Known, Unknown}
 use Rattle.gossip_limiter.specs.LimiterLaws.{rows-within, acquire-off, acquire-known, acquire-full, acquire-new}
 
 -- ════ What soundness gives ════

@@ -1,4 +1,4 @@
 pub mod Limiter
+pub mod Private
 pub mod Calls
-pub mod Carry
 pub mod LimiterLaws

@@ -5,11 +5,10 @@ use mathlib.Core.Option.{Option, none, some}
 use Prim.Native.Nat.{ℕ, max}
 use lib.Dec.{leb}
 use lib.ListN.{length}
-use Rattle.table.specs.declared.seek.Seek.{Seek}
 use Rattle.table.specs.Table.{look, store}
 use Rattle.table.specs.Memory.{rows}
 use Rattle.table.specs.Outcome.{Change, same, become, Outcome}
-use Rattle.table_laws.specs.Lent.{lentSound, lentSought}
+use Rattle.table_laws.specs.Lent.{lentSound}
 use Rattle.bucket_terms.specs.declared.answer.Told.{Told}
 use Rattle.bucket_terms.specs.declared.answer.Told.the-variants as Told
 use Rattle.bucket_discrete.specs.declared.discrete.DiscreteTokenBucket.{DiscreteTokenBucket}
@@ -39,10 +38,6 @@ limiterRecordSound l = leb (l .«max_entries») 1024 && leb (l .rows) (limitOf (
 -- a limiter and the memory lent to it
 abbrev pub sound : ChannelUpdateLimiter → List ℕ → Bool
 sound l s = lentSound limiterLayout (limiterSound (l .config)) (limiterRecordSound l) (limitOf (l .«max_entries»)) s (l .rows)
-
--- what every call begins with: unsound, or the place of a key, or the gap where it would stand
-abbrev pub soughtIn : ChannelUpdateLimiter → List ℕ → List ℕ → Seek
-soughtIn l s k = lentSought limiterLayout (limiterSound (l .config)) (limiterRecordSound l) (limitOf (l .«max_entries»)) s (l .rows) k
 
 -- ════ try_acquire, on rows ════
 

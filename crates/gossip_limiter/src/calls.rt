@@ -2,7 +2,7 @@
 ghost use mathlib.Core.Path.{_≡_};
 ghost use Rattle.pubkey.specs.Order.{limiterKeyBytes};
 ghost use Rattle.gossip_limiter.specs.Calls.{limiterWith, TryAcquireMeets};
-ghost use Rattle.gossip_limiter.specs.Carry.{Known, Unknown};
+ghost use Rattle.gossip_limiter.specs.Private.{Known, Unknown};
 use super::answer::LimiterTold;
 use super::judge::limit_of;
 use super::limiter::ChannelUpdateLimiter;

@@ -1,7 +1,8 @@
 // Judging a limiter and the memory lent to it, and finding a key: what every call begins with.
 ghost use mathlib.Core.Path.{_≡_};
 ghost use Rattle.pubkey.specs.Order.{limiterKeyBytes};
-ghost use Rattle.gossip_limiter.specs.Limiter.{limitOf, limiterRecordSound, soughtIn};
+ghost use Rattle.gossip_limiter.specs.Limiter.{limitOf, limiterRecordSound};
+ghost use Rattle.gossip_limiter.specs.Private.{soughtIn};
 use super::limiter::ChannelUpdateLimiter;
 use gossip_settings::channel_update::ChannelUpdateRateLimitConfig;
 use pubkey::ChannelUpdateLimiterKey;

@@ -27,7 +27,7 @@ use Rattle.gossip_outbound_state.specs.declared.charge.Promised.{Promised}
 use Rattle.gossip_outbound.specs.declared.answer.Settled.the-variants as Settled
 use Rattle.gossip_outbound_state.specs.State.{rowsOf, sound, bucketOrFresh, chargeBoth, promiseBoth, outboundWith, peerDelay, exceeds, peerDebt}
 use Rattle.gossip_outbound.specs.Outbound.{turn, refuse, outboundTold, outboundReserved, outboundSettled, kept, allowed, allow, reserved, reserve, refunded, refund, bypasses}
-use Rattle.gossip_outbound_state.specs.Carry.{fullAt, Placed, PeerBucket}
+use Rattle.gossip_outbound_state.specs.Private.{fullAt, Placed, PeerBucket}
 use Rattle.gossip_outbound_state.specs.CarryLaws.{placed-full}
 use Rattle.gossip_outbound.specs.Calls.{allowOutcome, AllowMeets, reserveOutcome, ReserveMeets, refundOutcome, RefundMeets, removeOutcome, RemoveMeets, EstimateMeets, BypassMeets}
 

@@ -2,7 +2,8 @@
 ghost use mathlib.Core.Path.{_≡_};
 ghost use Prim.Native.Nat.{_+_, _*_, _<_, _≤_};
 ghost use lib.ListN.{length};
-ghost use Rattle.table.specs.Table.{rowUnder, insertAt, removeAt};
+ghost use Rattle.table.specs.Table.{rowUnder, removeAt};
+ghost use Rattle.table.specs.Private.{insertAt};
 ghost use Rattle.table.specs.Memory.{rows, Holds};
 ghost use Rattle.table_laws.specs.ChangeLaws.{over};
 ghost use Rattle.gossip_outbound_rows.specs.Rows.{outboundLayout};

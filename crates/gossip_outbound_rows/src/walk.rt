@@ -2,7 +2,8 @@
 ghost use mathlib.Core.Path.{_≡_};
 ghost use Prim.Native.Nat.{_*_, _≤_};
 ghost use lib.ListN.{length};
-ghost use Rattle.table.specs.Table.{every, seek};
+ghost use Rattle.table.specs.Table.{every};
+ghost use Rattle.table.specs.Private.{seek};
 ghost use Rattle.table.specs.Memory.{rows};
 ghost use Rattle.gossip_outbound_rows.specs.Rows.{outboundLayout, outboundSound};
 use crate::entry;

@@ -13,11 +13,12 @@ use Rattle.truths.specs.TruthLaws.{both, both-parts, true-is-not-false}
 use Rattle.lent_bytes.specs.LentBytes.{part, Bytes}
 use Rattle.table.specs.declared.seek.Seek.{Seek}
 use Rattle.table.specs.declared.seek.Seek.the-variants.{Unsound, At, Gap}
-use Rattle.table.specs.Table.{look, store, erase, insertAt, removeAt, rowUnder}
+use Rattle.table.specs.Table.{look, store, erase, removeAt, rowUnder}
+use Rattle.table.specs.Private.{insertAt}
 use Rattle.table.specs.Memory.{rowOf, rows, Holds}
 use Rattle.table.specs.MemoryLaws.{length-rows}
 use Rattle.table.specs.PlaceLaws.{place-is-sound, gap-erase}
-use Rattle.table_laws.specs.Lent as lent
+use Rattle.table_laws.specs.Private as lent
 use Rattle.table_laws.specs.LentLaws.{sought-unsound, sought-known, sought-unknown, own-sound, limit-fits, known-inside, known-rule, known-look, unknown-within, unknown-look}
 use Rattle.table_laws.specs.ChangeLaws.{over, holds-same, stored-at, stored-gap, erased-at, unchanged}
 use Rattle.table_laws.specs.StoreLaws.{Counted}
@@ -32,8 +33,9 @@ use Rattle.gossip_outbound_rows.specs.EntryLaws.{entry-bucket-sound}
 use Rattle.gossip_outbound_rows.specs.Rows.{outboundLayout, outboundSound}
 use Rattle.gossip_outbound_rows.specs.RowsLaws.{outbound-faithful}
 use Rattle.gossip_outbound_state.specs.declared.state.Outbound.{Outbound}
-use Rattle.gossip_outbound_state.specs.State.{rowsOf, ownSound, sound, soughtIn, bucketOrFresh, full, isYes, isToldYes, charged, chargeBoth, peerDelay, peerDebt}
-use Rattle.gossip_outbound_state.specs.Carry.{isUnsound, fullAt, Placed, PeerBucket}
+use Rattle.gossip_outbound_state.specs.State.{rowsOf, ownSound, sound, bucketOrFresh, full, isYes, charged, chargeBoth, peerDelay, peerDebt}
+use Rattle.gossip_outbound_state.specs.Private.{soughtIn, isToldYes}
+use Rattle.gossip_outbound_state.specs.Private.{isUnsound, fullAt, Placed, PeerBucket}
 
 -- ════ Two buckets asked ════
 

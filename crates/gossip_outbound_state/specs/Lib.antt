@@ -1,3 +1,3 @@
 pub mod State
-pub mod Carry
+pub mod Private
 pub mod CarryLaws

@@ -5,14 +5,12 @@ use mathlib.Core.List.{List}
 use mathlib.Core.Option.{Option, none, some}
 use Prim.Native.Nat.{ℕ, max}
 use lib.Dec.{leb, ltb}
-use Rattle.table.specs.declared.seek.Seek.{Seek}
 use Rattle.table.specs.Memory.{rows}
-use Rattle.table_laws.specs.Lent.{lentSound, lentSought}
+use Rattle.table_laws.specs.Lent.{lentSound}
 use Rattle.bucket_terms.specs.declared.answer.Consumed.{Consumed}
 use Rattle.bucket_terms.specs.declared.answer.Consumed.the-variants as Consumed
 use Rattle.bucket_terms.specs.declared.answer.Delay.{Delay}
 use Rattle.bucket_terms.specs.declared.answer.Delay.the-variants as Delay
-use Rattle.bucket_terms.specs.declared.answer.Told.{Told}
 use Rattle.bucket_terms.specs.declared.answer.Told.the-variants as Told
 use Rattle.bucket_terms.specs.declared.limit.ByteRateLimitConfig.{ByteRateLimitConfig}
 use Rattle.bucket_terms.specs.Limit.{byteDisabled}
@@ -39,10 +37,6 @@ ownSound o = leb (o .rows) 1024 && byteSound (o .«global_outbound»)
 abbrev pub sound : Outbound → List ℕ → Bool
 sound o s = lentSound outboundLayout (outboundSound (o .«peer_outbound_config»)) (ownSound o) 1024 s (o .rows)
 
--- what every call begins with: unsound, or the place of a key, or the gap where it would stand
-abbrev pub soughtIn : Outbound → List ℕ → List ℕ → Seek
-soughtIn o s k = lentSought outboundLayout (outboundSound (o .«peer_outbound_config»)) (ownSound o) 1024 s (o .rows) k
-
 -- ════ A peer's bucket ════
 
 -- unwrap_or_else, or_insert_with: what was found, or a new bucket
@@ -67,12 +61,6 @@ isYes (Consumed.Refused n) = false
 abbrev pub waitOf : Delay → ℕ
 waitOf (Delay.Wait ms) = ms
 waitOf (Delay.Refused n) = 0
-
--- whether the answer to a question is yes
-abbrev pub isToldYes : Told → Bool
-isToldYes Told.Yes = true
-isToldYes Told.No = false
-isToldYes (Told.Refused n) = false
 
 -- two buckets, and whether both gave
 abbrev pub charged : ByteTokenBucket → ByteTokenBucket → Bool → Charged

@@ -6,7 +6,7 @@ ghost use Rattle.table_laws.specs.StoreLaws.{Counted};
 ghost use Rattle.gossip_outbound_rows.specs.Entry.{entryOf};
 ghost use Rattle.gossip_outbound_rows.specs.Rows.{outboundLayout};
 ghost use Rattle.gossip_outbound_state.specs.State.{rowsOf, outboundWith, peerDelay, peerDebt};
-ghost use Rattle.gossip_outbound_state.specs.Carry.{Placed, PeerBucket, fullAt};
+ghost use Rattle.gossip_outbound_state.specs.Private.{Placed, PeerBucket, fullAt};
 use crate::charge;
 use crate::state::Outbound;
 use bucket_bytes::bytes::ByteTokenBucket;

@@ -1,7 +1,8 @@
 // Judging the state and the memory lent to it, and finding a peer: what every call begins with.
 ghost use mathlib.Core.Path.{_≡_};
-ghost use Rattle.gossip_outbound_state.specs.State.{ownSound, soughtIn};
-ghost use Rattle.gossip_outbound_state.specs.Carry.{isUnsound, fullAt};
+ghost use Rattle.gossip_outbound_state.specs.State.{ownSound};
+ghost use Rattle.gossip_outbound_state.specs.Private.{soughtIn};
+ghost use Rattle.gossip_outbound_state.specs.Private.{isUnsound, fullAt};
 use crate::state::Outbound;
 use pubkey::Pubkey;
 use table::seek::Seek;

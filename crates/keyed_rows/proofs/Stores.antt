@@ -8,7 +8,8 @@ use native.Mathlib.Omega.{arith}
 use lib.ListN.{length}
 use Rattle.lent_bytes.specs.LentBytes.{part, put, Bytes}
 use Rattle.table.specs.declared.seek.Seek.the-variants.{At, Gap}
-use Rattle.table.specs.Table.{Row, placeFrom, store}
+use Rattle.table.specs.Table.{Row, store}
+use Rattle.table.specs.Private.{placeFrom}
 use Rattle.table.specs.Memory.{rows, Holds}
 use Rattle.table.specs.MemoryLaws.{Faithful}
 use Rattle.table_laws.specs.Raw.{rawLayout}

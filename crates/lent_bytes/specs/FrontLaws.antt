@@ -5,7 +5,8 @@ use Prim.Native.Nat.{ℕ, zero, suc, _+_, _*_, _^_, _≤_}
 use native.Mathlib.Nat.{zero-add, add-zero, add-suc, add-assoc, mul-assoc, pow-succ'}
 use native.Mathlib.Omega.{arith}
 use lib.ListN.{getD}
-use Rattle.lent_bytes.specs.LentBytes.{part, front}
+use Rattle.lent_bytes.specs.LentBytes.{part}
+use Rattle.lent_bytes.specs.Private.{front}
 use Rattle.lent_bytes.specs.LentBytesLaws.{getD-part}
 
 -- the front of n + m bytes is that of the first n and, m bytes lower, that of the m behind them

@@ -22,11 +22,6 @@ abbrev pub bytes : ℕ → ℕ → List ℕ
 bytes zero v = []
 bytes (suc n) v = v % 256 ∷ bytes n (v / 256)
 
--- the n bytes at a place as one number, the first the highest: such numbers are ordered as the lists that have these bytes there
-unfoldable pub front : ℕ → List ℕ → ℕ → ℕ
-front zero s at = 0
-front (suc n) s at = 256 * front n s at + getD s (at + n) 0
-
 -- n zero bytes
 abbrev pub zeros : ℕ → List ℕ
 zeros n = replicate n 0

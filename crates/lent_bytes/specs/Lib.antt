@@ -1,3 +1,4 @@
 pub mod LentBytes
+pub mod Private
 pub mod LentBytesLaws
 pub mod FrontLaws

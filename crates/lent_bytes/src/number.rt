@@ -3,7 +3,8 @@
 ghost use mathlib.Core.Path.{_≡_};
 ghost use Prim.Native.Nat.{_+_, _≤_};
 ghost use lib.ListN.{length};
-ghost use Rattle.lent_bytes.specs.LentBytes.{part, put, le, bytes, front};
+ghost use Rattle.lent_bytes.specs.LentBytes.{part, put, le, bytes};
+ghost use Rattle.lent_bytes.specs.Private.{front};
 
 // The number that the 2 bytes at the place spell.
 pub fn get_u16(s: &[u8], at: usize) -> u16

@@ -20,7 +20,8 @@ use Rattle.peer_verdict.specs.declared.verdict.Decision.{Decision}
 use Rattle.peer_verdict.specs.declared.verdict.InvalidCause.the-variants as InvalidCause
 use Rattle.peer_verdict.specs.declared.verdict.InvalidDecision.{InvalidDecision}
 use Rattle.peer_settings.specs.Config.{limit}
-use Rattle.peer_state.specs.Entry.{entryNew, entryIsBanned, entryIsSpent, entryExpireWindows, entryToUpdate}
+use Rattle.peer_state.specs.Entry.{entryNew, entryIsBanned, entryIsSpent, entryExpireWindows}
+use Rattle.peer_state.specs.Private.{entryToUpdate}
 use Rattle.peer_verdict.specs.Verdict.{decision, invalidDecision, overflows}
 use Rattle.peer_rows.specs.Rows.{Peers}
 use Rattle.peer_table.specs.Room.{makeRoom}
@@ -38,7 +39,7 @@ use Rattle.peer_message_policy.specs.declared.answer.HeldTime.the-varian
 use Rattle.peer_message_policy.specs.Policy.{rowsOf, sound, carriedOut, update, entryForUpdate, admit, recordInvalid, isBannedChange, disconnectedChange}
 use Rattle.peer_message_policy.specs.Calls.{admissionOf, invalidOf, admitOutcome, AdmitMeets, recordInvalidOutcome, RecordInvalidMeets}
 use Rattle.peer_message_policy.specs.Calls.{isBannedOutcome, IsBannedMeets, onDisconnectedOutcome, OnDisconnectedMeets, HeldTimeMeets}
-use Rattle.peer_message_policy.specs.Carry.{Left}
+use Rattle.peer_message_policy.specs.Private.{Left}
 use Rattle.peer_message_policy.specs.UpdateLaws.{spent-in-place}
 
 -- ════ What is judged ════

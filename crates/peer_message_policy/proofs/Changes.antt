@@ -10,7 +10,8 @@ use lib.ListN.{length}
 use Rattle.truths.specs.TruthLaws.{both-parts}
 use Rattle.lent_bytes.specs.LentBytes.{put, zeros, Bytes}
 use Rattle.refusal.specs.Refusal.{tooShort, limitTooLarge}
-use Rattle.table.specs.Table.{store, erase, insertAt, removeAt}
+use Rattle.table.specs.Table.{store, erase, removeAt}
+use Rattle.table.specs.Private.{insertAt}
 use Rattle.table.specs.Memory.{rows, Holds}
 use Rattle.table.specs.MemoryLaws.{AllFit, sub-fit, length-rows, fit-rows, holds, put-clear}
 use Rattle.table_laws.specs.ChangeLaws.{over as rows-over, holds-same, gap-within, stored-at, stored-gap, erased-at, store-again}
@@ -21,9 +22,10 @@ use Rattle.peer_state.specs.declared.entry.PeerMessagePolicyEntry.{PeerMessageP
 use Rattle.peer_state.specs.declared.entry.ViolationWindow.{ViolationWindow}
 use Rattle.peer_state.specs.declared.ingress.FiberIngressBudget.{FiberIngressBudget}
 use Rattle.peer_settings.specs.Config.{limit}
-use Rattle.peer_state.specs.Entry.{window, windowExpire, entryExpireWindows, sameCounts}
+use Rattle.peer_state.specs.Entry.{window, windowExpire, entryExpireWindows}
+use Rattle.peer_state.specs.Private.{sameCounts}
 use Rattle.peer_rows.specs.Rows.{Peers, peerLayout}
-use Rattle.peer_rows.specs.Peer.{peerRow}
+use Rattle.peer_rows.specs.Private.{peerRow}
 use Rattle.peer_table.specs.Room.{makeRoom}
 use Rattle.peer_rows.specs.RowsLaws.{EntryFits, peer-faithful}
 use Rattle.peer_table.specs.RoomLaws.{room-free, room-for-one, length-makeRoom, sub-makeRoom}
@@ -31,7 +33,7 @@ use Rattle.peer_message_policy.specs.declared.policy.PeerMessagePolicy.{
 use Rattle.peer_message_policy.specs.declared.answer.Made.the-variants as Made
 use Rattle.peer_message_policy.specs.Policy.{rowsOf}
 use Rattle.peer_message_policy.specs.Calls.{policyWith, fresh, newOutcome, NewMeets}
-use Rattle.peer_message_policy.specs.Carry.{Known, Unknown, Left}
+use Rattle.peer_message_policy.specs.Private.{Known, Unknown, Left}
 use Rattle.peer_message_policy.proofs.Judged.{entryAt, rows-fit, few-rows, limit-fits}
 
 -- the rows with an entry written over that of the i-th, whose key stays

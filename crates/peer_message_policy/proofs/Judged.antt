@@ -17,18 +17,19 @@ use Rattle.table.specs.Memory.{rowOf}
 use Rattle.table.specs.PlaceLaws.{gap-look}
 use Rattle.table.specs.MemoryLaws.{length-rows}
 use Rattle.table_laws.specs.Lent.{lentSound}
-use Rattle.table_laws.specs.Lent as lent
+use Rattle.table_laws.specs.Private as lent
 use Rattle.table_laws.specs.LentLaws as laws
 use Rattle.peer_settings.specs.declared.config.PeerMessagePolicyConfig.{PeerMessagePolicyConfig}
 use Rattle.peer_state.specs.declared.entry.PeerMessagePolicyEntry.{PeerMessagePolicyEntry}
 use Rattle.peer_settings.specs.Config.{limit}
-use Rattle.peer_state.specs.Entry.{entrySound, entryNew, entryIsSpent, entryToUpdate}
+use Rattle.peer_state.specs.Entry.{entrySound, entryNew, entryIsSpent}
+use Rattle.peer_state.specs.Private.{entryToUpdate}
 use Rattle.peer_state.specs.EntryLaws.{new-sound}
 use Rattle.peer_rows.specs.Rows.{peerLayout, peerSound}
 use Rattle.peer_message_policy.specs.declared.policy.PeerMessagePolicy.{PeerMessagePolicy}
 use Rattle.peer_message_policy.specs.Policy.{rowsOf, policySound, sound}
-use Rattle.peer_message_policy.specs.Sought.{soughtIn}
-use Rattle.peer_message_policy.specs.Carry.{Known, Unknown}
+use Rattle.peer_message_policy.specs.Private.{soughtIn}
+use Rattle.peer_message_policy.specs.Private.{Known, Unknown}
 
 -- ════ A policy and its memory as a lent table ════
 

@@ -1,5 +1,4 @@
 pub mod Policy
 pub mod Calls
-pub mod Sought
-pub mod Carry
+pub mod Private
 pub mod UpdateLaws

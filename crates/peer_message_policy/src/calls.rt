@@ -1,7 +1,7 @@
 // What the calls do once the policy is judged and the peer is found, or its place: decide, then write.
 ghost use mathlib.Core.Path.{_≡_};
 ghost use Rattle.peer_message_policy.specs.Calls.{AdmitMeets, RecordInvalidMeets, IsBannedMeets, OnDisconnectedMeets, HeldTimeMeets};
-ghost use Rattle.peer_message_policy.specs.Carry.{Known, Unknown};
+ghost use Rattle.peer_message_policy.specs.Private.{Known, Unknown};
 use super::answer::Changed;
 use super::answer::HeldTime;
 use super::answer::Invalid;

@@ -2,7 +2,7 @@
 ghost use mathlib.Core.Path.{_≡_};
 ghost use Rattle.peer_message_policy.specs.Calls.{admissionOf, invalidOf};
 ghost use Rattle.table.specs.Table.{store, erase};
-ghost use Rattle.peer_message_policy.specs.Carry.{Known, Unknown, Left};
+ghost use Rattle.peer_message_policy.specs.Private.{Known, Unknown, Left};
 ghost use Prim.Native.Nat.{_*_};
 ghost use Rattle.lent_bytes.specs.LentBytes.{part};
 ghost use Rattle.table.specs.Memory.{rowOf};

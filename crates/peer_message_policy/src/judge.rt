@@ -1,7 +1,7 @@
 // Judging a policy and the memory lent to it, and finding a peer: what every call begins with.
 ghost use mathlib.Core.Path.{_≡_};
 ghost use Rattle.peer_message_policy.specs.Policy.{policySound, sound};
-ghost use Rattle.peer_message_policy.specs.Sought.{soughtIn};
+ghost use Rattle.peer_message_policy.specs.Private.{soughtIn};
 use super::policy::PeerMessagePolicy;
 use peer_settings::config::PeerMessagePolicyConfig;
 use pubkey::Pubkey;

@@ -1,3 +1,3 @@
 pub mod Rows
 pub mod RowsLaws
-pub mod Peer
+pub mod Private

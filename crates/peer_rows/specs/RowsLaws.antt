@@ -16,7 +16,7 @@ use Rattle.peer_settings.specs.declared.config.PeerMessagePolicyConfig.{PeerMes
 use Rattle.peer_state.specs.declared.entry.PeerMessagePolicyEntry.{PeerMessagePolicyEntry}
 use Rattle.peer_state.specs.Entry.{level, window, entrySound, entryIsSpent}
 use Rattle.peer_rows.specs.Rows.{entryWords, entryOf, peerLayout, peerSound}
-use Rattle.peer_rows.specs.Peer.{peerRow, ban}
+use Rattle.peer_rows.specs.Private.{peerRow, ban}
 
 -- ════ Entries and their bytes ════
 

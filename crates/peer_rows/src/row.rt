@@ -9,7 +9,7 @@ ghost use Rattle.lent_bytes.specs.LentBytes.{part, le};
 ghost use Rattle.table.specs.Memory.{rowOf};
 ghost use Rattle.peer_state.specs.Entry.{level, window, entryIsSpent};
 ghost use Rattle.peer_rows.specs.Rows.{entryWords, peerLayout, peerSound};
-ghost use Rattle.peer_rows.specs.Peer.{ban};
+ghost use Rattle.peer_rows.specs.Private.{ban};
 use lent_bytes::number::get_u64;
 use peer_settings::config::PeerMessagePolicyConfig;
 use peer_state::entry::Ban;

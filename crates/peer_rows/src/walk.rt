@@ -2,7 +2,7 @@
 ghost use mathlib.Core.Path.{_≡_};
 ghost use Prim.Native.Nat.{_*_, _≤_};
 ghost use lib.ListN.{length};
-ghost use Rattle.table.specs.Table.{seek};
+ghost use Rattle.table.specs.Private.{seek};
 ghost use Rattle.table.specs.Memory.{rows};
 ghost use Rattle.table_laws.specs.Lent.{rowsSound};
 ghost use Rattle.peer_rows.specs.Rows.{peerLayout, peerSound};

@@ -97,13 +97,3 @@ entrySound c e =
     && (eqb (e .ban .mark) 1 || (eqb (e .ban .mark) 0 && eqb (e .ban .«until_ms») 0)))))
 
 -- ════ As calls find it and leave it ════
-
--- the entry that a known peer's message is decided on: a spent ban drops it, and it is made anew
-abbrev pub entryToUpdate : PeerMessagePolicyConfig → PeerMessagePolicyEntry → ℕ → PeerMessagePolicyEntry
-entryToUpdate c e now = cond (entryIsSpent e now) (entryNew c now) e
-
--- whether two entries count as many violations, of each kind
-abbrev pub sameCounts : PeerMessagePolicyEntry → PeerMessagePolicyEntry → Bool
-sameCounts a b =
-    eqb (a .«rate_limit_violations» .count) (b .«rate_limit_violations» .count)
-    && eqb (a .«invalid_messages» .count) (b .«invalid_messages» .count)

@@ -1,4 +1,5 @@
 pub mod Entry
+pub mod Private
 pub mod EntryLaws
 pub mod Ingress
 pub mod IngressLaws

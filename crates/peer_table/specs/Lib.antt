@@ -1,3 +1,3 @@
 pub mod Room
 pub mod RoomLaws
-pub mod First
+pub mod Private

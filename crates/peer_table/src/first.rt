@@ -8,7 +8,7 @@ ghost use Rattle.table.specs.Table.{better, leastFrom};
 ghost use Rattle.table.specs.Table.{nothing};
 ghost use Rattle.table.specs.Memory.{rowOf, rows};
 ghost use Rattle.peer_rows.specs.Rows.{peerLayout};
-ghost use Rattle.peer_table.specs.First.{bestOf, measureOf, measureBy};
+ghost use Rattle.peer_table.specs.Private.{bestOf, measureOf, measureBy};
 use lent_bytes::number::get_u64;
 
 // Nothing, or the row's index and the time that it was chosen by.

@@ -11,7 +11,8 @@ use lib.IntN.{ℤ, pos, negsuc, negℤ, _+ℤ_, _-ℤ_}
 use lib.Signed.{ltZ}
 use Rattle.truths.specs.TruthLaws.{chosen}
 use Rattle.amount_limbs.specs.Limbs.{digits}
-use Rattle.amount.specs.Amount.{limbs, value, amountOf, Is, isI128, saturated, natural, lesser}
+use Rattle.amount.specs.Amount.{limbs, value, amountOf, isI128, saturated, natural, lesser}
+use Rattle.amount.specs.Private.{Is}
 use Rattle.amount.specs.AmountOfLaws.{amountOf-is}
 use Rattle.bucket_discrete.specs.declared.discrete.DiscreteTokenBucket.{DiscreteTokenBucket}
 use Rattle.bucket_discrete.specs.declared.discrete.DiscreteConsumed.{DiscreteConsumed}

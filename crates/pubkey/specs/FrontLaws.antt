@@ -8,7 +8,8 @@ use native.Mathlib.Nat.{add-zero, add-assoc}
 use native.Mathlib.Numerals.{add-one}
 use native.Mathlib.Omega.{arith}
 use lib.ListN.{length, drop, getD}
-use Rattle.lent_bytes.specs.LentBytes.{part, front, Bytes}
+use Rattle.lent_bytes.specs.LentBytes.{part, Bytes}
+use Rattle.lent_bytes.specs.Private.{front}
 use Rattle.lent_bytes.specs.LentBytesLaws.{length-part, Bytes-part}
 use Rattle.lent_bytes.specs.FrontLaws.{front-part}
 use Rattle.pubkey.specs.Order.{_then_, compareNumbers, compareBytes}

@@ -12,7 +12,7 @@ use Rattle.refusal.specs.Refusal.{Said, gives, refused, wrongLayout}
 use Rattle.table.specs.Memory.{rowOf}
 use Rattle.peer_state.specs.Entry.{level, window}
 use Rattle.peer_rows.specs.Rows.{entryWords, peerLayout}
-use Rattle.peer_rows.specs.Peer.{ban}
+use Rattle.peer_rows.specs.Private.{ban}
 use Rattle.snapshot.specs.Form.{rowSize, first, rowsPlace}
 use Rattle.snapshot.specs.Snapshot.{layoutRight}
 use Rattle.snapshot_reader.specs.declared.row.SnapshotRow.{SnapshotRow}

@@ -17,7 +17,7 @@ use Rattle.table.specs.MemoryLaws.{getD-rows, key-rowOf}
 use Rattle.peer_state.specs.declared.entry.PeerMessagePolicyEntry.{PeerMessagePolicyEntry}
 use Rattle.peer_rows.specs.Rows.{peerLayout}
 use Rattle.peer_rows.specs.RowsLaws.{peer-faithful}
-use Rattle.peer_rows.specs.Peer.{peerRow}
+use Rattle.peer_rows.specs.Private.{peerRow}
 use Rattle.snapshot_layout.specs.Layout.{placeFrom, placeOf}
 use Rattle.snapshot_settings.specs.declared.settings.ReadSettings.{ReadSettings}
 use Rattle.snapshot_settings.specs.declared.settings.ReadSettings.the-variants as ReadSettings

@@ -9,7 +9,8 @@ use Rattle.lent_bytes.specs.LentBytes.{zeros}
 use Rattle.peer_state.specs.declared.entry.PeerMessagePolicyEntry.{PeerMessagePolicyEntry}
 use Rattle.peer_rows.specs.Rows.{entryWords}
 use Rattle.peer_rows.specs.RowsLaws.{length-entryWords}
-use Rattle.text_pieces.specs.Text.{columnText, columnsText, hexText, Wrote}
+use Rattle.text_pieces.specs.Text.{columnText, columnsText, hexText}
+use Rattle.text_pieces.specs.Private.{Wrote}
 use Rattle.text_pieces.specs.TextLaws.{few-digits, length-column, columns-fit, length-hex, byte-over, line-over}
 use Rattle.snapshot_text.specs.declared.line.ShownLine.{ShownLine}
 use Rattle.snapshot_text.specs.Shown.{fieldText, rowText, lineOf}

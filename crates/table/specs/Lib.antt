@@ -1,4 +1,5 @@
 pub mod Table
+pub mod Private
 pub mod TableLaws
 pub mod LookLaws
 pub mod RetainLaws

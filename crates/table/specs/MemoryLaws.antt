@@ -16,7 +16,8 @@ use Rattle.lent_bytes.specs.LentBytesLaws.{Bytes-nil, Bytes-append, Bytes-take,
 use Rattle.pubkey.specs.declared.Ordering.{Ordering}
 use Rattle.pubkey.specs.declared.Ordering.the-variants.{Less, Equal, Greater}
 use Rattle.pubkey.specs.Order.{compareBytes}
-use Rattle.table.specs.Table.{Row, byOrder, store, erase, insertAt, removeRun, removeAt, retain}
+use Rattle.table.specs.Table.{Row, byOrder, store, erase, removeAt, retain}
+use Rattle.table.specs.Private.{insertAt, removeRun}
 use Rattle.table.specs.TableLaws.{Sub, done, keep, leave, sub-erase, sub-retain}
 use Rattle.table.specs.Memory.{Layout, wordBytes, wordOf, words, rowBytes, tableBytes, rowOf, rows, laid, Holds}
 use Rattle.table.specs.PutLaws.{put-earlier, put-later, put-front, put-whole, drop-take, zeros-append, drop-zeros}

@@ -17,7 +17,8 @@ use Rattle.pubkey.specs.Order.{compareBytes}
 use Rattle.pubkey.specs.OrderLaws.{compare-self, compare-equal, less-flip}
 use Rattle.table.specs.declared.seek.Seek.{Seek}
 use Rattle.table.specs.declared.seek.Seek.the-variants.{Unsound, At, Gap}
-use Rattle.table.specs.Table.{Row, ascending, every, placeFrom, seek, look, store, erase, removeRun, removeAt, insertAt}
+use Rattle.table.specs.Table.{Row, ascending, every, look, store, erase, removeAt}
+use Rattle.table.specs.Private.{placeFrom, seek, removeRun, insertAt}
 use Rattle.table.specs.TableLaws.{by-answer, ascending-parts, below-each, removeAt-first, removeAt-later}
 use Rattle.table.specs.LookLaws.{some-is-not-none, look-below, look-before, look-first, look-later, look-erase-same, look-erase-other}
 

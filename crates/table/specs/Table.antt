@@ -8,8 +8,6 @@ use lib.ListN.{take, drop}
 use Rattle.pubkey.specs.declared.Ordering.{Ordering}
 use Rattle.pubkey.specs.declared.Ordering.the-variants.{Less, Equal, Greater}
 use Rattle.pubkey.specs.Order.{compareBytes}
-use Rattle.table.specs.declared.seek.Seek.{Seek}
-use Rattle.table.specs.declared.seek.Seek.the-variants.{Unsound, At, Gap}
 
 -- a row: the bytes of its key, and what stands beside them
 pub record Row (A : Type 0) : Type 0 where
@@ -42,15 +40,6 @@ module _ {A : Type 0} where
   every rule [] = true
   every rule (r ∷ rs) = rule r && every rule rs
 
-  -- the place of a key among ascending rows, the first of which is the i-th
-  unfoldable pub placeFrom : ℕ → List ℕ → List (Row A) → Seek
-  placeFrom i k [] = Gap i
-  placeFrom i k (r ∷ rs) = byOrder (compareBytes k (r .key)) (Gap i) (At i) (placeFrom (i + 1) k rs)
-
-  -- judge, then find: the rows are unsound, or the key stands at a place, or would stand at a gap
-  unfoldable pub seek : (Row A → Bool) → List ℕ → List (Row A) → Seek
-  seek rule k rs = cond (every rule rs && ascending rs) (placeFrom 0 k rs) Unsound
-
   -- HashMap::get
   unfoldable pub look : List ℕ → List (Row A) → Option A
   look k [] = none
@@ -75,17 +64,9 @@ module _ {A : Type 0} where
   retain test [] = []
   retain test (r ∷ rs) = cond (test r) (r ∷ retain test rs) (retain test rs)
 
-  -- the n neighbouring rows from an index on, taken out
-  unfoldable pub removeRun : ℕ → ℕ → List (Row A) → List (Row A)
-  removeRun i n rs = take i rs ++ drop (i + n) rs
-
   -- the row at an index, taken out
   unfoldable pub removeAt : ℕ → List (Row A) → List (Row A)
   removeAt i rs = take i rs ++ drop (i + 1) rs
-
-  -- a row put in at an index
-  unfoldable pub insertAt : ℕ → Row A → List (Row A) → List (Row A)
-  insertAt i r rs = take i rs ++ (r ∷ drop i rs)
 
 -- a search for the least: nothing yet, or the index and the measure of the best so far
 pub data Best : Type 0 where

@@ -14,7 +14,8 @@ use Rattle.pubkey.specs.declared.Ordering.{Ordering}
 use Rattle.pubkey.specs.declared.Ordering.the-variants.{Less, Equal, Greater}
 use Rattle.pubkey.specs.Order.{compareBytes}
 use Rattle.pubkey.specs.OrderLaws.{compare-equal, transitive, greater-flip}
-use Rattle.table.specs.Table.{Row, rowUnder, below, ascending, every, store, erase, retain, removeRun, removeAt}
+use Rattle.table.specs.Table.{Row, rowUnder, below, ascending, every, store, erase, retain, removeAt}
+use Rattle.table.specs.Private.{removeRun}
 
 -- ════ Tests ════
 

@@ -11,7 +11,8 @@ use lib.ListN.{length, take, drop, take-append-drop}
 use Rattle.lent_bytes.specs.LentBytes.{part, put, zeros, Bytes}
 use Rattle.lent_bytes.specs.LentBytesLaws.{length-part, Bytes-part}
 use Rattle.table.specs.declared.seek.Seek.the-variants.{At, Gap}
-use Rattle.table.specs.Table.{Row, rowUnder, placeFrom, look, store, erase, insertAt, removeAt, removeRun}
+use Rattle.table.specs.Table.{Row, rowUnder, look, store, erase, removeAt}
+use Rattle.table.specs.Private.{placeFrom, insertAt, removeRun}
 use Rattle.table.specs.Memory.{Layout, rowBytes, rowOf, rows, laid, Holds}
 use Rattle.table.specs.TableLaws.{sub-removeAt, sub-removeRun}
 use Rattle.table.specs.PlaceLaws.{at-inside, at-key, at-store, at-erase, at-length-store, at-length-erase, gap-inside, gap-store, gap-length-store, length-store-some, length-store-none}

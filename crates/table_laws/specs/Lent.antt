@@ -1,14 +1,11 @@
--- A table lent to a call, and what every call begins with: the record's own rules and the memory's length are judged, then the rows,
--- and a key is found among them. For any layout, row rule, own rules and limit. Definitions only; their laws are in `LentLaws`.
-use mathlib.Core.Path.{_≡_}
-use mathlib.Core.Bool.{Bool, true, _&&_, cond}
+-- A table lent to a call: the record's own rules and the memory's length are judged, then the rows. For any layout, row rule, own
+-- rules and limit. Definitions only; their laws are in `LentLaws`.
+use mathlib.Core.Bool.{Bool, _&&_}
 use mathlib.Core.List.{List}
 use Prim.Native.Nat.{ℕ, _*_}
 use lib.Dec.{leb}
 use lib.ListN.{length}
-use Rattle.table.specs.declared.seek.Seek.{Seek}
-use Rattle.table.specs.declared.seek.Seek.the-variants.{Unsound, At, Gap}
-use Rattle.table.specs.Table.{Row, every, ascending, seek, placeFrom}
+use Rattle.table.specs.Table.{Row, every, ascending}
 use Rattle.table.specs.Memory.{Layout, rows}
 
 module _ {A : Type 0} (L : Layout A) where
@@ -25,18 +22,3 @@ module _ {A : Type 0} (L : Layout A) where
       -- a record whose own rules hold or not, with the memory that is lent to it
       unfoldable pub lentSound : Bool
       lentSound = own && (longEnough limit s && rowsSound s n)
-
-      module _ (k : List ℕ) where
-        -- unsound, or the place of a key, or the gap where it would stand
-        unfoldable pub lentSought : Seek
-        lentSought = cond (own && longEnough limit s) (seek rule k (rows L s n)) Unsound
-
-        -- all is sound, and the key is that of the i-th row
-        pub record Known (i : ℕ) : Type 0 where
-          pub is-sound : lentSound ≡ true
-          pub place : placeFrom 0 k (rows L s n) ≡ At i
-
-        -- all is sound, and the key has no row: it would stand before the i-th
-        pub record Unknown (i : ℕ) : Type 0 where
-          pub is-sound : lentSound ≡ true
-          pub place : placeFrom 0 k (rows L s n) ≡ Gap i

@@ -13,14 +13,16 @@ use Rattle.truths.specs.TruthLaws.{both, both-parts}
 use Rattle.lent_bytes.specs.LentBytes.{part}
 use Rattle.table.specs.declared.seek.Seek.{Seek}
 use Rattle.table.specs.declared.seek.Seek.the-variants.{Unsound, At, Gap}
-use Rattle.table.specs.Table.{Row, every, ascending, seek, look}
+use Rattle.table.specs.Table.{Row, every, ascending, look}
+use Rattle.table.specs.Private.{seek}
 use Rattle.table.specs.Memory.{Layout, rowOf, rows}
 use Rattle.table.specs.TableLaws.{every-at}
 use Rattle.table.specs.PlaceLaws.{Sought, at-is-not-unsound, gap-is-not-unsound, seek-sought, seek-unsound, at-look, gap-look}
 use Rattle.table.specs.MemoryLaws.{length-rows, getD-rows}
 use Rattle.table_laws.specs.ChangeLaws.{place-inside, gap-within}
 use Rattle.table_laws.specs.WalkLaws.{row-in}
-use Rattle.table_laws.specs.Lent.{longEnough, rowsSound, lentSound, lentSought, Known, Unknown}
+use Rattle.table_laws.specs.Lent.{longEnough, rowsSound, lentSound}
+use Rattle.table_laws.specs.Private.{lentSought, Known, Unknown}
 
 -- ════ The memory's length, by whole rows ════
 

@@ -9,6 +9,7 @@ pub mod KeepLaws
 pub mod LeastRowsLaws
 pub mod RankLaws
 pub mod Lent
+pub mod Private
 pub mod LentLaws
 pub mod Kept
 pub mod KeptLaws

@@ -12,7 +12,8 @@ use Rattle.lent_bytes.specs.LentBytesLaws.{length-zeros}
 use Rattle.pubkey.specs.Order.{compareBytes}
 use Rattle.table.specs.declared.seek.Seek.{Seek}
 use Rattle.table.specs.declared.seek.Seek.the-variants.{Unsound}
-use Rattle.table.specs.Table.{Row, below, ascending, every, placeFrom, seek, store, erase}
+use Rattle.table.specs.Table.{Row, below, ascending, every, store, erase}
+use Rattle.table.specs.Private.{placeFrom, seek}
 use Rattle.table.specs.Memory.{Layout, rowBytes, tableBytes, rowOf, rows, laid, Holds}
 use Rattle.table.specs.TableLaws.{by-answer}
 use Rattle.table.specs.MemoryLaws.{Faithful, AllFit, fit-rows}

@@ -5,7 +5,8 @@ use mathlib.Core.Path.{_≡_}
 use mathlib.Core.List.{List}
 use Prim.Native.Nat.{ℕ, zero, suc, _-_, _*_, _<_, _≤_}
 use lib.ListN.{length, drop}
-use Rattle.lent_bytes.specs.LentBytes.{part, front, Bytes}
+use Rattle.lent_bytes.specs.LentBytes.{part, Bytes}
+use Rattle.lent_bytes.specs.Private.{front}
 use Rattle.pubkey.specs.declared.Ordering.the-variants.{Greater}
 use Rattle.pubkey.specs.Order.{compareBytes}
 use Rattle.table.specs.Table.{Row, byOrder, below, ascending, every}

@@ -13,7 +13,8 @@ use lib.Dec.{ltb}
 use lib.ListN.{length, drop, getD, drop-of-length-le}
 use lib.Seq.{take-take}
 use Rattle.truths.specs.TruthLaws.{by-test, both-parts, second-fails}
-use Rattle.lent_bytes.specs.LentBytes.{part, front, Bytes}
+use Rattle.lent_bytes.specs.LentBytes.{part, Bytes}
+use Rattle.lent_bytes.specs.Private.{front}
 use Rattle.lent_bytes.specs.LentBytesLaws.{part-all}
 use Rattle.pubkey.specs.declared.Ordering.the-variants.{Less, Equal, Greater}
 use Rattle.pubkey.specs.Order.{compareBytes}
@@ -21,7 +22,8 @@ use Rattle.pubkey.specs.OrderLaws.{transitive, less-flip, greater-flip}
 use Rattle.pubkey.specs.FrontLaws.{front-less}
 use Rattle.table.specs.declared.seek.Seek.{Seek}
 use Rattle.table.specs.declared.seek.Seek.the-variants.{Unsound, At, Gap}
-use Rattle.table.specs.Table.{Row, byOrder, below, ascending, every, placeFrom, seek}
+use Rattle.table.specs.Table.{Row, byOrder, below, ascending, every}
+use Rattle.table.specs.Private.{placeFrom, seek}
 use Rattle.table.specs.Memory.{Layout, rowOf, rows}
 use Rattle.table.specs.TableLaws.{below-each, ascending-parts, sound-cons}
 use Rattle.table.specs.PlaceLaws.{place-before, place-first, place-later, seek-sound, seek-unsound}

@@ -1,11 +1,9 @@
 -- Pieces of text, and what it is to write one. Definitions only; their laws are in `TextLaws`.
-use mathlib.Core.Path.{_≡_}
 use mathlib.Core.Bool.{cond}
 use mathlib.Core.List.{List, [], _∷_, _++_}
 use Prim.Native.Nat.{ℕ, _+_, _-_, _/_, _%_}
 use lib.Dec.{ltb}
 use lib.ListN.{length, replicate}
-use Rattle.lent_bytes.specs.LentBytes.{put}
 use Rattle.decimal.specs.Decimal.{digitsOf}
 
 -- n blanks
@@ -41,8 +39,3 @@ refusalWord = 114 ∷ 101 ∷ 102 ∷ 117 ∷ 115 ∷ 97 ∷ 108 ∷ []
 -- the line `refusal N`
 unfoldable pub refusalText : ℕ → List ℕ
 refusalText n = refusalWord ++ (numberText n ++ (10 ∷ []))
-
--- a text was written at a place: what stands there now, and the place behind it
-pub record Wrote (before : List ℕ) (at : ℕ) (text : List ℕ) (place : ℕ) (after : List ℕ) : Type 0 where
-  pub behind : place ≡ at + length text
-  pub leaves : after ≡ put before at text

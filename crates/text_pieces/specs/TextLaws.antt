@@ -12,7 +12,8 @@ use lib.ListN.{length, take, drop, getD, set, length-append, length-set, length-
 use Rattle.lent_bytes.specs.LentBytes.{put, zeros}
 use Rattle.lent_bytes.specs.LentBytesLaws.{length-zeros, length-put, put-put, put-nil, set-put, put-snoc}
 use Rattle.decimal.specs.Decimal.{digitsWithin, digitsOf}
-use Rattle.text_pieces.specs.Text.{blanks, numberText, columnText, columnsText, hexChar, hexText, refusalWord, refusalText, Wrote}
+use Rattle.text_pieces.specs.Text.{blanks, numberText, columnText, columnsText, hexChar, hexText, refusalWord, refusalText}
+use Rattle.text_pieces.specs.Private.{Wrote}
 
 -- ════ Lengths ════
 

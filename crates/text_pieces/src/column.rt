@@ -2,7 +2,8 @@
 ghost use mathlib.Core.Path.{_≡_};
 ghost use Prim.Native.Nat.{_+_, _-_, _*_, _≤_};
 ghost use lib.ListN.{length};
-ghost use Rattle.text_pieces.specs.Text.{columnText, columnsText, Wrote};
+ghost use Rattle.text_pieces.specs.Text.{columnText, columnsText};
+ghost use Rattle.text_pieces.specs.Private.{Wrote};
 use super::piece::put_blanks;
 use super::piece::put_number;
 

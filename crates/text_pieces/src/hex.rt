@@ -2,7 +2,8 @@
 ghost use mathlib.Core.Path.{_≡_};
 ghost use Prim.Native.Nat.{_+_, _*_, _≤_, _<_};
 ghost use lib.ListN.{length};
-ghost use Rattle.text_pieces.specs.Text.{hexChar, hexText, Wrote};
+ghost use Rattle.text_pieces.specs.Text.{hexChar, hexText};
+ghost use Rattle.text_pieces.specs.Private.{Wrote};
 
 // The digit of a number below 16.
 fn hex_char(value: u8) -> u8

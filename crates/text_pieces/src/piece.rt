@@ -1,7 +1,8 @@
 // A text that is given, blanks, a number.
 ghost use Prim.Native.Nat.{_+_, _≤_};
 ghost use lib.ListN.{length};
-ghost use Rattle.text_pieces.specs.Text.{blanks, numberText, refusalText, Wrote};
+ghost use Rattle.text_pieces.specs.Text.{blanks, numberText, refusalText};
+ghost use Rattle.text_pieces.specs.Private.{Wrote};
 use lent_bytes::run::put_slice;
 
 // Writes a text.

@@ -33,7 +33,8 @@ use Rattle.trace.specs.declared.step.Answered.{Answered}
 use Rattle.trace.specs.declared.step.Answered.the-variants.{Says, Refused, NoEvent}
 use Rattle.trace.specs.declared.step.Stepped.{Stepped}
 use Rattle.trace.specs.Step.{mapped, admissionSpoken, invalidSpoken, standingSpoken, changedSpoken}
-use Rattle.trace.specs.Step.{eventOutcome, answeredOutcome, AnsweredMeets, stepOf, stepOutcome, StepMeets}
+use Rattle.trace.specs.Step.{eventOutcome, answeredOutcome, stepOf, stepOutcome, StepMeets}
+use Rattle.trace.specs.Private.{AnsweredMeets}
 use Rattle.trace.specs.Scan.{madeSettled, SettleMeets}
 
 -- ════ An answer in other words ════

@@ -16,7 +16,8 @@ use Rattle.trace.specs.declared.scan.Scan.{Scan}
 use Rattle.trace.specs.declared.scan.Handed.{Handed}
 use Rattle.trace.specs.declared.step.Stepped.{Stepped}
 use Rattle.trace.specs.Step.{StepMeets}
-use Rattle.trace.specs.Scan.{lineEndOf, following, last, ended, moved, eventsOutcome, EventsMeets, SettleMeets, SettingsMeets, NextIn, NextMeets}
+use Rattle.trace.specs.Scan.{following, last, ended, moved, eventsOutcome, EventsMeets, SettleMeets, SettingsMeets, NextIn, NextMeets}
+use Rattle.trace.specs.Private.{lineEndOf}
 use Rattle.trace.specs.ScanLaws.{found, not-found}
 use Rattle.trace.proofs.Answers.{meets-mapped}
 

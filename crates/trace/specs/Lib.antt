@@ -1,3 +1,4 @@
 pub mod Step
 pub mod Scan
+pub mod Private
 pub mod ScanLaws

@@ -38,14 +38,6 @@ unfoldable pub firstLine : List ℕ → Option (List ℕ)
 firstLine [] = none
 firstLine (b ∷ more) = cond (eqb b 10) (some []) (joined b (firstLine more))
 
-abbrev pub endFrom : ℕ → Option (List ℕ) → LineEnd
-endFrom at none = LineEnd.Missing
-endFrom at (some line) = LineEnd.At (at + length line)
-
--- the place of the newline that ends the line at a place
-unfoldable pub lineEndOf : List ℕ → ℕ → LineEnd
-lineEndOf input at = endFrom at (firstLine (drop at input))
-
 -- the number of the line behind one; the largest number has none behind it
 unfoldable pub following : ℕ → ℕ
 following number = cond (eqb number largest64) number (number + 1)

@@ -13,7 +13,8 @@ use lib.Dec.{eqb}
 use lib.ListN.{length, getD, take, drop, length-drop, drop-of-length-le}
 use lib.Seq.{drop-cons}
 use Rattle.trace.specs.declared.newline.LineEnd.the-variants.{At, Missing}
-use Rattle.trace.specs.Scan.{joined, firstLine, endFrom, lineEndOf}
+use Rattle.trace.specs.Scan.{joined, firstLine}
+use Rattle.trace.specs.Private.{endFrom, lineEndOf}
 
 -- ════ One byte of the search ════
 

@@ -81,9 +81,6 @@ soundFor kind.Bad p s = true
 unfoldable pub answeredOutcome : PeerMessagePolicy → List ℕ → Event → Outcome Answered
 answeredOutcome p s e = cond (soundFor (e .kind) p s) (eventOutcome p (rowsOf p s) e) (refuse (Refused unsound))
 
-unfoldable pub AnsweredMeets : PeerMessagePolicy → List ℕ → Event → Answered → List ℕ → Type 0
-AnsweredMeets p before e r after = Meets r before after (p .rows) (answeredOutcome p before e)
-
 -- ════ The line for it ════
 
 -- the line for an answer to the line with this number: the numbers are those after the call

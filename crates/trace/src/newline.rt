@@ -1,6 +1,6 @@
 // Where a line of an input ends.
 ghost use mathlib.Core.Path.{_≡_};
-ghost use Rattle.trace.specs.Scan.{lineEndOf};
+ghost use Rattle.trace.specs.Private.{lineEndOf};
 
 // The place of a line's newline.
 pub enum LineEnd {

@@ -1,6 +1,7 @@
 // One event: what the policy answers to it, and the line that says so.
 ghost use mathlib.Core.Path.{_≡_};
-ghost use Rattle.trace.specs.Step.{admissionSpoken, invalidSpoken, standingSpoken, changedSpoken, AnsweredMeets, stepOf, StepMeets};
+ghost use Rattle.trace.specs.Step.{admissionSpoken, invalidSpoken, standingSpoken, changedSpoken, stepOf, StepMeets};
+ghost use Rattle.trace.specs.Private.{AnsweredMeets};
 use peer_message_policy::answer::Changed;
 use peer_message_policy::answer::Invalid;
 use peer_message_policy::answer::PeerMessageAdmission;

@@ -7,7 +7,7 @@ use lib.ListN.{length, set, length-append, drop-of-length-le}
 use Rattle.lent_bytes.specs.LentBytes.{put, zeros}
 use Rattle.lent_bytes.specs.LentBytesLaws.{set-put, put-put-at}
 use Rattle.decimal.specs.DecimalLaws.{length-digits}
-use Rattle.text_pieces.specs.Text.{Wrote}
+use Rattle.text_pieces.specs.Private.{Wrote}
 use Rattle.text_pieces.specs.TextLaws.{byte-over, line-over}
 use Rattle.trace_lines.specs.Lines.{lineOf, wordText, numberText, answerText}
 use Rattle.trace_lines.specs.declared.line.TraceLine.{TraceLine}

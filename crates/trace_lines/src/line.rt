@@ -2,7 +2,7 @@
 ghost use mathlib.Core.Path.{_≡_};
 ghost use Prim.Native.Nat.{_≤_};
 ghost use lib.ListN.{length};
-ghost use Rattle.text_pieces.specs.Text.{Wrote};
+ghost use Rattle.text_pieces.specs.Private.{Wrote};
 ghost use Rattle.trace_lines.specs.Lines.{lineOf, wordText, answerText, badLineText, refusalText};
 use text_pieces::piece::put_number;
 use text_pieces::piece::put_refusal;

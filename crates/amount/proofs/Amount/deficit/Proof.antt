@@ -5,8 +5,9 @@ use Prim.Native.Nat.{ℕ}
 use lib.IntN.{ℤ, pos, negℤ, _+ℤ_, _-ℤ_}
 use borrow.Author.Needs.{needs}
 use Rattle.amount.proofs.SignedLaws.{signed-not, negative-natural, other-natural}
-use Rattle.amount.specs.Amount.{Is, value, signed, saturated}
-use Rattle.amount.specs.Magnitude.{size}
+use Rattle.amount.specs.Amount.{value, signed, saturated}
+use Rattle.amount.specs.Private.{Is}
+use Rattle.amount.specs.Private.{size}
 use Rattle.amount.specs.AmountLaws.{is-moved}
 use Rattle.amount.proofs.Amount.deficit.Statement.{statement}
 use Rattle.amount.proofs.Amount.deficit.Tie as tie

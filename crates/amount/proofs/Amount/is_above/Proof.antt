@@ -5,7 +5,7 @@ use lib.IntN.{pos}
 use lib.Signed.{ltZ}
 use borrow.Author.Needs.{needs}
 use Rattle.amount.specs.Amount.{value, signed}
-use Rattle.amount.specs.Magnitude.{size}
+use Rattle.amount.specs.Private.{size}
 use Rattle.amount.proofs.Amount.is_above.Statement.{statement}
 use Rattle.amount.proofs.Amount.is_above.Tie as tie
 

@@ -7,7 +7,7 @@ use lib.Dec.{ltb}
 use borrow.Author.Tests.{ltb-true, ltb-false, not-true, not-false}
 use borrow.Author.Needs.{needs}
 use Rattle.amount.specs.Amount.{isI128, value, minusZero}
-use Rattle.amount.specs.Magnitude.{size}
+use Rattle.amount.specs.Private.{size}
 use Rattle.amount.proofs.MagnitudeLaws.{size-under, size-over, size-end, size-past}
 use Rattle.amount.proofs.SignedLaws.{plus-i128, minus-within, minus-beyond}
 use Rattle.amount.proofs.Amount.is_i128.Statement.{statement}

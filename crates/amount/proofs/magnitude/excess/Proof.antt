@@ -4,7 +4,7 @@ use Prim.Native.Nat.{_≤_}
 use native.Mathlib.Omega.{arith}
 use borrow.Author.Tests.{ltb-true, ltb-false}
 use borrow.Author.Needs.{needs}
-use Rattle.amount.specs.Magnitude.{size}
+use Rattle.amount.specs.Private.{size}
 use Rattle.amount.proofs.MagnitudeLaws.{high-most, high-more, size-difference, size-borrowed}
 use Rattle.amount.proofs.magnitude.excess.Statement.{statement}
 use Rattle.amount.proofs.magnitude.excess.Tie as tie

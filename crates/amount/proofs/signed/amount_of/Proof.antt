@@ -2,7 +2,7 @@
 use mathlib.Core.Path.{sym, _∙_}
 use borrow.Author.Tests.{eqb-true, eqb-false}
 use borrow.Author.Needs.{needs}
-use Rattle.amount.specs.Magnitude.{size}
+use Rattle.amount.specs.Private.{size}
 use Rattle.amount.proofs.SignedLaws.{zero-is, nonzero-is}
 use Rattle.amount.proofs.signed.amount_of.Statement.{statement}
 use Rattle.amount.proofs.signed.amount_of.Tie as tie

@@ -2,7 +2,7 @@
 use mathlib.Core.Path.{sym}
 use native.Mathlib.Omega.{arith}
 use borrow.Author.Needs.{needs}
-use Rattle.amount.specs.Magnitude.{size}
+use Rattle.amount.specs.Private.{size}
 use Rattle.amount.specs.AmountLaws.{saturated-signed, saturated-beyond, is-moved}
 use Rattle.amount.proofs.MagnitudeLaws.{size-under, size-over}
 use Rattle.amount.proofs.signed.clamped.Statement.{statement}

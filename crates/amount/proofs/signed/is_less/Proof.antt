@@ -3,7 +3,7 @@ use mathlib.Core.Path.{sym, _∙_, ap}
 use mathlib.Core.Bool.{not}
 use borrow.Author.Tests.{eqb-true, eqb-false}
 use borrow.Author.Needs.{needs}
-use Rattle.amount.specs.Magnitude.{size}
+use Rattle.amount.specs.Private.{size}
 use Rattle.amount.proofs.SignedLaws.{below-both-minus, below-zero-plus, below-minus-plus, below-plus-minus}
 use Rattle.amount.proofs.signed.is_less.Statement.{statement}
 use Rattle.amount.proofs.signed.is_less.Tie as tie

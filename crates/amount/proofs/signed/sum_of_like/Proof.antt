@@ -4,7 +4,7 @@ use Prim.Native.Nat.{ℕ}
 use native.Mathlib.Omega.{arith}
 use borrow.Author.Needs.{needs}
 use Rattle.amount.specs.Amount.{saturated, signed}
-use Rattle.amount.specs.Magnitude.{size}
+use Rattle.amount.specs.Private.{size}
 use Rattle.amount.proofs.MagnitudeLaws.{size-over, size-sum, high-sum-fits}
 use Rattle.amount.proofs.SignedLaws.{sum-same, sum-beyond, left-over, right-over}
 use Rattle.amount.specs.AmountLaws.{is-moved}

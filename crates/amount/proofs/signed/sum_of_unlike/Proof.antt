@@ -6,7 +6,7 @@ use native.Mathlib.Nat.{le-of-lt}
 use borrow.Author.Tests.{ltb-true, ltb-false}
 use borrow.Author.Needs.{needs}
 use Rattle.amount.specs.Amount.{saturated, signed}
-use Rattle.amount.specs.Magnitude.{size}
+use Rattle.amount.specs.Private.{size}
 use Rattle.amount.proofs.SignedLaws.{sum-larger, sum-smaller}
 use Rattle.amount.specs.AmountLaws.{is-moved}
 use Rattle.amount.proofs.signed.sum_of_unlike.Statement.{statement}

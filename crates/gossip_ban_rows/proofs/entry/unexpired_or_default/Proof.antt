@@ -1,6 +1,6 @@
 -- `gossip_ban_rows::entry::unexpired_or_default` meets its contract: by the test of the time. Assumes nothing.
 use mathlib.Core.Path.{sym, _∙_}
-use Rattle.gossip_ban_rows.specs.Entry.{unexpiredOrDefault}
+use Rattle.gossip_ban_rows.specs.Private.{unexpiredOrDefault}
 use borrow.Author.Needs.{needs}
 use Rattle.gossip_ban_rows.proofs.entry.unexpired_or_default.Statement.{statement}
 use Rattle.gossip_ban_rows.proofs.entry.unexpired_or_default.Tie as tie

@@ -2,7 +2,7 @@
 use mathlib.Core.Path.{ap, _∙_}
 use Rattle.bucket_bytes.specs.ByteBucket.{byteHasDebt}
 use Rattle.bucket_bytes.specs.ByteBucketLaws.{byte-has-debt-sound}
-use Rattle.gossip_outbound_state.specs.State.{isToldYes}
+use Rattle.gossip_outbound_state.specs.Private.{isToldYes}
 use Rattle.gossip_outbound_state.specs.CarryLaws.{told-back}
 use borrow.Author.Needs.{needs}
 use Rattle.gossip_outbound_state.proofs.charge.in_debt.Statement.{statement}

@@ -5,7 +5,7 @@ use mathlib.Core.Path.{_≡_, refl, sym, _∙_}
 use Prim.Native.Nat.{_-_}
 use native.Mathlib.Omega.{arith}
 use lib.ListN.{length, drop}
-use Rattle.table.specs.Table.{placeFrom}
+use Rattle.table.specs.Private.{placeFrom}
 use Rattle.table.specs.Memory.{rows}
 use Rattle.table_laws.specs.Raw.{rawLayout}
 use Rattle.table_laws.specs.WalkLaws.{row-in, find-ends, find-before, find-finds, find-goes-on}

@@ -6,7 +6,7 @@ use Rattle.table_laws.specs.LentLaws.{long-enough, too-short, sought-own, sough
 use Rattle.peer_settings.specs.Config.{limit}
 use Rattle.peer_rows.specs.Rows.{peerLayout, peerSound}
 use Rattle.peer_message_policy.specs.Policy.{policySound}
-use Rattle.peer_message_policy.specs.Sought.{soughtIn}
+use Rattle.peer_message_policy.specs.Private.{soughtIn}
 use Rattle.peer_message_policy.proofs.Judged.{within-limit}
 use borrow.Author.Needs.{needs}
 use Rattle.peer_message_policy.proofs.judge.sought.Statement.{statement}

@@ -8,7 +8,7 @@ use lib.ListN.{drop}
 use Rattle.table.specs.Table.{nothing, leastFrom}
 use Rattle.table.specs.Memory.{rows}
 use Rattle.peer_rows.specs.Rows.{peerLayout}
-use Rattle.peer_table.specs.First.{bestOf, measureOf, measureBy}
+use Rattle.peer_table.specs.Private.{bestOf, measureOf, measureBy}
 use Rattle.table_laws.specs.LeastRowsLaws.{first-ends, first-goes-on}
 use Rattle.peer_table.proofs.first.find_first.Statement.{statement}
 use Rattle.peer_table.proofs.first.find_first.Tie as tie

@@ -1,7 +1,7 @@
 -- `peer_table::first::measure_at` meets its contract: the kind that is asked for and the mark decide. Assumes nothing.
 use mathlib.Core.Path.{sym, ap, _∙_}
 use borrow.Author.Tests.{eq-eqb, ne-eqb}
-use Rattle.peer_table.specs.First.{measureBy}
+use Rattle.peer_table.specs.Private.{measureBy}
 use Rattle.peer_rows.specs.RowsLaws.{row-places}
 use borrow.Author.Needs.{needs}
 use Rattle.peer_table.proofs.first.measure_at.Statement.{statement}

@@ -4,7 +4,7 @@ use mathlib.Core.Path.{sym, ap, _∙_}
 use native.Mathlib.Omega.{arith}
 use Rattle.table.specs.Memory.{rows}
 use Rattle.peer_rows.specs.Rows.{peerLayout}
-use Rattle.peer_table.specs.First.{bestOf, measureBy}
+use Rattle.peer_table.specs.Private.{bestOf, measureBy}
 use Rattle.peer_table.specs.RoomLaws.{evict-ordinary, evict-banned, evict-nobody}
 use Rattle.table_laws.specs.LeastRowsLaws.{found-inside}
 use Rattle.table_laws.specs.RoomLaws.{evicted-row, left-alone}

@@ -5,7 +5,8 @@ use Prim.Native.Nat.{_-_}
 use native.Mathlib.Omega.{arith}
 use lib.ListN.{length, length-append}
 use Rattle.lent_bytes.specs.LentBytes.{zeros}
-use Rattle.text_pieces.specs.Text.{columnText, Wrote}
+use Rattle.text_pieces.specs.Text.{columnText}
+use Rattle.text_pieces.specs.Private.{Wrote}
 use Rattle.text_pieces.specs.TextLaws.{room-over, more-over}
 use Rattle.snapshot_text.specs.Shown.{lineOf}
 use Rattle.snapshot_text.specs.LineLaws.{field-fits, field-whole, line-ends}

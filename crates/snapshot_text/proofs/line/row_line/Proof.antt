@@ -7,7 +7,8 @@ use lib.ListN.{length}
 use Rattle.lent_bytes.specs.LentBytes.{zeros}
 use Rattle.peer_rows.specs.Rows.{entryWords}
 use Rattle.peer_rows.specs.RowsLaws.{length-entryWords}
-use Rattle.text_pieces.specs.Text.{columnsText, hexText, Wrote}
+use Rattle.text_pieces.specs.Text.{columnsText, hexText}
+use Rattle.text_pieces.specs.Private.{Wrote}
 use Rattle.text_pieces.specs.TextLaws.{length-hex, wrote-as, room-over, more-over}
 use Rattle.snapshot_text.specs.Shown.{lineOf}
 use Rattle.snapshot_text.specs.LineLaws.{row-fits, row-whole, line-ends}

@@ -5,7 +5,8 @@ use Prim.Native.Nat.{_+_, _-_, _*_, _≤_}
 use native.Mathlib.Omega.{arith}
 use lib.Seq.{take-all}
 use lib.ListN.{length, take, getD}
-use Rattle.text_pieces.specs.Text.{columnsText, Wrote}
+use Rattle.text_pieces.specs.Text.{columnsText}
+use Rattle.text_pieces.specs.Private.{Wrote}
 use Rattle.text_pieces.specs.TextLaws.{column-fits, columns-more, wrote-nothing, wrote-more, wrote-as}
 use Rattle.text_pieces.proofs.column.put_columns.Statement.{statement}
 use Rattle.text_pieces.proofs.column.put_columns.Tie as tie

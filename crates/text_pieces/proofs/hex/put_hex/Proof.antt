@@ -5,7 +5,8 @@ use Prim.Native.Nat.{_+_, _-_, _*_, _≤_}
 use native.Mathlib.Omega.{arith}
 use lib.Seq.{take-all}
 use lib.ListN.{length, take, set, length-set}
-use Rattle.text_pieces.specs.Text.{hexText, Wrote}
+use Rattle.text_pieces.specs.Text.{hexText}
+use Rattle.text_pieces.specs.Private.{Wrote}
 use Rattle.text_pieces.specs.TextLaws.{wrote-nothing, wrote-as, hex-written}
 use Rattle.text_pieces.proofs.hex.put_hex.Statement.{statement}
 use Rattle.text_pieces.proofs.hex.put_hex.Tie as tie

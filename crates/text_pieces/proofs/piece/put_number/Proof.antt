@@ -1,7 +1,8 @@
 -- `text_pieces::piece::put_number` meets its contract. A blank, and the digits behind it. Assumes nothing.
 use native.Mathlib.Omega.{arith}
 use lib.ListN.{length-set}
-use Rattle.text_pieces.specs.Text.{numberText, Wrote}
+use Rattle.text_pieces.specs.Text.{numberText}
+use Rattle.text_pieces.specs.Private.{Wrote}
 use Rattle.text_pieces.specs.TextLaws.{wrote-length, wrote-more, wrote-byte}
 use borrow.Author.Needs.{needs}
 use Rattle.text_pieces.proofs.piece.put_number.Statement.{statement}

@@ -3,7 +3,8 @@ use mathlib.Core.List.{[], _∷_, _++_, append-assoc}
 use Prim.Native.Nat.{_+_, _≤_}
 use native.Mathlib.Omega.{arith}
 use lib.ListN.{length, set, length-append}
-use Rattle.text_pieces.specs.Text.{numberText, refusalWord, refusalText, Wrote}
+use Rattle.text_pieces.specs.Text.{numberText, refusalWord, refusalText}
+use Rattle.text_pieces.specs.Private.{Wrote}
 use Rattle.text_pieces.specs.TextLaws.{few-digits, refusal-fits, wrote-length, wrote-more, wrote-byte, wrote-as}
 use borrow.Author.Needs.{needs}
 use Rattle.text_pieces.proofs.piece.put_refusal.Statement.{statement}

@@ -5,7 +5,7 @@ use Prim.Native.Nat.{_-_}
 use native.Mathlib.Omega.{arith}
 use lib.ListN.{length}
 use denote.Ref.{now}
-use Rattle.trace.specs.Scan.{lineEndOf}
+use Rattle.trace.specs.Private.{lineEndOf}
 use Rattle.trace.specs.ScanLaws.{end-further, end-here, end-missing}
 use Rattle.trace.proofs.newline.line_end.Statement.{statement}
 use Rattle.trace.proofs.newline.line_end.Tie as tie

@@ -4,7 +4,7 @@ use native.Mathlib.Omega.{arith}
 use Rattle.decimal.specs.DecimalLaws.{length-digits}
 use lib.ListN.{length}
 use Rattle.lent_bytes.specs.LentBytes.{zeros}
-use Rattle.text_pieces.specs.Text.{Wrote}
+use Rattle.text_pieces.specs.Private.{Wrote}
 use Rattle.text_pieces.specs.TextLaws.{room-over, more-over}
 use Rattle.trace_lines.specs.Lines.{numberText, lineOf}
 use Rattle.trace_lines.proofs.Written.{line-ends, three, word-length, length-one, length-two, length-three, answer-whole}

@@ -5,7 +5,7 @@ use Prim.Native.Nat.{ℕ, _≤_}
 use native.Mathlib.Omega.{arith}
 use lib.ListN.{length, length-append}
 use Rattle.lent_bytes.specs.LentBytes.{zeros}
-use Rattle.text_pieces.specs.Text.{Wrote}
+use Rattle.text_pieces.specs.Private.{Wrote}
 use Rattle.text_pieces.specs.TextLaws.{few-digits, room-over, more-over}
 use Rattle.trace_lines.specs.Lines.{numberText, badLineText, lineOf}
 use Rattle.trace_lines.proofs.Written.{line-ends}

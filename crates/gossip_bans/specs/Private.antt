@@ -1,14 +1,20 @@
--- What the private functions of the calls promise each other. Definitions only.
-use mathlib.Core.Path.{_≡_}
+-- Private: cited by contracts inside the proved code alone; no entry point's contract rests on it. Definitions only.
 use mathlib.Core.List.{List}
 use Prim.Native.Nat.{ℕ}
-use Rattle.table.specs.Memory.{Holds}
+use mathlib.Core.Path.{_≡_}
+use Rattle.table.specs.declared.seek.Seek.{Seek}
+use Rattle.table.specs.Memory.{rows, Holds}
 use Rattle.table.specs.Outcome.{become}
-use Rattle.table_laws.specs.Lent as lent
+use Rattle.table_laws.specs.Private.{lentSought}
 use Rattle.gossip_ban_rows.specs.Rows.{Bans, banLayout, banSound}
 use Rattle.gossip_bans.specs.declared.tracker.GossipBanTracker.{GossipBanTracker}
 use Rattle.gossip_bans.specs.Tracker.{limitOf, trackerSound}
+use Rattle.table_laws.specs.Private as lent
 use Rattle.gossip_bans.specs.Calls.{trackerAfter}
+
+-- what every call begins with: unsound, or the place of a key, or the gap where it would stand
+abbrev pub soughtIn : GossipBanTracker → List ℕ → List ℕ → Seek
+soughtIn t s k = lentSought banLayout banSound (trackerSound t) (limitOf (t .«max_entries»)) s (t .rows) k
 
 -- a sound tracker, and a peer whose row is the i-th
 abbrev pub Known : GossipBanTracker → List ℕ → List ℕ → ℕ → Type 0

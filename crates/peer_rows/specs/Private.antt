@@ -1,4 +1,4 @@
--- One peer's row by its parts. Definitions only.
+-- Private: cited by contracts inside the proved code alone; no entry point's contract rests on it. Definitions only.
 use mathlib.Core.List.{List}
 use Prim.Native.Nat.{ℕ}
 use Rattle.table.specs.Table.{Row}

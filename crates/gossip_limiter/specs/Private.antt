@@ -1,10 +1,17 @@
--- What the private functions of try_acquire ask for. Definitions only.
+-- Private: cited by contracts inside the proved code alone; no entry point's contract rests on it. Definitions only.
 use mathlib.Core.List.{List}
 use Prim.Native.Nat.{ℕ}
-use Rattle.table_laws.specs.Lent as lent
+use Rattle.table.specs.declared.seek.Seek.{Seek}
+use Rattle.table.specs.Memory.{rows}
+use Rattle.table_laws.specs.Private.{lentSought}
 use Rattle.gossip_limiter_rows.specs.Rows.{limiterLayout, limiterSound}
 use Rattle.gossip_limiter.specs.declared.limiter.ChannelUpdateLimiter.{ChannelUpdateLimiter}
 use Rattle.gossip_limiter.specs.Limiter.{limitOf, limiterRecordSound}
+use Rattle.table_laws.specs.Private as lent
+
+-- what every call begins with: unsound, or the place of a key, or the gap where it would stand
+abbrev pub soughtIn : ChannelUpdateLimiter → List ℕ → List ℕ → Seek
+soughtIn l s k = lentSought limiterLayout (limiterSound (l .config)) (limiterRecordSound l) (limitOf (l .«max_entries»)) s (l .rows) k
 
 -- a sound limiter, and a key whose row is the i-th
 abbrev pub Known : ChannelUpdateLimiter → List ℕ → List ℕ → ℕ → Type 0

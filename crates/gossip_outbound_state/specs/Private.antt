@@ -1,16 +1,32 @@
--- What the private functions of the calls promise each other. Definitions only.
-use mathlib.Core.Path.{_≡_}
+-- Private: cited by contracts inside the proved code alone; no entry point's contract rests on it. Definitions only.
 use mathlib.Core.Bool.{Bool, true, false}
 use mathlib.Core.List.{List}
 use Prim.Native.Nat.{ℕ}
 use lib.Dec.{leb}
+use mathlib.Core.Path.{_≡_}
 use Rattle.table.specs.declared.seek.Seek.{Seek}
-use Rattle.table.specs.declared.seek.Seek.the-variants.{Unsound, At, Gap}
-use Rattle.table.specs.Table.{placeFrom, look}
+use Rattle.table.specs.Memory.{rows}
+use Rattle.table_laws.specs.Private.{lentSought}
+use Rattle.bucket_terms.specs.declared.answer.Told.{Told}
+use Rattle.bucket_terms.specs.declared.answer.Told.the-variants as Told
 use Rattle.bucket_bytes.specs.declared.bytes.ByteTokenBucket.{ByteTokenBucket}
 use Rattle.bucket_bytes.specs.ByteBucket.{byteSound}
+use Rattle.gossip_outbound_rows.specs.Rows.{outboundLayout, outboundSound}
 use Rattle.gossip_outbound_state.specs.declared.state.Outbound.{Outbound}
-use Rattle.gossip_outbound_state.specs.State.{rowsOf, sound, bucketOrFresh}
+use Rattle.gossip_outbound_state.specs.State.{rowsOf, ownSound, sound, bucketOrFresh}
+use Rattle.table.specs.declared.seek.Seek.the-variants.{Unsound, At, Gap}
+use Rattle.table.specs.Table.{look}
+use Rattle.table.specs.Private.{placeFrom}
+
+-- what every call begins with: unsound, or the place of a key, or the gap where it would stand
+abbrev pub soughtIn : Outbound → List ℕ → List ℕ → Seek
+soughtIn o s k = lentSought outboundLayout (outboundSound (o .«peer_outbound_config»)) (ownSound o) 1024 s (o .rows) k
+
+-- whether the answer to a question is yes
+abbrev pub isToldYes : Told → Bool
+isToldYes Told.Yes = true
+isToldYes Told.No = false
+isToldYes (Told.Refused n) = false
 
 -- whether the search found the rows, the record or the memory unsound
 abbrev pub isUnsound : Seek → Bool

@@ -1,4 +1,4 @@
--- What a search for the first peer to go answers, as `Room` speaks of it. Definitions only.
+-- Private: cited by contracts inside the proved code alone; no entry point's contract rests on it. Definitions only.
 use mathlib.Core.Bool.{Bool, true, false}
 use mathlib.Core.Option.{Option, none, some}
 use Prim.Native.Nat.{ℕ}
