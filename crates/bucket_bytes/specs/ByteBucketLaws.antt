@@ -7,7 +7,7 @@ use native.Mathlib.Omega.{arith}
 use lib.IntN.{pos}
 use lib.Signed.{ltZ}
 use Rattle.amount.specs.Amount.{value}
-use Rattle.refusal.specs.OneOutcome.{one-outcome}
+use Rattle.refusal.specs.OneOutcomeLaws.{one-outcome}
 use Rattle.bucket_terms.specs.declared.answer.Refilled.{Refilled}
 use Rattle.bucket_terms.specs.declared.answer.Refilled.the-variants as Refilled
 use Rattle.bucket_terms.specs.declared.answer.Consumed.{Consumed}

@@ -5,7 +5,7 @@ use mathlib.Core.Bool.{true}
 use Prim.Native.Nat.{ℕ}
 use native.Mathlib.Omega.{arith}
 use lib.Dec.{eqb}
-use Rattle.refusal.specs.OneOutcome.{one-outcome}
+use Rattle.refusal.specs.OneOutcomeLaws.{one-outcome}
 use Rattle.bucket_terms.specs.declared.answer.Refilled.{Refilled}
 use Rattle.bucket_terms.specs.declared.answer.Refilled.the-variants as Refilled
 use Rattle.bucket_terms.specs.declared.answer.Consumed.{Consumed}

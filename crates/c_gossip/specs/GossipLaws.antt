@@ -3,7 +3,7 @@
 use mathlib.Core.Path.{_≡_}
 use mathlib.Core.List.{List}
 use Prim.Native.Nat.{ℕ}
-use Rattle.refusal.specs.OneOutcome.{one-outcome}
+use Rattle.refusal.specs.OneOutcomeLaws.{one-outcome}
 use Rattle.pubkey.specs.declared.Pubkey.{Pubkey}
 use Rattle.gossip_settings.specs.Settings.{gossipDefault}
 use Rattle.gossip_policy.specs.declared.state.GossipPolicyState.{GossipPolicyState}

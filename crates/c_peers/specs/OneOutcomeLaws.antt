@@ -3,12 +3,12 @@
 use mathlib.Core.Path.{_≡_}
 use mathlib.Core.List.{List}
 use Prim.Native.Nat.{ℕ}
-use Rattle.refusal.specs.OneOutcome.{one-outcome}
+use Rattle.refusal.specs.OneOutcomeLaws.{one-outcome}
 use Rattle.peer_message_policy.specs.declared.answer.InFlight.{InFlight}
 use Rattle.peer_message_policy.specs.declared.answer.InFlight.the-variants as InFlight
 use Rattle.peer_message_policy.specs.declared.answer.HeldTime.{HeldTime}
 use Rattle.peer_message_policy.specs.declared.answer.HeldTime.the-variants as HeldTime
-use Rattle.peer_laws.specs.OneOutcome as Calls
+use Rattle.peer_laws.specs.OneOutcomeLaws as Calls
 use Rattle.c_terms.specs.SomeLaws.{some-one, some-alone}
 use Rattle.c_words.specs.Words.{configOf, policyOf}
 use Rattle.c_words.specs.Answers.{madeNumbered, admissionNumbered, invalidNumbered, standingNumbered, changedNumbered}

@@ -3,7 +3,7 @@
 use mathlib.Core.Path.{_≡_}
 use mathlib.Core.List.{List}
 use Prim.Native.Nat.{ℕ}
-use Rattle.refusal.specs.OneOutcome.{one-outcome}
+use Rattle.refusal.specs.OneOutcomeLaws.{one-outcome}
 use Rattle.c_terms.specs.SomeLaws.{some-one}
 use Rattle.c_words.specs.Words.{policyOf}
 use Rattle.c_words.specs.Answers.{madeNumbered}

@@ -3,12 +3,12 @@
 use mathlib.Core.Path.{_≡_}
 use mathlib.Core.List.{List}
 use Prim.Native.Nat.{ℕ}
-use Rattle.refusal.specs.OneOutcome.{one-outcome}
+use Rattle.refusal.specs.OneOutcomeLaws.{one-outcome}
 use Rattle.c_terms.specs.SomeLaws.{some-one}
 use Rattle.trace.specs.declared.scan.Scan.{Scan}
 use Rattle.trace.specs.declared.scan.Handed.{Handed}
 use Rattle.trace.specs.Scan.{openOf}
-use Rattle.trace_laws.specs.OneOutcome as Trace
+use Rattle.trace_laws.specs.OneOutcomeLaws as Trace
 use Rattle.c_trace.specs.Words.{scanOf, ScanLeft}
 use Rattle.c_trace.specs.Exported.{OpenExported, HandedLeft, NextExported}
 

@@ -3,7 +3,7 @@
 use mathlib.Core.Path.{_≡_}
 use mathlib.Core.List.{List}
 use Prim.Native.Nat.{ℕ}
-use Rattle.refusal.specs.OneOutcome.{one-outcome}
+use Rattle.refusal.specs.OneOutcomeLaws.{one-outcome}
 use Rattle.c_words.specs.declared.answers.Numbered.{Numbered}
 use Rattle.c_words.specs.declared.answers.Numbered.the-variants.{Answered, Refused}
 use Rattle.c_words.specs.Words.{Leaves}

@@ -15,7 +15,7 @@ use lib.Dec.{leb, ltb, eqb}
 use lib.ListN.{length, drop, take, getD, length-append, drop-of-length-le}
 use lib.Seq.{drop-cons, drop-at, length-take-le}
 use Rattle.lent_bytes.specs.LentBytes.{put}
-use Rattle.refusal.specs.OneOutcome.{one-outcome}
+use Rattle.refusal.specs.OneOutcomeLaws.{one-outcome}
 use Rattle.decimal.specs.Decimal.{isDigit, digitsWithin, digitsOf, digitsAtFront, valueFrom, bounded, numberOf, scanOf}
 use Rattle.decimal.specs.declared.Scanned.{Scanned}
 use Rattle.decimal.specs.declared.Scanned.the-variants.{Number, Bad}

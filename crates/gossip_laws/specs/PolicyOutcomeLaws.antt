@@ -5,7 +5,7 @@ use mathlib.Core.List.{List}
 use mathlib.Core.Bool.{Bool}
 use Prim.Native.Nat.{ℕ}
 use Rattle.pubkey.specs.declared.Pubkey.{Pubkey}
-use Rattle.refusal.specs.OneOutcome.{one-outcome}
+use Rattle.refusal.specs.OneOutcomeLaws.{one-outcome}
 use Rattle.table.specs.OutcomeLaws.{one-meets}
 use Rattle.bucket_terms.specs.declared.answer.Delay.{Delay}
 use Rattle.bucket_terms.specs.declared.answer.Told.{Told}

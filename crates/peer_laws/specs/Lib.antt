@@ -1,4 +1,4 @@
-pub mod OneOutcome
+pub mod OneOutcomeLaws
 pub mod SoundLaws
 pub mod CallLaws
 pub mod PeerLaws

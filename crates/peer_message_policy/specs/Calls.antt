@@ -55,7 +55,7 @@ disconnect = gives (1 ∷ [])
 abbrev pub ban : Said
 ban = gives (2 ∷ [])
 
--- whether an answer says Allow: by its first value, whatever stands behind it
+-- whether admit's answer says Allow: by its first value, whatever stands behind it (other calls use the same numbers)
 abbrev pub isAllow : Said → Bool
 isAllow (gives []) = false
 isAllow (gives (n ∷ more)) = eqb n 0

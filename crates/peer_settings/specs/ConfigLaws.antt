@@ -2,7 +2,7 @@
 use mathlib.Core.Path.{_≡_}
 use mathlib.Core.Bool.{Bool}
 use Prim.Native.Nat.{ℕ}
-use Rattle.refusal.specs.OneOutcome.{one-outcome}
+use Rattle.refusal.specs.OneOutcomeLaws.{one-outcome}
 use Rattle.peer_settings.specs.declared.config.PeerMessagePolicyConfig.{PeerMessagePolicyConfig}
 use Rattle.peer_settings.specs.Config.{configDefault, configWithLimits, messageLimitDisabled, banDisabled, unlimited, limit}
 

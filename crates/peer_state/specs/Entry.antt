@@ -95,5 +95,3 @@ entrySound c e =
     && (leb (e .«rate_limit_violations» .count) 4294967295
     && (leb (e .«invalid_messages» .count) 4294967295
     && (eqb (e .ban .mark) 1 || (eqb (e .ban .mark) 0 && eqb (e .ban .«until_ms») 0)))))
-
--- ════ As calls find it and leave it ════

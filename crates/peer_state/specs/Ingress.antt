@@ -15,7 +15,8 @@ inFlight messages bytes = record { «in_flight_messages» = messages; «in_fligh
 abbrev pub ingressReserved : FiberIngressBudget → ℕ → FiberIngressBudget
 ingressReserved i size = inFlight (i .«in_flight_messages» + 1) (i .«in_flight_bytes» + size)
 
--- try_reserve: under a ceiling, a slot first, then the bytes; without one, only where the numbers have no room (added)
+-- try_reserve: under a ceiling, a slot first, then the bytes; without one, Overflow where a number would leave its width (added), else
+-- reserved
 unfoldable pub tryReserve : PeerMessagePolicyConfig → FiberIngressBudget → ℕ → Reservation
 tryReserve c i size =
     let left = c .«max_in_flight_bytes» - i .«in_flight_bytes»

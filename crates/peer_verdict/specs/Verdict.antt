@@ -74,7 +74,7 @@ takeMessage c l now =
     cond (messageLimitDisabled c) (record { passes = true; missing = 0; level = l })
     (messagesTaken (discreteTryConsume (messageBucket c l) now))
 
--- the message's bytes out of the byte bucket
+-- the message's bytes out of the byte bucket; on plain naturals: `NaturalLaws.try-consume-natural` of bucket_bytes
 unfoldable pub takeBytes : PeerMessagePolicyConfig → Level → ℕ → ℕ → Take
 takeBytes c l size now =
     bytesTaken (byteTryConsume (byteLevel (bytesOf c) (pos (l .available)) (l .«last_refill_ms»)) size now)
@@ -166,7 +166,7 @@ noted c e now =
 unfoldable pub invalidDecision : PeerMessagePolicyConfig → PeerMessagePolicyEntry → ℕ → InvalidDecision
 invalidDecision c e now = noted c (entryUsed e now (c .«ban_duration_ms»)) now
 
--- whether the decision is refusal 4: it would be an Allow, and the numbers in flight have no room
+-- whether the decision is refusal 4: it would be an Allow, and a number in flight would overflow
 abbrev pub overflows : Cause → Bool
 overflows Cause.Allowed = false
 overflows Cause.MessagesShort = false

@@ -22,13 +22,7 @@ use Rattle.peer_message_policy.specs.declared.answer.Changed.the-variants as Ch
 use Rattle.peer_message_policy.specs.Policy as Policy
 use Rattle.peer_message_policy.specs.Policy.{Change, Turn, turnOf, carriedOut, entryForUpdate, isBannedChange, disconnectedChange}
 use Rattle.peer_message_policy.specs.Calls.{changedRows, fresh, admissionOf, admissionSays, invalidOf, invalidSays, standingOf, standingSays, changedSays}
-
--- a call of a peer, decided at this time; admit in this room
-pub data CoreCall : Type 0 where
-  admit : (peer : Pubkey) (size now : ℕ) (reservation : Reservation) → CoreCall
-  recordInvalid : (peer : Pubkey) (now : ℕ) → CoreCall
-  isBanned : (peer : Pubkey) (now : ℕ) → CoreCall
-  onDisconnected : (peer : Pubkey) (now : ℕ) → CoreCall
+use Rattle.promises.specs.Trails.{CoreCall, admit, recordInvalid, isBanned, onDisconnected, Event, seen}
 
 -- ════ One call ════
 
@@ -98,3 +92,8 @@ SizeFits (onDisconnected peer now) = Unit {0}
 unfoldable pub Sized : List CoreCall → Type 0
 Sized [] = Unit {0}
 Sized (call ∷ h) = SizeFits call × Sized h
+
+-- the trail that the policy's step makes of calls
+unfoldable pub trailOf : PeerMessagePolicyConfig → List CoreCall → List Event
+trailOf c [] = []
+trailOf c (call ∷ h) = seen call (saysIn c call (after c h)) (after c (call ∷ h)) (trailOf c h)

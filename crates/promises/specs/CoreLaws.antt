@@ -20,8 +20,8 @@ use Rattle.peer_state.specs.Entry.{level}
 use Rattle.peer_rows.specs.Rows.{Peers}
 use Rattle.peer_message_policy.specs.Policy
 use Rattle.peer_message_policy.specs.Calls.{changedRows}
-use Rattle.promises.specs.Core.{CoreCall, admit, recordInvalid, isBanned, onDisconnected, changeIn, saysIn, after, timeOf, latest, Timely, SizeFits, Sized}
-use Rattle.promises.specs.Trails.{Event, seen, rowsAt, trailOf}
+use Rattle.promises.specs.Core.{changeIn, saysIn, after, timeOf, latest, Timely, SizeFits, Sized, trailOf}
+use Rattle.promises.specs.Trails.{CoreCall, admit, recordInvalid, isBanned, onDisconnected, Event, seen, rowsAt}
 use Rattle.promises.specs.Lives.{Allow, sameKey, partOf, OwnTime, logFor, logAfter, logIn, lastUsed, ShieldedIn, AtMost, Within, ceilingSays}
 use Rattle.promises.specs.FairLaws.{fair-new, fair-most}
 use Rattle.promises.specs.CoreStepLaws.{EntryFair, least-here, leftIn, step-fair}

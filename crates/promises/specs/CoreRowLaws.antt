@@ -27,8 +27,8 @@ use Rattle.peer_message_policy.specs.Policy
 use Rattle.peer_message_policy.specs.Policy.{Change, same, Turn, carriedOut, notedDown, Update, banned, update, turnOf, entryForUpdate, isBannedChange, disconnectedChange}
 use Rattle.peer_message_policy.specs.Calls.{changedRows, fresh, invalidOf, invalidSays, standingOf, standingSays}
 use Rattle.peer_laws.specs.PeerLaws.{Fate, stayed, gone, expired, Own, live, undone, carried, OwnInvalid, barred, counted}
-use Rattle.promises.specs.Core.{CoreCall, admit, recordInvalid, isBanned, onDisconnected, idle, admits, messageTurn, invalidTurn, changeIn, saysIn, after, timeOf}
-use Rattle.promises.specs.Trails.{Event, seen, rowsAt, trailOf}
+use Rattle.promises.specs.Core.{idle, admits, messageTurn, invalidTurn, changeIn, saysIn, after, timeOf, trailOf}
+use Rattle.promises.specs.Trails.{CoreCall, admit, recordInvalid, isBanned, onDisconnected, Event, seen, rowsAt}
 use Rattle.promises.specs.Lives.{sameKey, lastUsed}
 use Rattle.promises.specs.DecisionLaws.{decided, invalid-decision-noted}
 use Rattle.promises.specs.CoreStepLaws.{gives-is-not-refused, overflow-either, same-key, leftIn, own-here, own-invalid-here, other-here, other-invalid-here, is-banned-here, disconnected-here}

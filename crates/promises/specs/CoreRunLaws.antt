@@ -27,9 +27,9 @@ use Rattle.peer_message_policy.specs.Policy
 use Rattle.peer_message_policy.specs.Policy.{rowsOf, Turn, carriedOut, notedDown, Update, banned, update, turnOf, entryForUpdate, isBannedChange}
 use Rattle.peer_message_policy.specs.Calls.{changedRows, policyAfter, fresh, admissionOf, admissionSays, invalidOf, invalidSays, standingOf, standingSays, changedSays, NewMeets, IsBannedMeets, OnDisconnectedMeets}
 use Rattle.peer_laws.specs.CallLaws.{admit-answer, record-invalid-answer, is-banned-outcome, on-disconnected-outcome, new-fresh}
-use Rattle.promises.specs.Core as Core
-use Rattle.promises.specs.Core.{idle, messageTurn, invalidTurn, after}
-use Rattle.promises.specs.Trails.{rowsAt, callsOf, trailOf}
+use Rattle.promises.specs.Trails as Trails
+use Rattle.promises.specs.Core.{idle, messageTurn, invalidTurn, after, trailOf}
+use Rattle.promises.specs.Trails.{rowsAt, callsOf}
 use Rattle.promises.specs.Lives.{logIn}
 use Rattle.peer_runs.specs.Runs.{Call, admit, recordInvalid, isBanned, onDisconnected, releaseIngress, inFlight, heldTime, State, rowsIn, Step, KeyFits, Fits, Run, made, then}
 use Rattle.promises.specs.RunLives.{coreOf, trail, coreCalls, logOf}
@@ -108,7 +108,7 @@ module _ (s : State) (said : Said) (t : State) where
   -- of a state with the run's settings
   module _ (here : StateHolds (p .config) s) where
     admit-mirrors : (k : Pubkey) (size now : ℕ) → KeyFits k → Step s (admit k size now) said t
-        → Mirrors (p .config) (Core.admit k size now (tryReserve (p .config) (p .ingress) size)) (rowsIn s) said (rowsIn t)
+        → Mirrors (p .config) (Trails.admit k size now (tryReserve (p .config) (p .ingress) size)) (rowsIn s) said (rowsIn t)
     admit-mirrors k size now key step =
         let turn : Turn Cause = Policy.admit (p .config) (p .ingress) (rowsIn s) (k .bytes) size now in
         let core : SameTurn turn (messageTurn (p .config) k size now (tryReserve (p .config) (p .ingress) size) (rowsIn s)) =
@@ -124,7 +124,7 @@ module _ (s : State) (said : Said) (t : State) where
         }
 
     invalid-mirrors : (k : Pubkey) (now : ℕ) → KeyFits k → Step s (recordInvalid k now) said t
-        → Mirrors (p .config) (Core.recordInvalid k now) (rowsIn s) said (rowsIn t)
+        → Mirrors (p .config) (Trails.recordInvalid k now) (rowsIn s) said (rowsIn t)
     invalid-mirrors k now key step =
         let turn : Turn InvalidCause = Policy.recordInvalid (p .config) (p .ingress) (rowsIn s) (k .bytes) now in
         let core : SameTurn turn (invalidTurn (p .config) k now (rowsIn s)) =
@@ -140,7 +140,7 @@ module _ (s : State) (said : Said) (t : State) where
         }
 
     banned-mirrors : (k : Pubkey) (now : ℕ) → KeyFits k → Step s (isBanned k now) said t
-        → Mirrors (p .config) (Core.isBanned k now) (rowsIn s) said (rowsIn t)
+        → Mirrors (p .config) (Trails.isBanned k now) (rowsIn s) said (rowsIn t)
     unfolding IsBannedMeets
     banned-mirrors k now key step =
         let found : Option PeerMessagePolicyEntry = look (k .bytes) (rowsIn s) in
@@ -153,7 +153,7 @@ module _ (s : State) (said : Said) (t : State) where
         }
 
     disconnected-mirrors : (k : Pubkey) (now : ℕ) → KeyFits k → Step s (onDisconnected k now) said t
-        → Mirrors (p .config) (Core.onDisconnected k now) (rowsIn s) said (rowsIn t)
+        → Mirrors (p .config) (Trails.onDisconnected k now) (rowsIn s) said (rowsIn t)
     unfolding OnDisconnectedMeets
     disconnected-mirrors k now key step =
         record {

@@ -30,7 +30,8 @@ use Rattle.peer_rows.specs.Rows.{Peers}
 use Rattle.peer_message_policy.specs.Policy
 use Rattle.peer_message_policy.specs.Calls.{changedRows, fresh, admissionOf, admissionSays}
 use Rattle.peer_laws.specs.PeerLaws.{Fate, stayed, gone, expired, Lands, kept, absent, remade, Own, live, undone, carried, OwnInvalid, barred, counted, live-not-spent, own-message, own-invalid, message-fate, record-invalid-fate, is-banned-fate, disconnected-fate}
-use Rattle.promises.specs.Core.{CoreCall, admit, recordInvalid, isBanned, onDisconnected, idle, admits, messageTurn, invalidTurn, changeIn, saysIn, SizeFits}
+use Rattle.promises.specs.Core.{idle, admits, messageTurn, invalidTurn, changeIn, saysIn, SizeFits}
+use Rattle.promises.specs.Trails.{CoreCall, admit, recordInvalid, isBanned, onDisconnected}
 use Rattle.promises.specs.Lives.{Allow, sameKey, partOf, OwnTime, logFor, logged, keptLog, logAfter, lastUsed, Within, ceilingSays}
 use Rattle.promises.specs.FairLaws.{NotAfter, Fair, fair-new, fair-allow, fair-least}
 use Rattle.promises.specs.DecisionLaws.{reservationCause, decided, invalid-decision-noted}

@@ -26,7 +26,7 @@ use Rattle.peer_verdict.specs.declared.verdict.Cause.the-variants as Cause
 use Rattle.peer_verdict.specs.Verdict.{takeMessage, takeBytes, violated, weighed, decision}
 use Rattle.peer_rows.specs.Rows.{Peers, peerLayout}
 use Rattle.peer_rows.specs.RowsLaws.{EntryFits, peer-faithful}
-use Rattle.table_laws.specs.Room.{roomMade}
+use Rattle.table.specs.Room.{roomMade}
 use Rattle.peer_table.specs.Room.{evict, makeRoom}
 use Rattle.peer_message_policy.specs.declared.policy.PeerMessagePolicy.{PeerMessagePolicy}
 use Rattle.peer_message_policy.specs.declared.answer.Made.the-variants as Made

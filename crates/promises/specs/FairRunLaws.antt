@@ -16,8 +16,8 @@ use Rattle.peer_state.specs.Ingress.{tryReserve}
 use Rattle.peer_rows.specs.Rows.{Peers}
 use Rattle.peer_message_policy.specs.Calls.{ban}
 use Rattle.promises.specs.Core as Core
-use Rattle.promises.specs.Core.{CoreCall, after, Timely, Sized}
-use Rattle.promises.specs.Trails.{Event, seenIf, callsOf}
+use Rattle.promises.specs.Core.{after, Timely, Sized}
+use Rattle.promises.specs.Trails.{CoreCall, Event, seenIf, callsOf}
 use Rattle.promises.specs.Lives.{lastUsed, AtMost, ceilingSays}
 use Rattle.peer_runs.specs.Runs.{Call, admit, recordInvalid, isBanned, onDisconnected, releaseIngress, inFlight, heldTime, State, rowsIn, Step, Fits, Run, made, then}
 use Rattle.promises.specs.RunLives.{entryIn, coreOf, trail, coreCalls, logOf, Shielded, timeOf, latestOf, latest, notBefore, Ordered, Entitled, Shield}

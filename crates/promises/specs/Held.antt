@@ -6,7 +6,7 @@ use Rattle.pubkey.specs.declared.Pubkey.{Pubkey}
 use Rattle.peer_settings.specs.declared.config.PeerMessagePolicyConfig.{PeerMessagePolicyConfig}
 use Rattle.peer_message_policy.specs.declared.answer.HeldTime.the-variants as HeldTime
 use Rattle.peer_message_policy.specs.Calls.{HeldTimeMeets}
-use Rattle.promises.specs.Core.{CoreCall}
+use Rattle.promises.specs.Trails.{CoreCall}
 use Rattle.promises.specs.Lives.{partOf, OwnTime}
 use Rattle.peer_runs.specs.Runs.{Call, State, Run, made, then}
 use Rattle.promises.specs.RunLives.{coreOf, Bounds}

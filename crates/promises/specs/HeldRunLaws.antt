@@ -17,8 +17,7 @@ use Rattle.peer_message_policy.specs.declared.answer.HeldTime.the-variants as H
 use Rattle.peer_message_policy.specs.Policy
 use Rattle.peer_message_policy.specs.Policy.{sound}
 use Rattle.peer_laws.specs.CallLaws.{held-time-answer}
-use Rattle.promises.specs.Core.{CoreCall}
-use Rattle.promises.specs.Trails.{Event, seenIf, rowsAt}
+use Rattle.promises.specs.Trails.{CoreCall, Event, seenIf, rowsAt}
 use Rattle.promises.specs.Lives.{Part, message, invalid, neither, partOf, OwnTime, lastUsed, ShieldedIn, ceilingSays}
 use Rattle.peer_runs.specs.Runs.{Call, admit, State, rowsIn, Step, Run, made, then}
 use Rattle.promises.specs.RunLives.{entryIn, coreOf, trail, Shielded, Entitled}

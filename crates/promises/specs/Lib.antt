@@ -1,5 +1,5 @@
-pub mod Core
 pub mod Trails
+pub mod Core
 pub mod Lives
 pub mod RunLives
 pub mod Held

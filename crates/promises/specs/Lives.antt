@@ -18,8 +18,7 @@ use Rattle.peer_state.specs.declared.ingress.Reservation.the-variants as Reserv
 use Rattle.peer_settings.specs.Config.{messageLimitDisabled, bytesOf}
 use Rattle.peer_state.specs.Entry.{entryIsSpent}
 use Rattle.peer_message_policy.specs.Calls.{isAllow, allow, disconnect}
-use Rattle.promises.specs.Core.{CoreCall, admit, recordInvalid, isBanned, onDisconnected}
-use Rattle.promises.specs.Trails.{Event, rowsAt}
+use Rattle.promises.specs.Trails.{CoreCall, admit, recordInvalid, isBanned, onDisconnected, Event, rowsAt}
 
 -- ════ A peer's own calls ════
 
@@ -118,7 +117,8 @@ AtMost c log =
 
 -- ════ The smaller allowance ════
 
--- n Allows with b bytes, from time s to now, are within it
+-- n messages with b bytes, from time s to now, are within it; 999 (n - 1): each of the n - 1 refills between them is rounded down, and
+-- may lose 999 thousandths of a byte
 abbrev pub Allowance : PeerMessagePolicyConfig → ℕ → ℕ → ℕ → ℕ → Type 0
 Allowance c now n b s =
     (messageLimitDisabled c ≡ false → n ≤ c .«peer_message_burst» + (now - s) / c .«peer_message_interval_ms»)
@@ -129,18 +129,19 @@ unfoldable pub FromEvery : PeerMessagePolicyConfig → ℕ → ℕ → ℕ → L
 FromEvery c now n b [] = Unit {0}
 FromEvery c now n b (z ∷ log) = Allowance c now (n + 1) (b + z .size) (z .time) × FromEvery c now (n + 1) (b + z .size) log
 
--- successive Allows, and the last one and the call, lie at most 4,294,967,295 intervals apart, in milliseconds
+-- successive Allows, and the last one and the call, lie at most 4,294,967,295 intervals apart, in milliseconds: a refill counts the low
+-- 32 bits of the intervals alone, so a longer gap could earn too little
 unfoldable pub Near : ℕ → ℕ → List Allow → Type 0
 Near interval t [] = Unit {0}
 Near interval t (z ∷ log) = (t ≤ z .time + 4294967295 * interval) × Near interval (z .time) log
 
--- a call of this size now is within the smaller allowance of a life with this log
+-- a call of this size now is within the smaller allowance of a life with this log; it is counted as if it were let in
 unfoldable pub Within : PeerMessagePolicyConfig → ℕ → ℕ → List Allow → Type 0
 Within c now size log =
     (messageLimitDisabled c ≡ false → Near (c .«peer_message_interval_ms») now log)
     × FromEvery c now 0 0 (record { time = now; size = size } ∷ log)
 
--- what the ceiling says: Allow where there is room, Disconnect where there is none, refusal 4 where the numbers have no room
+-- what the ceiling says: Allow where there is room, Disconnect where there is none, refusal 4 where a number would overflow
 abbrev pub ceilingSays : Reservation → Said
 ceilingSays (Reservation.Left after) = allow
 ceilingSays Reservation.NoSlot = disconnect

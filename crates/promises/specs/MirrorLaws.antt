@@ -15,8 +15,8 @@ use Rattle.peer_settings.specs.Fits.{ConfigFits}
 use Rattle.peer_rows.specs.Rows.{Peers}
 use Rattle.peer_message_policy.specs.Policy
 use Rattle.peer_message_policy.specs.Calls.{changedRows}
-use Rattle.promises.specs.Core.{CoreCall, admit, changeIn, saysIn, after, latest, Timely, SizeFits, Sized}
-use Rattle.promises.specs.Trails.{Event, seen, seenIf, rowsAt, callsOf, trailOf}
+use Rattle.promises.specs.Core.{changeIn, saysIn, after, latest, Timely, SizeFits, Sized, trailOf}
+use Rattle.promises.specs.Trails.{CoreCall, admit, Event, seen, seenIf, rowsAt, callsOf}
 use Rattle.promises.specs.Lives.{logFor, logIn, lastUsed, ShieldedIn, AtMost, Within, ceilingSays}
 use Rattle.promises.specs.CoreRowLaws.{refused-leaves, seen-rows, trail-rows}
 use Rattle.promises.specs.CoreLaws as CoreLaws

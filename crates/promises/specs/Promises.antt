@@ -1,6 +1,6 @@
 -- What the user was promised, stated of the calls themselves. A `Run` is a list of calls on lent memory, from a freshly made
 -- policy, each known by its contract alone; `logOf k run` is the list of Allows of peer k's present life. The definitions stand in
--- Runs (of peer_runs), RunLives, Lives and Held, those of snapshots in Alike (of snapshot_laws), the proofs in the modules that are named
+-- Runs (of peer_runs), Trails, Lives, RunLives and Held, those of snapshots in Alike (of snapshot_laws), the proofs in the modules that are named
 -- here. `CoreLaws` states both bounds of lists of core calls, which `CoreRunLaws.runs-core` maps a run onto. That there is a run in which
 -- `least` gives an Allow after an Allow is `ExampleLaws.a-run-exists`.
 use mathlib.Core.Path.{_≡_}
@@ -40,9 +40,9 @@ use Rattle.promises.specs.SamplesLaws as SamplesLaws
 pub most : {c : PeerMessagePolicyConfig} {h : List Call} {s : State} → ConfigFits c → (run : Run c h s) → Ordered h → (k : Pubkey) → AtMost c (logOf k run)
 most fits run = FairRunLaws.ordered-most fits run
 
--- The lower bound: a call that is entitled to it (by a peer that is not banned, within the smaller allowance counted from every Allow of
--- its life) gets the ceiling's answer: Allow where there is room, Disconnect where there is none, refusal 4 where the numbers in flight
--- have no room.
+-- The lower bound: over calls whose times never go back, this one included, a call that is entitled to it (by a peer that is not
+-- banned, within the smaller allowance counted from every Allow of its life) gets the ceiling's answer: Allow where there is room,
+-- Disconnect where there is none, refusal 4 where a number in flight would overflow.
 pub least : {c : PeerMessagePolicyConfig} {h : List Call} {s : State} → ConfigFits c → (run : Run c h s) → (k : Pubkey) (size now : ℕ)
     → Ordered (admit k size now ∷ h)
     → Entitled run k size now

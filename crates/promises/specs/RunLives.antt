@@ -12,9 +12,8 @@ use Rattle.peer_settings.specs.declared.config.PeerMessagePolicyConfig.{PeerMes
 use Rattle.peer_state.specs.declared.entry.PeerMessagePolicyEntry.{PeerMessagePolicyEntry}
 use Rattle.peer_state.specs.Ingress.{tryReserve}
 use Rattle.peer_message_policy.specs.Policy as Policy
-use Rattle.promises.specs.Core as Core
-use Rattle.promises.specs.Core.{CoreCall}
-use Rattle.promises.specs.Trails.{Event, seenIf, callsOf}
+use Rattle.promises.specs.Trails as Trails
+use Rattle.promises.specs.Trails.{CoreCall, Event, seenIf, callsOf}
 use Rattle.promises.specs.Lives.{Allow, logIn, logFor, lastUsed, ShieldedIn, AtMost, Within, ceilingSays}
 use Rattle.peer_runs.specs.Runs.{Call, admit, recordInvalid, isBanned, onDisconnected, releaseIngress, inFlight, heldTime, State, rowsIn, Step, Fits, Run, made, then}
 
@@ -26,16 +25,16 @@ entryIn s k = look (k .bytes) (rowsIn s)
 
 -- the core call that a call comes to in a state; release_ingress, in_flight and held_time leave the rows
 abbrev pub coreOf : PeerMessagePolicyConfig → State → Call → Option CoreCall
-coreOf c s (admit k size now) = some (Core.admit k size now (tryReserve c (s .policy .ingress) size))
-coreOf c s (recordInvalid k now) = some (Core.recordInvalid k now)
-coreOf c s (isBanned k now) = some (Core.isBanned k now)
-coreOf c s (onDisconnected k now) = some (Core.onDisconnected k now)
+coreOf c s (admit k size now) = some (Trails.admit k size now (tryReserve c (s .policy .ingress) size))
+coreOf c s (recordInvalid k now) = some (Trails.recordInvalid k now)
+coreOf c s (isBanned k now) = some (Trails.isBanned k now)
+coreOf c s (onDisconnected k now) = some (Trails.onDisconnected k now)
 coreOf c s (releaseIngress bytes) = none
 coreOf c s inFlight = none
 coreOf c s (heldTime k given) = none
 
 module _ {c : PeerMessagePolicyConfig} where
-  -- each call of a run that was not refused, with what it said and the rows that it left in lent memory
+  -- each admit, record_invalid, is_banned and on_disconnected of a run that was not refused, with what it said and the rows that it left
   unfoldable pub trail : {h : List Call} {s : State} → Run c h s → List Event
   trail (made before after p b m) = []
   trail (then {h} {s} call said t run fits step) = seenIf (coreOf c s call) said (rowsIn t) (trail run)
@@ -54,7 +53,7 @@ module _ {c : PeerMessagePolicyConfig} where
 
 -- ════ The order of times ════
 
--- the time of a call that has a place in the order
+-- a call's time; release_ingress and in_flight have none, and the time given to held_time does not count
 abbrev pub timeOf : Call → Option ℕ
 timeOf (admit peer bytes now) = some now
 timeOf (recordInvalid peer now) = some now
@@ -84,7 +83,7 @@ Ordered (call ∷ h) = notBefore (timeOf call) (latest h) × Ordered h
 
 -- ════ What a caller is promised ════
 
--- a call of this size now, by a peer that is not banned, is within the smaller allowance of the life that it lands in
+-- a call of this size now, numbers that fit, by a peer that is not banned, is within the smaller allowance of the life that it lands in
 pub record Entitled {c : PeerMessagePolicyConfig} {h : List Call} {s : State} (run : Run c h s) (k : Pubkey) (size now : ℕ) : Type 0 where
   pub fits : Fits (admit k size now)
   pub not-banned : Policy.isBanned (entryIn s k) now ≡ false

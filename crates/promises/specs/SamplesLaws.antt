@@ -8,7 +8,7 @@ use Rattle.table_laws.specs.Raw.{mapEntries}
 use Rattle.peer_state.specs.Entry.{windowExpire, windowCounted, entryNew, entryBan, entryUsed}
 use Rattle.peer_state.specs.Ingress.{tryReserve}
 use Rattle.peer_verdict.specs.Verdict.{takeMessage, takeBytes, violated, weighed, decision}
-use Rattle.table_laws.specs.Room.{roomMade}
+use Rattle.table.specs.Room.{roomMade}
 use Rattle.peer_table.specs.Room.{evict, makeRoom}
 use Rattle.peer_message_policy.specs.Policy.{admit, carriedOut, entryForUpdate}
 use Rattle.gossip_ban_rows.specs.Entry.{bannedIfReached}

@@ -2,10 +2,18 @@
 -- it left. Definitions only.
 use mathlib.Core.List.{List, [], _∷_}
 use mathlib.Core.Option.{Option, none, some}
+use Prim.Native.Nat.{ℕ}
+use Rattle.pubkey.specs.declared.Pubkey.{Pubkey}
 use Rattle.refusal.specs.Refusal.{Said, gives, refused}
-use Rattle.peer_settings.specs.declared.config.PeerMessagePolicyConfig.{PeerMessagePolicyConfig}
+use Rattle.peer_state.specs.declared.ingress.Reservation.{Reservation}
 use Rattle.peer_rows.specs.Rows.{Peers}
-use Rattle.promises.specs.Core.{CoreCall, saysIn, after}
+
+-- a call that can change rows, by its peer and its time; admit with what the ceiling says to it
+pub data CoreCall : Type 0 where
+  admit : (peer : Pubkey) (size now : ℕ) (reservation : Reservation) → CoreCall
+  recordInvalid : (peer : Pubkey) (now : ℕ) → CoreCall
+  isBanned : (peer : Pubkey) (now : ℕ) → CoreCall
+  onDisconnected : (peer : Pubkey) (now : ℕ) → CoreCall
 
 -- a call, what it said, and the rows that it left
 pub record Event : Type 0 where
@@ -32,8 +40,3 @@ rowsAt (e ∷ es) = e .rows
 unfoldable pub callsOf : List Event → List CoreCall
 callsOf [] = []
 callsOf (e ∷ es) = e .call ∷ callsOf es
-
--- the trail that the policy's step makes of calls
-unfoldable pub trailOf : PeerMessagePolicyConfig → List CoreCall → List Event
-trailOf c [] = []
-trailOf c (call ∷ h) = seen call (saysIn c call (after c h)) (after c (call ∷ h)) (trailOf c h)

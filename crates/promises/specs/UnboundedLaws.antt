@@ -11,7 +11,7 @@ use Rattle.peer_settings.specs.declared.config.PeerMessagePolicyConfig.{PeerMes
 use Rattle.peer_state.specs.Entry.{windowExpire, windowCounted, entryNew, entryBan, entryUsed}
 use Rattle.peer_state.specs.Ingress.{tryReserve, inFlight}
 use Rattle.peer_verdict.specs.Verdict.{takeMessage, takeBytes, violated, weighed, decision}
-use Rattle.table_laws.specs.Room.{roomMade}
+use Rattle.table.specs.Room.{roomMade}
 use Rattle.peer_table.specs.Room.{evict, makeRoom}
 use Rattle.peer_message_policy.specs.Calls.{allow, ban}
 use Rattle.peer_message_policy.specs.Policy.{admit, carriedOut, entryForUpdate}

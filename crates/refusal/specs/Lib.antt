@@ -1,3 +1,3 @@
 pub mod Refusal
-pub mod OneOutcome
+pub mod OneOutcomeLaws
 pub mod Some

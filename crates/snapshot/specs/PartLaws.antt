@@ -5,7 +5,7 @@ use mathlib.Core.List.{List}
 use Prim.Native.Nat.{ℕ, _≤_}
 use native.Mathlib.Omega.{arith}
 use lib.ListN.{length}
-use Rattle.refusal.specs.OneOutcome.{one-outcome}
+use Rattle.refusal.specs.OneOutcomeLaws.{one-outcome}
 use Rattle.snapshot_layout.specs.declared.place.Place.{Place}
 use Rattle.snapshot_layout.specs.declared.place.Place.the-variants as Place
 use Rattle.snapshot_layout.specs.Layout.{Slot, laidOut, placeOf}

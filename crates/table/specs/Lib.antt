@@ -9,4 +9,5 @@ pub mod Memory
 pub mod PutLaws
 pub mod MemoryLaws
 pub mod Outcome
+pub mod Room
 pub mod OutcomeLaws

@@ -13,7 +13,6 @@ pub mod Private
 pub mod LentLaws
 pub mod Kept
 pub mod KeptLaws
-pub mod Room
 pub mod RoomLaws
 pub mod StoreLaws
 pub mod MapLaws

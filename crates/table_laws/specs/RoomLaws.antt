@@ -17,7 +17,7 @@ use Rattle.table.specs.RetainLaws.{length-retain}
 use Rattle.table.specs.PlaceLaws.{length-removeAt}
 use Rattle.table.specs.MemoryLaws.{Faithful, AllFit, length-rows, fit-rows, sub-fit}
 use Rattle.table_laws.specs.ChangeLaws.{unchanged, holds-holds}
-use Rattle.table_laws.specs.Room.{removeFound, roomMade}
+use Rattle.table.specs.Room.{removeFound, roomMade}
 
 -- ════ What a search found ════
 

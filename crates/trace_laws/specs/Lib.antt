@@ -8,4 +8,4 @@ pub mod Running
 pub mod EventsLaws
 pub mod SettingsLaws
 pub mod TraceLaws
-pub mod OneOutcome
+pub mod OneOutcomeLaws

@@ -13,7 +13,7 @@ use Rattle.decimal.specs.Decimal.{scanOf}
 use Rattle.decimal.specs.DecimalLaws.{only-spelling}
 use Rattle.decimal.specs.declared.Scanned.{Scanned}
 use Rattle.decimal.specs.declared.Scanned.the-variants.{Number, Bad}
-use Rattle.refusal.specs.OneOutcome.{one-outcome}
+use Rattle.refusal.specs.OneOutcomeLaws.{one-outcome}
 use Rattle.trace_lines.specs.Lines.{blankThenNumber, fieldOf, valueOf, endsLine, settingsOf, eventBy, eventOf, badEvent, lineOf, answerText, badLineText, refusalText}
 use Rattle.trace_lines.specs.declared.event.Event.{Event}
 use Rattle.trace_lines.specs.declared.settings.Settings.{Settings}
