@@ -1,8 +1,8 @@
 // The recorded calls, over what is lent: subject 0 is a ban tracker, 1 a limiter, 2 a gossip state; then the operation, the violation, the
 // bytes, the time and the side.
 use crate::checksum;
-use crate::held::Held;
 use crate::held::Answer;
+use crate::held::Held;
 use c_bans::bans::uglezmir_bans;
 use c_gossip::gossip::uglezmir_gossip;
 use c_limiter::limiter::uglezmir_limiter;

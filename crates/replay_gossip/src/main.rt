@@ -8,8 +8,8 @@ mod held;
 mod memory;
 mod rows;
 
-use held::Held;
 use held::Answer;
+use held::Held;
 use replay::program;
 use replay::program::Next;
 use replay::record::Record;

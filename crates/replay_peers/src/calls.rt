@@ -1,7 +1,7 @@
 // The recorded calls of a policy: 2 admit (bytes, now, key), 3 record_invalid, 4 is_banned, 5 on_disconnected, 6 release_ingress
 // (bytes), 7 in_flight, 8 held_time.
-use crate::held::Held;
 use crate::held::Answer;
+use crate::held::Held;
 use peer_message_policy::answer::Changed;
 use peer_message_policy::answer::HeldTime;
 use peer_message_policy::answer::InFlight;

@@ -6,8 +6,8 @@ mod checksum;
 mod held;
 mod memory;
 
-use held::Held;
 use held::Answer;
+use held::Held;
 use replay::line::Line;
 use replay::program;
 use replay::program::Next;

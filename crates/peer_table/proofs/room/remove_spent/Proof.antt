@@ -32,10 +32,10 @@ returns c =
     let at-slice-known = at-gather-unspent .before .before in
     let begin = at-slice-known .before in
     let a = begin .args in (
-  plain-removed peer-faithful (unspent (a .now-ms)) (a .table .now) (a .count) (λ i. at-slice-known .slice-known .given i .fits) (omega (arith, begin .pre))
-      _ _ (at-gather-unspent .gather-unspent .result) (at-gather-unspent .gather-unspent .ensures .0) (at-gather-unspent .gather-unspent .ensures .1) (at-zero-rows .zero-rows .ensures),
-  at-gather-unspent .gather-unspent .ensures .1,
-)
+      plain-removed peer-faithful (unspent (a .now-ms)) (a .table .now) (a .count) (λ i. at-slice-known .slice-known .given i .fits) (omega (arith, begin .pre))
+          _ _ (at-gather-unspent .gather-unspent .result) (at-gather-unspent .gather-unspent .ensures .0) (at-gather-unspent .gather-unspent .ensures .1) (at-zero-rows .zero-rows .ensures),
+      at-gather-unspent .gather-unspent .ensures .1,
+    )
 
 pub remove-spent-spec : {M : Type 1} → statement M
 remove-spent-spec =

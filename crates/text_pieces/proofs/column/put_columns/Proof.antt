@@ -42,15 +42,15 @@ loop-again c =
     let at-loop = at-put-column .before .before .before .before in
     let begin = at-loop .before .before .before in
     let a = begin .args in let turn = at-loop .loop in let w = at-put-column .put-column .ensures in (
-  omega arith,
-  (
-    omega (arith, w .behind, column-fits (a .width) (getD (a .numbers .now) (turn .i) 0) (omega arith)),
-    (
-      wrote-as (sym (columns-more (a .width) (a .numbers .now) (turn .i) (omega arith))) (wrote-more (turn .inv .1 .1 .0) (omega arith) w),
-      at-put-column .put-column .kept .0 ∙ turn .inv .1 .1 .1,
-    ),
-  ),
-)
+      omega arith,
+      (
+        omega (arith, w .behind, column-fits (a .width) (getD (a .numbers .now) (turn .i) 0) (omega arith)),
+        (
+          wrote-as (sym (columns-more (a .width) (a .numbers .now) (turn .i) (omega arith))) (wrote-more (turn .inv .1 .1 .0) (omega arith) w),
+          at-put-column .put-column .kept .0 ∙ turn .inv .1 .1 .1,
+        ),
+      ),
+    )
 
 same-length : tie.Need-same-length Inv-loop μ-loop
 same-length c = c .before .loop .inv .1 .1 .1
