@@ -24,9 +24,8 @@ then-requires-3 c κs = search needs
 
 slice-aggregate-of : tie.Need-slice-aggregate-of
 slice-aggregate-of c =
-    let begin = c .before .before .before .before .before .before .before .before .before .before .before in
-    let lent = begin .args .answer .held .lent in
-    let table = begin .args .table .now in
+    let lent = c .before .before .before .before .before .before .before .before .before .before .before .args .answer .held .lent in
+    let table = c .before .before .before .before .before .before .before .before .before .before .before .args .table .now in
     let h : lent ≤ length table = search needs in sym (length-take-le lent table h)
 
 of-requires : tie.Need-of-requires

@@ -41,15 +41,9 @@ lesser-requires c κs = search needs
 returns-3 : tie.Need-returns-3
 unfolding byteRefill
 returns-3 c =
-    let at-saturating-add = c .before in
-    let at-product-over = at-saturating-add .before in
-    let at-if2 = at-product-over .before .before .before .before in
-    let at-if1 = at-if2 .before .before in
-    let at-is-disabled = at-if1 .before in
-    let begin = at-is-disabled .before in
     let w : Whole (c .lesser .result) = record { four = search needs; fit = λ i. search needs } in
-    let a = begin .args in
-    rw (topped (a .b .«available_bytes») ((a .now-ms - a .b .«last_refill_ms») * a .b .config .«rate_bytes_per_sec» / msPerSec) (a .b .config .«burst_bytes») (omega arith) w (at-product-over .product-over .ensures) (at-saturating-add .saturating-add .ensures) (c .lesser .ensures), sym (at-is-disabled .is-disabled .ensures), at-if1 .if1 .left, lt-leb _ _ (at-if2 .if2 .left))
+    let a = c .before .before .before .before .before .before .before .before .before .before .args in
+    rw (topped (a .b .«available_bytes») ((a .now-ms - a .b .«last_refill_ms») * a .b .config .«rate_bytes_per_sec» / msPerSec) (a .b .config .«burst_bytes») (omega arith) w (c .before .before .product-over .ensures) (c .before .saturating-add .ensures) (c .lesser .ensures), sym (c .before .before .before .before .before .before .before .before .before .is-disabled .ensures), c .before .before .before .before .before .before .before .before .if1 .left, lt-leb _ _ (c .before .before .before .before .before .before .if2 .left))
 
 pub refilled-spec : {M : Type 1} → statement M
 refilled-spec =

@@ -28,13 +28,10 @@ same-length c = search needs
 
 returns : tie.Need-returns
 returns c =
-    let at-store = c .before .before in
-    let at-words-of = at-store .before .before .before .before .before in
-    let begin = at-words-of .before .before in
-    let a = begin .args in
-    let good = begin .good in
-    stored-under ban-faithful (a .table .now) _ (a .count) (at-store .store .result) (a .key .bytes) (a .e) (wordBytes (at-words-of .words-of .result)) (λ i. c .slice-known2 .given i .fits) (omega (arith, begin .pre))
-    (omega (arith, good), (omega (arith, good), (omega (arith, good), (omega (arith, good), tt)))) (ap wordBytes (at-words-of .words-of .ensures)) (search needs) (at-store .store .ensures)
+    let a = c .before .before .before .before .before .before .before .before .before .args in
+    let good = c .before .before .before .before .before .before .before .before .before .good in
+    stored-under ban-faithful (a .table .now) _ (a .count) (c .before .before .store .result) (a .key .bytes) (a .e) (wordBytes (c .before .before .before .before .before .before .before .words-of .result)) (λ i. c .slice-known2 .given i .fits) (omega (arith, c .before .before .before .before .before .before .before .before .before .pre))
+    (omega (arith, good), (omega (arith, good), (omega (arith, good), (omega (arith, good), tt)))) (ap wordBytes (c .before .before .before .before .before .before .before .words-of .ensures)) (search needs) (c .before .before .store .ensures)
 
 pub store-spec : {M : Type 1} → statement M
 store-spec =

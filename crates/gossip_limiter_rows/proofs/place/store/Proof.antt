@@ -29,15 +29,11 @@ same-length c = search needs
 
 returns : tie.Need-returns
 returns c =
-    let at-store = c .before .before in
-    let at-bytes = at-store .before .before .before .before in
-    let at-words-of = at-bytes .before in
-    let begin = at-words-of .before .before in
-    let a = begin .args in
-    let good = begin .good in
-    let size : length (at-bytes .bytes .result) ≡ 70 = search needs in
-    rw (← at-bytes .bytes .ensures) (stored-under limiter-faithful (a .table .now) _ (a .count) (at-store .store .result) (at-bytes .bytes .result) (a .e) (wordBytes (at-words-of .words-of .result)) (λ i. c .slice-known2 .given i .fits) (omega (arith, begin .pre))
-    (omega (arith, good), (omega (arith, good), (omega (arith, good), tt))) (ap wordBytes (at-words-of .words-of .ensures)) size (at-store .store .ensures))
+    let a = c .before .before .before .before .before .before .before .before .before .args in
+    let good = c .before .before .before .before .before .before .before .before .before .good in
+    let size : length (c .before .before .before .before .before .before .bytes .result) ≡ 70 = search needs in
+    rw (← c .before .before .before .before .before .before .bytes .ensures) (stored-under limiter-faithful (a .table .now) _ (a .count) (c .before .before .store .result) (c .before .before .before .before .before .before .bytes .result) (a .e) (wordBytes (c .before .before .before .before .before .before .before .words-of .result)) (λ i. c .slice-known2 .given i .fits) (omega (arith, c .before .before .before .before .before .before .before .before .before .pre))
+    (omega (arith, good), (omega (arith, good), (omega (arith, good), tt))) (ap wordBytes (c .before .before .before .before .before .before .before .words-of .ensures)) size (c .before .before .store .ensures))
 
 pub store-spec : {M : Type 1} → statement M
 store-spec =

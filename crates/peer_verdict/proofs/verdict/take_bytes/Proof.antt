@@ -33,17 +33,11 @@ to-u64-requires c κs = search needs
 
 returns : tie.Need-returns
 returns c =
-    let at-missing = c .before in
-    let at-passes = at-missing .before in
-    let at-try-consume = at-passes .before .before .before in
-    let at-from-u64 = at-try-consume .before in
-    let at-new = at-from-u64 .before in
-    let begin = at-new .before in
-    let a = begin .args in
-    let r = at-try-consume .try-consume .result in
-    let w : Whole (at-from-u64 .from-u64 .result) = record { four = search needs; fit = λ i. let h : Fits w32 (getD (at-from-u64 .from-u64 .result .limbs) i 0) = search needs in omega arith } in
-    let met : ByteTryConsumeMeets (byteLevel (bytesOf (a .config)) (pos (a .level .available)) (a .level .«last_refill_ms»)) (a .size) (a .now-ms) r = rw (at-new .new .ensures, is-amountOf w (at-from-u64 .from-u64 .ensures)) at (at-try-consume .try-consume .ensures) in
-    rw (at-missing .missing .ensures, at-passes .passes .ensures, c .to-u64 .ensures, call-fits (a .config) (a .level) (a .size) (a .now-ms) r (omega arith) (begin .pre) met) (call-takes (a .config) (a .level) (a .size) (a .now-ms) r (omega arith) (begin .pre) met)
+    let a = c .before .before .before .before .before .before .before .before .args in
+    let r = c .before .before .before .before .before .try-consume .result in
+    let w : Whole (c .before .before .before .before .before .before .from-u64 .result) = record { four = search needs; fit = λ i. let h : Fits w32 (getD (c .before .before .before .before .before .before .from-u64 .result .limbs) i 0) = search needs in omega arith } in
+    let met : ByteTryConsumeMeets (byteLevel (bytesOf (a .config)) (pos (a .level .available)) (a .level .«last_refill_ms»)) (a .size) (a .now-ms) r = rw (c .before .before .before .before .before .before .before .new .ensures, is-amountOf w (c .before .before .before .before .before .before .from-u64 .ensures)) at (c .before .before .before .before .before .try-consume .ensures) in
+    rw (c .before .missing .ensures, c .before .before .passes .ensures, c .to-u64 .ensures, call-fits (a .config) (a .level) (a .size) (a .now-ms) r (omega arith) (c .before .before .before .before .before .before .before .before .pre) met) (call-takes (a .config) (a .level) (a .size) (a .now-ms) r (omega arith) (c .before .before .before .before .before .before .before .before .pre) met)
 
 pub take-bytes-spec : {M : Type 1} → statement M
 take-bytes-spec =

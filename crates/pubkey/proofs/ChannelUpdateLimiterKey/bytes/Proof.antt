@@ -37,13 +37,10 @@ array-write-bytes c = search needs
 returns : tie.Need-returns
 unfolding limiterKeyBytes
 returns c =
-    let at-put-slice2 = c .before .before in
-    let at-put-slice = at-put-slice2 .before .before .before .before in
-    let begin = at-put-slice .before .before .before .before .before in
-    let k = begin .args .self in
+    let k = c .before .before .before .before .before .before .before .before .before .before .before .args .self in
     let first : length (k .peer .bytes) ≡ 33 = search needs in
     let second : length (k .«channel_outpoint» .bytes) ≡ 36 = search needs in
-    rw (c .side-byte .ensures, at-put-slice2 .put-slice2 .ensures, at-put-slice .put-slice .ensures) (put-three _ (k .peer .bytes) (k .«channel_outpoint» .bytes) (sideByte (k .«is_node1»)) 33 69 first (omega arith) refl)
+    rw (c .side-byte .ensures, c .before .before .put-slice2 .ensures, c .before .before .before .before .before .before .put-slice .ensures) (put-three _ (k .peer .bytes) (k .«channel_outpoint» .bytes) (sideByte (k .«is_node1»)) 33 69 first (omega arith) refl)
 
 pub bytes-spec : {M : Type 1} → statement M
 bytes-spec =

@@ -33,10 +33,8 @@ slice-relend-prefix-new c = search needs
 
 slice-aggregate-new : tie.Need-slice-aggregate-new
 slice-aggregate-new c =
-    let at-fill = c .before .before .before .before .before .before in
-    let begin = at-fill .before .before .before .before .before in
-    let lent = begin .args .r .third in
-    let table = at-fill .fill .last .0 in
+    let lent = c .before .before .before .before .before .before .before .before .before .before .before .args .r .third in
+    let table = c .before .before .before .before .before .before .fill .last .0 in
     let h : lent ≤ length table = search needs in sym (length-take-le lent table h)
 
 new-requires : tie.Need-new-requires

@@ -47,13 +47,10 @@ slice-aggregate-put-columns-2 c = search needs
 
 put-columns-requires : tie.Need-put-columns-requires
 put-columns-requires c κs =
-    let at-words-of = c .before .before in
-    let at-put-hex = at-words-of .before .before .before in
-    let begin = at-put-hex .before .before .before .before .before in
-    let row = begin .args .row in
+    let row = c .before .before .before .before .before .before .before .before .before .before .args .row in
     let h : length (row .key .bytes) ≡ 33 = search needs in
-    let eleven : length (at-words-of .words-of .result) ≡ 11 = ap length (at-words-of .words-of .ensures) ∙ length-entryWords (row .entry) in
-    (omega arith, omega (arith, room-over 300 (at-put-hex .put-hex .ensures) 231 (omega (arith, length-hex (row .key .bytes)))))
+    let eleven : length (c .before .before .words-of .result) ≡ 11 = ap length (c .before .before .words-of .ensures) ∙ length-entryWords (row .entry) in
+    (omega arith, omega (arith, room-over 300 (c .before .before .before .before .before .put-hex .ensures) 231 (omega (arith, length-hex (row .key .bytes)))))
 
 array-write-out : tie.Need-array-write-out
 array-write-out c = let row = c .before .before .before .before .before .before .before .before .before .before .before .before .args .row in
