@@ -9,7 +9,7 @@ use native.Mathlib.Nat.{suc-add}
 use native.Mathlib.Numerals.{add-one}
 use native.Mathlib.Omega.{arith}
 use lib.ListN.{length, drop, getD}
-use Rattle.truths.specs.TruthLaws.{true-is-not-false, both-parts}
+use Rattle.truths.specs.TruthLaws.{true-is-not-false, both-parts, by-test, both}
 use Rattle.pubkey.specs.declared.Ordering.{Ordering}
 use Rattle.pubkey.specs.declared.Ordering.the-variants.{Less, Equal, Greater}
 use Rattle.pubkey.specs.Order.{compareBytes}
