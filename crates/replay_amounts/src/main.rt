@@ -11,11 +11,11 @@ use replay::record::Record;
 // What the recorded products are over, and times.
 const THOUSAND: u32 = 1_000;
 
-// A proved loop has to end, and nothing says that the input does: so turns are counted down from a number that no run uses up.
+// A proved loop has to end, and nothing says that the input does: so rounds are counted down from a number that no run uses up.
 fn main() {
-    let mut turns = u64::MAX;
-    while turns > 0 && answer_next() {
-        turns -= 1;
+    let mut rounds = u64::MAX;
+    while rounds > 0 && answer_next() {
+        rounds -= 1;
     }
 }
 

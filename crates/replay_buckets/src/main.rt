@@ -28,20 +28,20 @@ struct Progress {
     more: bool,
 }
 
-// A proved loop has to end, and nothing says that the input does: so turns are counted down from a number that no run uses up.
+// A proved loop has to end, and nothing says that the input does: so rounds are counted down from a number that no run uses up.
 fn main() {
     let mut buckets = Buckets {
         discrete: DiscreteTokenBucket::new(0, 0),
         bytes: ByteTokenBucket::new(ByteRateLimitConfig::new(0, 0)),
     };
-    let mut turns = u64::MAX;
-    while turns > 0 {
+    let mut rounds = u64::MAX;
+    while rounds > 0 {
         let progress = answer_next(buckets);
         if !progress.more {
             return;
         }
         buckets = progress.buckets;
-        turns -= 1;
+        rounds -= 1;
     }
 }
 

@@ -14,11 +14,11 @@ use token_bucket::bytes::ByteRateLimitConfig;
 use token_bucket::bytes::ByteTokenBucket;
 use token_bucket::discrete::DiscreteTokenBucket;
 
-// A proved loop has to end, and nothing says that the input does: so turns are counted down from a number that no run uses up.
+// A proved loop has to end, and nothing says that the input does: so rounds are counted down from a number that no run uses up.
 fn main() {
-    let mut turns = u64::MAX;
-    while turns > 0 && run_next() {
-        turns -= 1;
+    let mut rounds = u64::MAX;
+    while rounds > 0 && run_next() {
+        rounds -= 1;
     }
 }
 

@@ -1,14 +1,14 @@
--- `replay_amounts::main` is safe and ends: the measure is the number of turns that are left. Nothing has to hold from turn to
--- turn. Assumes nothing.
+-- `replay_amounts::main` is safe and ends: the measure is the number of rounds that are left. Nothing has to hold from round to
+-- round. Assumes nothing.
 use native.Mathlib.Omega.{arith}
 use Rattle.replay_amounts.proofs.main.Statement.{statement}
 use Rattle.replay_amounts.proofs.main.Tie as tie
 
 abbrev Inv-loop : tie.InvT-loop
-Inv-loop turns₀ turns = Unit {0}
+Inv-loop rounds₀ rounds = Unit {0}
 
 abbrev μ-loop : tie.MeasureT-loop
-μ-loop turns₀ turns = turns
+μ-loop rounds₀ rounds = rounds
 
 loop-holds : tie.Need-loop-holds Inv-loop μ-loop
 loop-holds c = tt
@@ -16,8 +16,8 @@ loop-holds c = tt
 answer-next-requires : tie.Need-answer-next-requires Inv-loop μ-loop
 answer-next-requires c κs = tt
 
-sub-turns : tie.Need-sub-turns Inv-loop μ-loop
-sub-turns c = omega arith
+sub-rounds : tie.Need-sub-rounds Inv-loop μ-loop
+sub-rounds c = omega arith
 
 loop-less : tie.Need-loop-less Inv-loop μ-loop
 loop-less c = omega arith
@@ -39,7 +39,7 @@ main-spec =
     μ-loop
     loop-holds
     answer-next-requires
-    sub-turns
+    sub-rounds
     loop-less
     loop-again
     returns

@@ -1,14 +1,14 @@
--- `replay_buckets::main` is safe and ends: the measure is the number of turns that are left. Nothing has to hold from turn to
--- turn. Assumes nothing.
+-- `replay_buckets::main` is safe and ends: the measure is the number of rounds that are left. Nothing has to hold from round to
+-- round. Assumes nothing.
 use native.Mathlib.Omega.{arith}
 use Rattle.replay_buckets.proofs.main.Statement.{statement}
 use Rattle.replay_buckets.proofs.main.Tie as tie
 
 abbrev Inv-loop : tie.InvT-loop
-Inv-loop buckets₀ turns₀ buckets turns = Unit {0}
+Inv-loop buckets₀ rounds₀ buckets rounds = Unit {0}
 
 abbrev μ-loop : tie.MeasureT-loop
-μ-loop buckets₀ turns₀ buckets turns = turns
+μ-loop buckets₀ rounds₀ buckets rounds = rounds
 
 new-requires : tie.Need-new-requires Inv-loop μ-loop
 new-requires c κs = tt
@@ -28,8 +28,8 @@ answer-next-requires c κs = tt
 returns : tie.Need-returns Inv-loop μ-loop
 returns c = tt
 
-sub-turns : tie.Need-sub-turns Inv-loop μ-loop
-sub-turns c = omega arith
+sub-rounds : tie.Need-sub-rounds Inv-loop μ-loop
+sub-rounds c = omega arith
 
 loop-less : tie.Need-loop-less Inv-loop μ-loop
 loop-less c = omega arith
@@ -52,7 +52,7 @@ main-spec =
     loop-holds
     answer-next-requires
     returns
-    sub-turns
+    sub-rounds
     loop-less
     loop-again
     returns-2)
