@@ -24,17 +24,17 @@ fn main() {
     run(&mut table);
 }
 
-// A proved loop has to end, and nothing says that the input does: so turns are counted down from a number that no run uses up.
+// A proved loop has to end, and nothing says that the input does: so rounds are counted down from a number that no run uses up.
 fn run(table: &mut [u8]) {
     let mut held = Held::nothing();
-    let mut turns = u64::MAX;
-    while turns > 0 {
+    let mut rounds = u64::MAX;
+    while rounds > 0 {
         let progress = answer_next(held, table);
         if !progress.more {
             return;
         }
         held = progress.held;
-        turns -= 1;
+        rounds -= 1;
     }
 }
 

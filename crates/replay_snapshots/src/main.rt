@@ -17,14 +17,14 @@ fn main() {
     run(&mut snapshot, &mut table, &mut output);
 }
 
-// A proved loop has to end, and nothing says that the input does: so turns are counted down from a number that no run uses up.
+// A proved loop has to end, and nothing says that the input does: so rounds are counted down from a number that no run uses up.
 fn run(snapshot: &mut [u8], table: &mut [u8], output: &mut [u8]) {
-    let mut turns = u64::MAX;
-    while turns > 0 {
+    let mut rounds = u64::MAX;
+    while rounds > 0 {
         if !answer_next(snapshot, table, output) {
             return;
         }
-        turns -= 1;
+        rounds -= 1;
     }
 }
 

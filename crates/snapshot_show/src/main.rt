@@ -34,11 +34,11 @@ fn show_input(buffer: &mut [u8], table: &mut [u8])
 // Writes the lines that are shown of an input, and answers whether that went well; behind a line that could not be written comes no
 // other.
 //
-// A proved loop has to end: turns are counted down from a number that no run uses up, since at most 1,024 rows are shown.
+// A proved loop has to end: rounds are counted down from a number that no run uses up, since at most 1,024 rows are shown.
 fn write_lines(input: &[u8], table: &mut [u8]) -> bool {
     let mut scan = open(input, table);
-    let mut turns = u64::MAX;
-    while turns > 0 {
+    let mut rounds = u64::MAX;
+    while rounds > 0 {
         let handed = next(scan, input);
         if handed.done {
             return true;
@@ -48,7 +48,7 @@ fn write_lines(input: &[u8], table: &mut [u8]) -> bool {
             return false;
         }
         scan = handed.scan;
-        turns -= 1;
+        rounds -= 1;
     }
     false
 }

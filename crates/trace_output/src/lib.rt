@@ -7,12 +7,12 @@ use trace_lines::line::TraceLine;
 // Writes what the scan of an input hands out, and answers whether that went well; behind a line that could not be written comes no
 // other.
 //
-// A proved loop has to end: turns are counted down from a number that no run uses up, since a scan hands out at most one line for
+// A proved loop has to end: rounds are counted down from a number that no run uses up, since a scan hands out at most one line for
 // each of the input's.
 pub fn write_answers(input: &[u8], table: &mut [u8]) -> bool {
     let mut scan = open(input);
-    let mut turns = u64::MAX;
-    while turns > 0 {
+    let mut rounds = u64::MAX;
+    while rounds > 0 {
         let handed = next(scan, input, table);
         if handed.done {
             return true;
@@ -22,7 +22,7 @@ pub fn write_answers(input: &[u8], table: &mut [u8]) -> bool {
             return false;
         }
         scan = handed.scan;
-        turns -= 1;
+        rounds -= 1;
     }
     false
 }

@@ -7,10 +7,10 @@ use Rattle.replay_peers.proofs.run.Statement.{statement}
 use Rattle.replay_peers.proofs.run.Tie as tie
 
 abbrev Inv-loop : tie.InvT-loop
-Inv-loop table₀ held₀ turns₀ table held turns = length table ≡ length table₀
+Inv-loop table₀ held₀ rounds₀ table held rounds = length table ≡ length table₀
 
 abbrev μ-loop : tie.MeasureT-loop
-μ-loop table₀ held₀ turns₀ table held turns = turns
+μ-loop table₀ held₀ rounds₀ table held rounds = rounds
 
 nothing-requires : tie.Need-nothing-requires Inv-loop μ-loop
 nothing-requires c κs = tt
@@ -27,8 +27,8 @@ same-length c = search needs
 returns : tie.Need-returns Inv-loop μ-loop
 returns c = tt
 
-sub-turns : tie.Need-sub-turns Inv-loop μ-loop
-sub-turns c = omega arith
+sub-rounds : tie.Need-sub-rounds Inv-loop μ-loop
+sub-rounds c = omega arith
 
 loop-less : tie.Need-loop-less Inv-loop μ-loop
 loop-less c = omega arith
@@ -53,7 +53,7 @@ run-spec =
     answer-next-requires
     same-length
     returns
-    sub-turns
+    sub-rounds
     loop-less
     loop-again
     same-length-2

@@ -7,11 +7,11 @@ use Rattle.replay_snapshots.proofs.run.Statement.{statement}
 use Rattle.replay_snapshots.proofs.run.Tie as tie
 
 abbrev Inv-loop : tie.InvT-loop
-Inv-loop snapshot₀ table₀ output₀ turns₀ snapshot table output turns =
+Inv-loop snapshot₀ table₀ output₀ rounds₀ snapshot table output rounds =
     (length snapshot ≡ length snapshot₀) × ((length table ≡ length table₀) × (length output ≡ length output₀))
 
 abbrev μ-loop : tie.MeasureT-loop
-μ-loop snapshot₀ table₀ output₀ turns₀ snapshot table output turns = turns
+μ-loop snapshot₀ table₀ output₀ rounds₀ snapshot table output rounds = rounds
 
 loop-holds : tie.Need-loop-holds Inv-loop μ-loop
 loop-holds c = (refl, (refl, refl))
@@ -31,8 +31,8 @@ same-length-3 c = search needs
 returns : tie.Need-returns Inv-loop μ-loop
 returns c = tt
 
-sub-turns : tie.Need-sub-turns Inv-loop μ-loop
-sub-turns c = omega arith
+sub-rounds : tie.Need-sub-rounds Inv-loop μ-loop
+sub-rounds c = omega arith
 
 loop-less : tie.Need-loop-less Inv-loop μ-loop
 loop-less c = omega arith
@@ -64,7 +64,7 @@ run-spec =
     same-length-2
     same-length-3
     returns
-    sub-turns
+    sub-rounds
     loop-less
     loop-again
     same-length-4

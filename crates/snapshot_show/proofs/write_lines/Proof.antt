@@ -1,14 +1,14 @@
--- `snapshot_show::write_lines` is safe and ends: the measure is the number of turns that are left. Assumes nothing.
+-- `snapshot_show::write_lines` is safe and ends: the measure is the number of rounds that are left. Assumes nothing.
 use native.Mathlib.Omega.{arith}
 use borrow.Author.Needs.{needs}
 use Rattle.snapshot_show.proofs.write_lines.Statement.{statement}
 use Rattle.snapshot_show.proofs.write_lines.Tie as tie
 
 abbrev Inv-loop : tie.InvT-loop
-Inv-loop input table scan₀ turns₀ scan turns = Unit {0}
+Inv-loop input table scan₀ rounds₀ scan rounds = Unit {0}
 
 abbrev μ-loop : tie.MeasureT-loop
-μ-loop input table scan₀ turns₀ scan turns = turns
+μ-loop input table scan₀ rounds₀ scan rounds = rounds
 
 open-requires : tie.Need-open-requires Inv-loop μ-loop
 open-requires c κs = search needs
@@ -34,8 +34,8 @@ same-length-2 c = search needs
 returns-2 : tie.Need-returns-2 Inv-loop μ-loop
 returns-2 c = search needs
 
-sub-turns : tie.Need-sub-turns Inv-loop μ-loop
-sub-turns c = omega arith
+sub-rounds : tie.Need-sub-rounds Inv-loop μ-loop
+sub-rounds c = omega arith
 
 loop-less : tie.Need-loop-less Inv-loop μ-loop
 loop-less c = omega arith
@@ -63,7 +63,7 @@ write-lines-spec =
     write-line-requires
     same-length-2
     returns-2
-    sub-turns
+    sub-rounds
     loop-less
     loop-again
     same-length-3

@@ -1,4 +1,4 @@
--- `trace_output::write_answers` is safe and ends: the measure is the number of turns that are left, and the table keeps its length.
+-- `trace_output::write_answers` is safe and ends: the measure is the number of rounds that are left, and the table keeps its length.
 -- Assumes nothing.
 use mathlib.Core.Path.{_≡_, refl}
 use native.Mathlib.Omega.{arith}
@@ -8,10 +8,10 @@ use Rattle.trace_output.proofs.write_answers.Statement.{statement}
 use Rattle.trace_output.proofs.write_answers.Tie as tie
 
 abbrev Inv-loop : tie.InvT-loop
-Inv-loop input table₀ scan₀ turns₀ table scan turns = length table ≡ length table₀
+Inv-loop input table₀ scan₀ rounds₀ table scan rounds = length table ≡ length table₀
 
 abbrev μ-loop : tie.MeasureT-loop
-μ-loop input table₀ scan₀ turns₀ table scan turns = turns
+μ-loop input table₀ scan₀ rounds₀ table scan rounds = rounds
 
 open-requires : tie.Need-open-requires Inv-loop μ-loop
 open-requires c κs = search needs
@@ -37,8 +37,8 @@ same-length-2 c = search needs
 returns-2 : tie.Need-returns-2 Inv-loop μ-loop
 returns-2 c = search needs
 
-sub-turns : tie.Need-sub-turns Inv-loop μ-loop
-sub-turns c = omega arith
+sub-rounds : tie.Need-sub-rounds Inv-loop μ-loop
+sub-rounds c = omega arith
 
 loop-less : tie.Need-loop-less Inv-loop μ-loop
 loop-less c = omega arith
@@ -66,7 +66,7 @@ write-answers-spec =
     write-line-requires
     same-length-2
     returns-2
-    sub-turns
+    sub-rounds
     loop-less
     loop-again
     same-length-3
