@@ -1,9 +1,4 @@
 -- `verdict::ceiling_decides` meets its contract. Assumes nothing.
-use mathlib.Core.Path.{sym, _∙_, ap}
-use Rattle.peer_state.specs.declared.entry.PeerMessagePolicyEntry.{PeerMessagePolicyEntry}
-use Rattle.peer_verdict.specs.declared.verdict.Decision.{Decision}
-use Rattle.peer_verdict.specs.declared.verdict.Cause.the-variants as Cause
-use Rattle.peer_verdict.specs.Verdict.{ceilingDecides}
 use borrow.Author.Needs.{needs}
 use Rattle.peer_verdict.proofs.verdict.ceiling_decides.Statement.{statement}
 use Rattle.peer_verdict.proofs.verdict.ceiling_decides.Tie as tie
@@ -33,10 +28,7 @@ decided-requires-4 : tie.Need-decided-requires-4
 decided-requires-4 c κs = search needs
 
 returns : tie.Need-returns
-returns c =
-    let a = c .before .before .before .before .args in
-    let allowed : PeerMessagePolicyEntry → Decision = λ e. record { cause = Cause.Allowed; entry = e; ingress = c .before .before .reservation .given .0 .0 } in
-    c .decided .ensures ∙ ap allowed (c .before .before .before .before .pre) ∙ ap (ceilingDecides (a .ingress) (a .entry) (a .charged .messages) (a .charged .bytes)) (sym (c .before .before .reservation .given .1))
+returns c = rw (c .decided .ensures, c .before .before .reservation .given .1)
 
 returns-2 : tie.Need-returns-2
 returns-2 c = rw (c .decided2 .ensures, c .before .enum-told .given .1)
