@@ -142,13 +142,9 @@ weighedIn c i e size now reservation =
     (violated c i e now (Cause.BytesShort (missing (b .answer)))))
     (violated c i e now Cause.MessagesShort)
 
--- the same, with the room that the load in flight leaves
-unfoldable pub weighed : PeerMessagePolicyConfig → FiberIngressBudget → PeerMessagePolicyEntry → ℕ → ℕ → Decision
-weighed c i e size now = weighedIn c i e size now (tryReserve c i size)
-
--- admit on an entry that is not banned
+-- admit on an entry that is not banned, with the room that the load in flight leaves
 unfoldable pub decision : PeerMessagePolicyConfig → FiberIngressBudget → PeerMessagePolicyEntry → ℕ → ℕ → Decision
-decision c i e size now = weighed c i (entryUsed e now (c .«ban_duration_ms»)) size now
+decision c i e size now = weighedIn c i (entryUsed e now (c .«ban_duration_ms»)) size now (tryReserve c i size)
 
 -- an invalid message counted on an entry whose windows are expired and whose last use is now
 unfoldable pub noted : PeerMessagePolicyConfig → PeerMessagePolicyEntry → ℕ → InvalidDecision

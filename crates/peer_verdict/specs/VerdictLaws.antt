@@ -30,7 +30,6 @@ use Rattle.peer_verdict.specs.Verdict.{
   violated,
   ceilingDecides,
   weighedIn,
-  weighed,
   decision,
   noted,
   invalidDecision,
@@ -73,17 +72,6 @@ module _ (P : Decision → Type 0) (c : PeerMessagePolicyConfig) (i : FiberIngre
       chosen P (passes (takeMessage c (e .messages) now .answer))
       (λ m. chosen P (passes (takeBytes c (e .bytes) size now .answer)) (λ b. passed m b) (λ b. bytes m b))
       messages
-
-  -- with the room that the load in flight leaves
-  pub weighed-ways : (size now : ℕ)
-      → (passes (takeMessage c (e .messages) now .answer) ≡ false → P (violated c i e now Cause.MessagesShort))
-      → (passes (takeMessage c (e .messages) now .answer) ≡ true → passes (takeBytes c (e .bytes) size now .answer) ≡ false
-      → P (violated c i e now (Cause.BytesShort (missing (takeBytes c (e .bytes) size now .answer)))))
-      → (passes (takeMessage c (e .messages) now .answer) ≡ true → passes (takeBytes c (e .bytes) size now .answer) ≡ true
-      → P (ceilingDecides i e (bothCharged c e size now) (tryReserve c i size)))
-      → P (weighed c i e size now)
-  unfolding weighed
-  weighed-ways size now messages bytes passed = weighed-in-ways size now (tryReserve c i size) messages bytes passed
 
 -- the same of an invalid message
 pub noted-ways : (P : InvalidDecision → Type 0) (c : PeerMessagePolicyConfig) (e : PeerMessagePolicyEntry) (now : ℕ)
@@ -128,13 +116,13 @@ ceiling-holds i Reservation.NoSlot h taken = h
 ceiling-holds i (Reservation.BytesShort k) h taken = h
 ceiling-holds i Reservation.Overflow h taken = h
 
-weighed-holds : (c : PeerMessagePolicyConfig) (i : FiberIngressBudget) (e : PeerMessagePolicyEntry) (size now : ℕ) → EntryHolds c e → Keeps c (weighed c i e size now)
-weighed-holds c i e size now h =
-    weighed-ways (Keeps c) c i e size now
+weighed-holds : (c : PeerMessagePolicyConfig) (i : FiberIngressBudget) (e : PeerMessagePolicyEntry) (size now : ℕ) (reservation : Reservation) → EntryHolds c e → Keeps c (weighedIn c i e size now reservation)
+weighed-holds c i e size now reservation h =
+    weighed-in-ways (Keeps c) c i e size now reservation
     (λ m. violated-holds c i e now Cause.MessagesShort h)
     (λ m b. violated-holds c i e now (Cause.BytesShort (missing (takeBytes c (e .bytes) size now .answer))) h)
     (λ m b.
-    ceiling-holds i (tryReserve c i size) h
+    ceiling-holds i reservation h
     (record {
       messages = message-level c (e .messages) now (h .messages);
       bytes = bytes-level c (e .bytes) size now (h .bytes);
@@ -147,7 +135,7 @@ pub decision-sound : (c : PeerMessagePolicyConfig) (i : FiberIngressBudget) (e :
 unfolding decision
 decision-sound c i e size now h =
     let used = entryUsed e now (c .«ban_duration_ms») in
-    holds-sound (weighed-holds c i used size now (used-holds now (c .«ban_duration_ms») (sound-holds h)))
+    holds-sound (weighed-holds c i used size now (tryReserve c i size) (used-holds now (c .«ban_duration_ms») (sound-holds h)))
 
 pub invalid-decision-sound : (c : PeerMessagePolicyConfig) (e : PeerMessagePolicyEntry) (now : ℕ) → entrySound c e ≡ true → entrySound c (invalidDecision c e now .entry) ≡ true
 unfolding invalidDecision
@@ -236,9 +224,9 @@ ceiling-orderly c i e size now m b (Reservation.BytesShort k) h =
 ceiling-orderly c i e size now m b Reservation.Overflow h =
     kept-orderly h tt (record { messages = refl; bytes = refl; ingress = refl })
 
-weighed-orderly : (c : PeerMessagePolicyConfig) (i : FiberIngressBudget) (e : PeerMessagePolicyEntry) (size now : ℕ) → Orderly c i e size now (weighed c i e size now)
+weighed-orderly : (c : PeerMessagePolicyConfig) (i : FiberIngressBudget) (e : PeerMessagePolicyEntry) (size now : ℕ) → Orderly c i e size now (weighedIn c i e size now (tryReserve c i size))
 weighed-orderly c i e size now =
-    weighed-ways (Orderly c i e size now) c i e size now
+    weighed-in-ways (Orderly c i e size now) c i e size now (tryReserve c i size)
     (λ m. violated-orderly c i e size now Cause.MessagesShort tt tt)
     (λ m b. violated-orderly c i e size now (Cause.BytesShort (missing (takeBytes c (e .bytes) size now .answer))) (bytes-missing c (e .bytes) size now b) tt)
     (λ m b. ceiling-orderly c i e size now m b (tryReserve c i size) (reservation-holds c i size))

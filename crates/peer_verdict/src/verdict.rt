@@ -5,7 +5,7 @@ ghost use Prim.Native.Nat.{_≤_, _<_};
 ghost use Rattle.amount.specs.Amount.{value, natural};
 ghost use Rattle.peer_state.specs.Entry.{entrySound};
 ghost use Rattle.peer_verdict.specs.Verdict.{passes, missing, takeMessage, takeBytes, withRateWindow, withInvalidWindow, withBuckets};
-ghost use Rattle.peer_verdict.specs.Verdict.{reachesBan, violated, ceilingDecides, weighed, decision, noted, invalidDecision, overflows};
+ghost use Rattle.peer_verdict.specs.Verdict.{reachesBan, violated, ceilingDecides, decision, invalidDecision, overflows};
 use amount::Amount;
 use peer_settings::config::PeerMessagePolicyConfig;
 use peer_state::entry::Level;
@@ -171,16 +171,6 @@ fn with_buckets(
     }
 }
 
-fn decided(cause: Cause, entry: PeerMessagePolicyEntry, ingress: FiberIngressBudget) -> Decision
-    ensures { λ r. ⌜ r ≡ record { cause = cause; entry = entry; ingress = ingress } ⌝ }
-{
-    Decision {
-        cause,
-        entry,
-        ingress,
-    }
-}
-
 fn reaches_ban(config: PeerMessagePolicyConfig, w: ViolationWindow) -> bool
     ensures { λ r. ⌜ r ≡ reachesBan config w ⌝ }
 {
@@ -202,9 +192,17 @@ fn violated(
     let noticed = with_rate_window(entry, counted);
     if reaches_ban(config, counted) {
         let banned = noticed.ban(now_ms, config.ban_duration_ms);
-        return decided(Cause::BanBegun, banned, ingress);
+        return Decision {
+            cause: Cause::BanBegun,
+            entry: banned,
+            ingress,
+        };
     }
-    decided(cause, noticed, ingress)
+    Decision {
+        cause,
+        entry: noticed,
+        ingress,
+    }
 }
 
 // Both buckets pass, and `charged` is the entry after their takes: where the ceiling has no room it is thrown away.
@@ -217,44 +215,30 @@ fn ceiling_decides(
     ensures { λ r. ⌜ r ≡ ceilingDecides ingress entry charged reservation ⌝ }
 {
     match reservation {
-        Reservation::Left(after) => decided(Cause::Allowed, charged, after),
-        Reservation::NoSlot => decided(Cause::NoSlot, entry, ingress),
-        Reservation::BytesShort(short) => decided(Cause::CeilingShort(short), entry, ingress),
-        Reservation::Overflow => decided(Cause::Overflow, entry, ingress),
+        Reservation::Left(after) => Decision {
+            cause: Cause::Allowed,
+            entry: charged,
+            ingress: after,
+        },
+        Reservation::NoSlot => Decision {
+            cause: Cause::NoSlot,
+            entry,
+            ingress,
+        },
+        Reservation::BytesShort(short) => Decision {
+            cause: Cause::CeilingShort(short),
+            entry,
+            ingress,
+        },
+        Reservation::Overflow => Decision {
+            cause: Cause::Overflow,
+            entry,
+            ingress,
+        },
     }
 }
 
-// The message bucket, then the byte bucket, then the ceiling, on an entry whose last use is now.
-fn weighed(
-    config: PeerMessagePolicyConfig,
-    ingress: FiberIngressBudget,
-    entry: PeerMessagePolicyEntry,
-    size: u64,
-    now_ms: u64,
-) -> Decision
-    requires { ⌜ entrySound config entry ≡ true ⌝ }
-    ensures { λ r. ⌜ r ≡ weighed config ingress entry size «now_ms» ⌝ }
-{
-    let message_level = entry.messages;
-    let messages = take_message(config, message_level, now_ms);
-    let message_answer = messages.answer;
-    if !passes(message_answer) {
-        return violated(config, ingress, entry, now_ms, Cause::MessagesShort);
-    }
-    let byte_level = entry.bytes;
-    let bytes = take_bytes(config, byte_level, size, now_ms);
-    let message_bucket = messages.bucket;
-    let byte_bucket = bytes.bucket;
-    let charged = with_buckets(entry, message_bucket, byte_bucket);
-    let byte_answer = bytes.answer;
-    if !passes(byte_answer) {
-        let cause = Cause::BytesShort(missing(byte_answer));
-        return violated(config, ingress, entry, now_ms, cause);
-    }
-    ceiling_decides(ingress, entry, charged, ingress.try_reserve(config, size))
-}
-
-// A message on an entry that is not banned.
+// A message on an entry that is not banned: the message bucket, then the byte bucket, then the ceiling.
 pub fn decide(
     config: PeerMessagePolicyConfig,
     ingress: FiberIngressBudget,
@@ -265,26 +249,38 @@ pub fn decide(
     requires { ⌜ entrySound config entry ≡ true ⌝ }
     ensures { λ r. ⌜ r ≡ decision config ingress entry size «now_ms» ⌝ }
 {
-    weighed(
-        config,
-        ingress,
-        entry.used(now_ms, config.ban_duration_ms),
-        size,
-        now_ms,
-    )
+    let used = entry.used(now_ms, config.ban_duration_ms);
+    let message_level = used.messages;
+    let messages = take_message(config, message_level, now_ms);
+    let message_answer = messages.answer;
+    if !passes(message_answer) {
+        return violated(config, ingress, used, now_ms, Cause::MessagesShort);
+    }
+    let byte_level = used.bytes;
+    let bytes = take_bytes(config, byte_level, size, now_ms);
+    let message_bucket = messages.bucket;
+    let byte_bucket = bytes.bucket;
+    let charged = with_buckets(used, message_bucket, byte_bucket);
+    let byte_answer = bytes.answer;
+    if !passes(byte_answer) {
+        let cause = Cause::BytesShort(missing(byte_answer));
+        return violated(config, ingress, used, now_ms, cause);
+    }
+    ceiling_decides(ingress, used, charged, ingress.try_reserve(config, size))
 }
 
-// An invalid message is counted in a window of its own, and may begin a ban too.
-fn noted(
+// An invalid message on an entry that is not banned: it is counted in a window of its own, and may begin a ban too.
+pub fn decide_invalid(
     config: PeerMessagePolicyConfig,
     entry: PeerMessagePolicyEntry,
     now_ms: u64,
 ) -> InvalidDecision
-    ensures { λ r. ⌜ r ≡ noted config entry «now_ms» ⌝ }
+    ensures { λ r. ⌜ r ≡ invalidDecision config entry «now_ms» ⌝ }
 {
-    let window = entry.invalid_messages;
+    let used = entry.used(now_ms, config.ban_duration_ms);
+    let window = used.invalid_messages;
     let counted = window.record(now_ms, config.ban_duration_ms);
-    let noticed = with_invalid_window(entry, counted);
+    let noticed = with_invalid_window(used, counted);
     if reaches_ban(config, counted) {
         let banned = noticed.ban(now_ms, config.ban_duration_ms);
         return InvalidDecision {
@@ -296,17 +292,6 @@ fn noted(
         cause: InvalidCause::Noted,
         entry: noticed,
     }
-}
-
-// An invalid message on an entry that is not banned.
-pub fn decide_invalid(
-    config: PeerMessagePolicyConfig,
-    entry: PeerMessagePolicyEntry,
-    now_ms: u64,
-) -> InvalidDecision
-    ensures { λ r. ⌜ r ≡ invalidDecision config entry «now_ms» ⌝ }
-{
-    noted(config, entry.used(now_ms, config.ban_duration_ms), now_ms)
 }
 
 // Whether the decision is refusal 4.

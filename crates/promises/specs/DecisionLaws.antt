@@ -16,7 +16,7 @@ use Rattle.peer_verdict.specs.declared.verdict.Decision.{Decision}
 use Rattle.peer_verdict.specs.declared.verdict.InvalidDecision.{InvalidDecision}
 use Rattle.peer_state.specs.Entry.{entryBan, entryUsed}
 use Rattle.peer_state.specs.Ingress.{tryReserve}
-use Rattle.peer_verdict.specs.Verdict.{passes, missing, messagesLeft, bytesLeft, takeMessage, takeBytes, reachesBan, violated, ceilingDecides, weighedIn, weighed, decision, invalidDecision}
+use Rattle.peer_verdict.specs.Verdict.{passes, missing, messagesLeft, bytesLeft, takeMessage, takeBytes, reachesBan, violated, ceilingDecides, weighedIn, decision, invalidDecision}
 use Rattle.peer_verdict.specs.VerdictLaws.{NotAllowed, rateCounted, bothCharged, violated-ways, noted-ways, weighed-in-ways}
 
 -- ════ A message ════
@@ -149,5 +149,5 @@ module _ (c : PeerMessagePolicyConfig) (i j : FiberIngressBudget) (now : ℕ) wh
   -- admit's decision is that in the room which its load leaves, whatever load is carried
   pub decision-alike : (e : PeerMessagePolicyEntry) (size : ℕ)
       → Alike (decision c i e size now) (weighedIn c j (entryUsed e now (c .«ban_duration_ms»)) size now (tryReserve c i size))
-  unfolding decision weighed
+  unfolding decision
   decision-alike e size = weighed-alike (entryUsed e now (c .«ban_duration_ms»)) size (tryReserve c i size)

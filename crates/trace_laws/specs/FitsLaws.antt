@@ -24,7 +24,7 @@ use Rattle.peer_settings.specs.Fits.{ConfigFits}
 use Rattle.peer_state.specs.Entry.{entryUsed}
 use Rattle.peer_state.specs.Ingress.{tryReserve}
 use Rattle.peer_verdict.specs.Verdict.{ceilingDecides, missing, takeBytes, decision, invalidDecision}
-use Rattle.peer_verdict.specs.VerdictLaws.{bothCharged, violated-ways, weighed-ways}
+use Rattle.peer_verdict.specs.VerdictLaws.{bothCharged, violated-ways, weighed-in-ways}
 use Rattle.peer_rows.specs.Rows.{Peers}
 use Rattle.peer_message_policy.specs.declared.policy.PeerMessagePolicy.{PeerMessagePolicy}
 use Rattle.peer_verdict.specs.Verdict.{overflows}
@@ -127,7 +127,7 @@ module _ (c : PeerMessagePolicyConfig) (config : ConfigFits c) (i : FiberIngress
   unfolding decision
   decision-fits e size now =
       let used : PeerMessagePolicyEntry = entryUsed e now (c .«ban_duration_ms») in
-      weighed-ways DecisionFits c i used size now
+      weighed-in-ways DecisionFits c i used size now (tryReserve c i size)
       (λ short. violated-ways DecisionFits c i used now Cause.MessagesShort (λ h. load) (λ h. load))
       (λ passed short. violated-ways DecisionFits c i used now (Cause.BytesShort (missing (takeBytes c (used .bytes) size now .answer))) (λ h. load) (λ h. load))
       (λ passed passes. ceilingDecides-fits used (bothCharged c used size now) (tryReserve c i size) (room-fits size))
