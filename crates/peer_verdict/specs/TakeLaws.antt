@@ -20,12 +20,11 @@ use Rattle.bucket_bytes.specs.declared.bytes.ByteTokenBucket.{ByteTokenBucket}
 use Rattle.bucket_bytes.specs.declared.bytes.ByteConsumed.{ByteConsumed}
 use Rattle.bucket_terms.specs.Limit.{byteDisabled}
 use Rattle.bucket_discrete.specs.DiscreteBucket.{discreteRefill, discreteTake, discreteTryConsume}
-use Rattle.bucket_bytes.specs.ByteBucket.{byteSound, byteLevel, byteRefill, byteTake, byteTryConsume}
+use Rattle.bucket_bytes.specs.ByteBucket.{byteSound, byteRefill, byteTake, byteTryConsume}
 use Rattle.peer_settings.specs.declared.config.PeerMessagePolicyConfig.{PeerMessagePolicyConfig}
 use Rattle.peer_state.specs.declared.entry.Level.{Level}
-use Rattle.peer_verdict.specs.declared.verdict.Take.{Take}
 use Rattle.peer_settings.specs.Config.{messageLimitDisabled, bytesOf}
-use Rattle.peer_verdict.specs.Verdict.{passes, missing, messageBucket, takeMessage, takeBytes}
+use Rattle.peer_verdict.specs.Verdict.{passes, missing, messageBucket, messagesLeft, byteBucket, bytesLeft, takeMessage, takeBytes}
 
 -- ════ The message bucket ════
 
@@ -44,10 +43,10 @@ discrete-take-less b =
     chosen (λ (r : DiscreteConsumed). r .bucket .available ≤ b .available) (eqb (b .available) 0) (λ t. omega arith) (λ t. omega arith)
 
 -- a take leaves no more messages than the capacity
-pub message-level : (c : PeerMessagePolicyConfig) (l : Level) (now : ℕ) → l .available ≤ c .«peer_message_burst» → takeMessage c l now .level .available ≤ c .«peer_message_burst»
+pub message-level : (c : PeerMessagePolicyConfig) (l : Level) (now : ℕ) → l .available ≤ c .«peer_message_burst» → messagesLeft (takeMessage c l now .bucket) .available ≤ c .«peer_message_burst»
 unfolding takeMessage discreteTryConsume
 message-level c l now h =
-    chosen (λ (t : Take). t .level .available ≤ c .«peer_message_burst») (messageLimitDisabled c)
+    chosen (λ (r : DiscreteConsumed). r .bucket .available ≤ c .«peer_message_burst») (messageLimitDisabled c)
     (λ off. h)
     (λ on.
     let refilled = discreteRefill (messageBucket c l) now in
@@ -89,7 +88,7 @@ natural-lesser (pos a) b =
 natural-lesser (negsuc a) b = omega arith
 
 -- a level within the burst makes a bucket that is never refused
-pub level-sound : (c : PeerMessagePolicyConfig) (l : Level) → l .available < 18446744073709551616 → l .available ≤ c .«peer_message_burst_bytes» → byteSound (byteLevel (bytesOf c) (pos (l .available)) (l .«last_refill_ms»)) ≡ true
+pub level-sound : (c : PeerMessagePolicyConfig) (l : Level) → l .available < 18446744073709551616 → l .available ≤ c .«peer_message_burst_bytes» → byteSound (byteBucket c l) ≡ true
 unfolding byteSound isI128
 level-sound c l small h =
     let is : Is (amountOf (pos (l .available))) (pos (l .available)) =
@@ -130,10 +129,10 @@ byte-take-less b bytes =
     (arith, natural-amountOf (saturated left), natural-saturated left, natural-minus (value (b .«available_bytes»)) bytes))
 
 -- a take leaves no more bytes than the burst
-pub bytes-level : (c : PeerMessagePolicyConfig) (l : Level) (size now : ℕ) → l .available ≤ c .«peer_message_burst_bytes» → takeBytes c l size now .level .available ≤ c .«peer_message_burst_bytes»
+pub bytes-level : (c : PeerMessagePolicyConfig) (l : Level) (size now : ℕ) → l .available ≤ c .«peer_message_burst_bytes» → bytesLeft (takeBytes c l size now .bucket) .available ≤ c .«peer_message_burst_bytes»
 unfolding takeBytes byteTryConsume
 bytes-level c l size now h =
-    let b = byteLevel (bytesOf c) (pos (l .available)) (l .«last_refill_ms») in
+    let b = byteBucket c l in
     let full : held b ≤ c .«peer_message_burst_bytes» = omega (arith, natural-amountOf (pos (l .available))) in
     chosen (λ (r : ByteConsumed). held (r .bucket) ≤ c .«peer_message_burst_bytes») (byteDisabled (bytesOf c))
     (λ off. full)
@@ -161,9 +160,9 @@ byte-take-missing b bytes =
     (λ t no. absurd (true≢false no))
 
 -- a byte bucket that does not pass falls short by something
-pub bytes-missing : (c : PeerMessagePolicyConfig) (l : Level) (size now : ℕ) → takeBytes c l size now .passes ≡ false → 1 ≤ takeBytes c l size now .missing
+pub bytes-missing : (c : PeerMessagePolicyConfig) (l : Level) (size now : ℕ) → passes (takeBytes c l size now .answer) ≡ false → 1 ≤ missing (takeBytes c l size now .answer)
 unfolding takeBytes byteTryConsume
 bytes-missing c l size now =
     chosen (λ (r : ByteConsumed). passes (r .answer) ≡ false → 1 ≤ missing (r .answer)) (byteDisabled (bytesOf c))
     (λ off no. absurd (true≢false no))
-    (λ on. byte-take-missing (byteRefill (byteLevel (bytesOf c) (pos (l .available)) (l .«last_refill_ms»)) now) size)
+    (λ on. byte-take-missing (byteRefill (byteBucket c l) now) size)

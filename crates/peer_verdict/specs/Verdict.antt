@@ -8,6 +8,7 @@ use Rattle.bucket_terms.specs.declared.answer.Consumed.{Consumed}
 use Rattle.bucket_terms.specs.declared.answer.Consumed.the-variants as Consumed
 use Rattle.bucket_discrete.specs.declared.discrete.DiscreteTokenBucket.{DiscreteTokenBucket}
 use Rattle.bucket_discrete.specs.declared.discrete.DiscreteConsumed.{DiscreteConsumed}
+use Rattle.bucket_bytes.specs.declared.bytes.ByteTokenBucket.{ByteTokenBucket}
 use Rattle.bucket_bytes.specs.declared.bytes.ByteConsumed.{ByteConsumed}
 use Rattle.bucket_discrete.specs.DiscreteBucket.{discreteTryConsume}
 use Rattle.bucket_bytes.specs.ByteBucket.{byteLevel, byteTryConsume}
@@ -23,7 +24,6 @@ use Rattle.peer_verdict.specs.declared.verdict.Cause.the-variants as Cau
 use Rattle.peer_verdict.specs.declared.verdict.InvalidCause.the-variants as InvalidCause
 use Rattle.peer_verdict.specs.declared.verdict.Decision.{Decision}
 use Rattle.peer_verdict.specs.declared.verdict.InvalidDecision.{InvalidDecision}
-use Rattle.peer_verdict.specs.declared.verdict.Take.{Take}
 use Rattle.peer_settings.specs.Config.{messageLimitDisabled, banDisabled, bytesOf}
 use Rattle.peer_state.specs.Entry.{level, windowRecord, entryBan, entryUsed}
 use Rattle.peer_state.specs.Ingress.{tryReserve}
@@ -42,7 +42,7 @@ missing Consumed.Yes = 0
 missing (Consumed.No k) = k
 missing (Consumed.Refused n) = 0
 
--- the message bucket of an entry
+-- the message bucket of an entry, and what the entry keeps of it
 abbrev pub messageBucket : PeerMessagePolicyConfig → Level → DiscreteTokenBucket
 messageBucket c l =
     record {
@@ -52,32 +52,25 @@ messageBucket c l =
       «last_refill_ms» = l .«last_refill_ms»;
     }
 
-abbrev pub messagesTaken : DiscreteConsumed → Take
-messagesTaken r =
-    record {
-      passes = passes (r .answer);
-      missing = missing (r .answer);
-      level = level (r .bucket .available) (r .bucket .«last_refill_ms»);
-    }
+abbrev pub messagesLeft : DiscreteTokenBucket → Level
+messagesLeft b = level (b .available) (b .«last_refill_ms»)
 
-abbrev pub bytesTaken : ByteConsumed → Take
-bytesTaken r =
-    record {
-      passes = passes (r .answer);
-      missing = missing (r .answer);
-      level = level (natural (value (r .bucket .«available_bytes»))) (r .bucket .«last_refill_ms»);
-    }
+-- the byte bucket of an entry, and what the entry keeps of it
+abbrev pub byteBucket : PeerMessagePolicyConfig → Level → ByteTokenBucket
+byteBucket c l = byteLevel (bytesOf c) (pos (l .available)) (l .«last_refill_ms»)
+
+abbrev pub bytesLeft : ByteTokenBucket → Level
+bytesLeft b = level (natural (value (b .«available_bytes»))) (b .«last_refill_ms»)
 
 -- one message out of the message bucket, which is passed by where the limit is off
-unfoldable pub takeMessage : PeerMessagePolicyConfig → Level → ℕ → Take
+unfoldable pub takeMessage : PeerMessagePolicyConfig → Level → ℕ → DiscreteConsumed
 takeMessage c l now =
-    cond (messageLimitDisabled c) (record { passes = true; missing = 0; level = l })
-    (messagesTaken (discreteTryConsume (messageBucket c l) now))
+    cond (messageLimitDisabled c) (record { bucket = messageBucket c l; answer = Consumed.Yes })
+    (discreteTryConsume (messageBucket c l) now)
 
 -- the message's bytes out of the byte bucket; on plain naturals: `NaturalLaws.try-consume-natural` of bucket_bytes
-unfoldable pub takeBytes : PeerMessagePolicyConfig → Level → ℕ → ℕ → Take
-takeBytes c l size now =
-    bytesTaken (byteTryConsume (byteLevel (bytesOf c) (pos (l .available)) (l .«last_refill_ms»)) size now)
+unfoldable pub takeBytes : PeerMessagePolicyConfig → Level → ℕ → ℕ → ByteConsumed
+takeBytes c l size now = byteTryConsume (byteBucket c l) size now
 
 -- ════ The decision ════
 
@@ -106,11 +99,11 @@ withInvalidWindow e w =
     }
 
 -- the entry with the charged copies of its buckets
-abbrev pub withLevels : PeerMessagePolicyEntry → Level → Level → PeerMessagePolicyEntry
-withLevels e m b =
+abbrev pub withBuckets : PeerMessagePolicyEntry → DiscreteTokenBucket → ByteTokenBucket → PeerMessagePolicyEntry
+withBuckets e m b =
     record {
-      messages = m;
-      bytes = b;
+      messages = messagesLeft m;
+      bytes = bytesLeft b;
       «rate_limit_violations» = e .«rate_limit_violations»;
       «invalid_messages» = e .«invalid_messages»;
       ban = e .ban;
@@ -129,12 +122,13 @@ violated c i e now cause =
     (record { cause = Cause.BanBegun; entry = entryBan (withRateWindow e w) now (c .«ban_duration_ms»); ingress = i })
     (record { cause = cause; entry = withRateWindow e w; ingress = i })
 
--- both buckets pass: the ceiling decides; where it has no room the copies are thrown away, and no violation is counted
-abbrev pub ceilingDecides : FiberIngressBudget → PeerMessagePolicyEntry → Level → Level → Reservation → Decision
-ceilingDecides i e m b (Reservation.Left after) = record { cause = Cause.Allowed; entry = withLevels e m b; ingress = after }
-ceilingDecides i e m b Reservation.NoSlot = record { cause = Cause.NoSlot; entry = e; ingress = i }
-ceilingDecides i e m b (Reservation.BytesShort k) = record { cause = Cause.CeilingShort k; entry = e; ingress = i }
-ceilingDecides i e m b Reservation.Overflow = record { cause = Cause.Overflow; entry = e; ingress = i }
+-- both buckets pass, and `charged` is the entry after their takes: the ceiling decides; where it has no room the copies are thrown away,
+-- and no violation is counted
+abbrev pub ceilingDecides : FiberIngressBudget → PeerMessagePolicyEntry → PeerMessagePolicyEntry → Reservation → Decision
+ceilingDecides i e charged (Reservation.Left after) = record { cause = Cause.Allowed; entry = charged; ingress = after }
+ceilingDecides i e charged Reservation.NoSlot = record { cause = Cause.NoSlot; entry = e; ingress = i }
+ceilingDecides i e charged (Reservation.BytesShort k) = record { cause = Cause.CeilingShort k; entry = e; ingress = i }
+ceilingDecides i e charged Reservation.Overflow = record { cause = Cause.Overflow; entry = e; ingress = i }
 
 -- an entry whose windows are expired and whose last use is now: the message bucket, the byte bucket, the ceiling, in this order; the
 -- room that the ceiling has is given
@@ -142,17 +136,15 @@ abbrev pub weighedIn : PeerMessagePolicyConfig → FiberIngressBudget → PeerMe
 weighedIn c i e size now reservation =
     let m = takeMessage c (e .messages) now
     in let b = takeBytes c (e .bytes) size now
-    in cond (m .passes)
-    (cond (b .passes) (ceilingDecides i e (m .level) (b .level) reservation) (violated c i e now (Cause.BytesShort (b .missing))))
+    in cond (passes (m .answer))
+    (cond (passes (b .answer))
+    (ceilingDecides i e (withBuckets e (m .bucket) (b .bucket)) reservation)
+    (violated c i e now (Cause.BytesShort (missing (b .answer)))))
     (violated c i e now Cause.MessagesShort)
 
--- the same, with the room that the load in flight leaves
-unfoldable pub weighed : PeerMessagePolicyConfig → FiberIngressBudget → PeerMessagePolicyEntry → ℕ → ℕ → Decision
-weighed c i e size now = weighedIn c i e size now (tryReserve c i size)
-
--- admit on an entry that is not banned
+-- admit on an entry that is not banned, with the room that the load in flight leaves
 unfoldable pub decision : PeerMessagePolicyConfig → FiberIngressBudget → PeerMessagePolicyEntry → ℕ → ℕ → Decision
-decision c i e size now = weighed c i (entryUsed e now (c .«ban_duration_ms»)) size now
+decision c i e size now = weighedIn c i (entryUsed e now (c .«ban_duration_ms»)) size now (tryReserve c i size)
 
 -- an invalid message counted on an entry whose windows are expired and whose last use is now
 unfoldable pub noted : PeerMessagePolicyConfig → PeerMessagePolicyEntry → ℕ → InvalidDecision

@@ -5,7 +5,6 @@ use Prim.Native.Nat.{ℕ, _≤_}
 use borrow.Author.Tests.{not-true}
 use Rattle.truths.specs.TruthLaws.{chosen}
 use Rattle.peer_settings.specs.declared.config.PeerMessagePolicyConfig.{PeerMessagePolicyConfig}
-use Rattle.peer_state.specs.declared.entry.Level.{Level}
 use Rattle.peer_state.specs.declared.entry.ViolationWindow.{ViolationWindow}
 use Rattle.peer_state.specs.declared.entry.PeerMessagePolicyEntry.{PeerMessagePolicyEntry}
 use Rattle.peer_state.specs.declared.ingress.FiberIngressBudget.{FiberIngressBudget}
@@ -20,16 +19,17 @@ use Rattle.peer_settings.specs.Config.{banDisabled, unlimited}
 use Rattle.peer_state.specs.Entry.{windowRecord, entryBan, entryUsed, entrySound}
 use Rattle.peer_state.specs.Ingress.{ingressReserved, tryReserve, ingressSound}
 use Rattle.peer_verdict.specs.Verdict.{
+  passes,
+  missing,
   takeMessage,
   takeBytes,
   withRateWindow,
   withInvalidWindow,
-  withLevels,
+  withBuckets,
   reachesBan,
   violated,
   ceilingDecides,
   weighedIn,
-  weighed,
   decision,
   noted,
   invalidDecision,
@@ -47,6 +47,10 @@ rateCounted c e now = windowRecord (e .«rate_limit_violations») now (c .«ban_
 abbrev pub invalidCounted : PeerMessagePolicyConfig → PeerMessagePolicyEntry → ℕ → ViolationWindow
 invalidCounted c e now = windowRecord (e .«invalid_messages») now (c .«ban_duration_ms»)
 
+-- the entry with both buckets charged
+abbrev pub bothCharged : PeerMessagePolicyConfig → PeerMessagePolicyEntry → ℕ → ℕ → PeerMessagePolicyEntry
+bothCharged c e size now = withBuckets e (takeMessage c (e .messages) now .bucket) (takeBytes c (e .bytes) size now .bucket)
+
 -- a ban begun on an entry
 abbrev pub banBegun : PeerMessagePolicyConfig → FiberIngressBudget → PeerMessagePolicyEntry → ℕ → Decision
 banBegun c i e now = record { cause = Cause.BanBegun; entry = entryBan e now (c .«ban_duration_ms»); ingress = i }
@@ -58,27 +62,16 @@ module _ (P : Decision → Type 0) (c : PeerMessagePolicyConfig) (i : FiberIngre
   violated-ways now cause begun counted = chosen P (reachesBan c (rateCounted c e now)) begun counted
 
   pub weighed-in-ways : (size now : ℕ) (reservation : Reservation)
-      → (takeMessage c (e .messages) now .passes ≡ false → P (violated c i e now Cause.MessagesShort))
-      → (takeMessage c (e .messages) now .passes ≡ true → takeBytes c (e .bytes) size now .passes ≡ false
-      → P (violated c i e now (Cause.BytesShort (takeBytes c (e .bytes) size now .missing))))
-      → (takeMessage c (e .messages) now .passes ≡ true → takeBytes c (e .bytes) size now .passes ≡ true
-      → P (ceilingDecides i e (takeMessage c (e .messages) now .level) (takeBytes c (e .bytes) size now .level) reservation))
+      → (passes (takeMessage c (e .messages) now .answer) ≡ false → P (violated c i e now Cause.MessagesShort))
+      → (passes (takeMessage c (e .messages) now .answer) ≡ true → passes (takeBytes c (e .bytes) size now .answer) ≡ false
+      → P (violated c i e now (Cause.BytesShort (missing (takeBytes c (e .bytes) size now .answer)))))
+      → (passes (takeMessage c (e .messages) now .answer) ≡ true → passes (takeBytes c (e .bytes) size now .answer) ≡ true
+      → P (ceilingDecides i e (bothCharged c e size now) reservation))
       → P (weighedIn c i e size now reservation)
   weighed-in-ways size now reservation messages bytes passed =
-      chosen P (takeMessage c (e .messages) now .passes)
-      (λ m. chosen P (takeBytes c (e .bytes) size now .passes) (λ b. passed m b) (λ b. bytes m b))
+      chosen P (passes (takeMessage c (e .messages) now .answer))
+      (λ m. chosen P (passes (takeBytes c (e .bytes) size now .answer)) (λ b. passed m b) (λ b. bytes m b))
       messages
-
-  -- with the room that the load in flight leaves
-  pub weighed-ways : (size now : ℕ)
-      → (takeMessage c (e .messages) now .passes ≡ false → P (violated c i e now Cause.MessagesShort))
-      → (takeMessage c (e .messages) now .passes ≡ true → takeBytes c (e .bytes) size now .passes ≡ false
-      → P (violated c i e now (Cause.BytesShort (takeBytes c (e .bytes) size now .missing))))
-      → (takeMessage c (e .messages) now .passes ≡ true → takeBytes c (e .bytes) size now .passes ≡ true
-      → P (ceilingDecides i e (takeMessage c (e .messages) now .level) (takeBytes c (e .bytes) size now .level) (tryReserve c i size)))
-      → P (weighed c i e size now)
-  unfolding weighed
-  weighed-ways size now messages bytes passed = weighed-in-ways size now (tryReserve c i size) messages bytes passed
 
 -- the same of an invalid message
 pub noted-ways : (P : InvalidDecision → Type 0) (c : PeerMessagePolicyConfig) (e : PeerMessagePolicyEntry) (now : ℕ)
@@ -117,19 +110,19 @@ noted-holds c e now h =
     in
     noted-ways (λ d. EntryHolds c (d .entry)) c e now (λ t. ban-holds now (c .«ban_duration_ms») counted) (λ t. counted)
 
-ceiling-holds : {c : PeerMessagePolicyConfig} (i : FiberIngressBudget) {e : PeerMessagePolicyEntry} {m b : Level} (r : Reservation) → EntryHolds c e → EntryHolds c (withLevels e m b) → Keeps c (ceilingDecides i e m b r)
-ceiling-holds i (Reservation.Left after) h charged = charged
-ceiling-holds i Reservation.NoSlot h charged = h
-ceiling-holds i (Reservation.BytesShort k) h charged = h
-ceiling-holds i Reservation.Overflow h charged = h
+ceiling-holds : {c : PeerMessagePolicyConfig} (i : FiberIngressBudget) {e charged : PeerMessagePolicyEntry} (r : Reservation) → EntryHolds c e → EntryHolds c charged → Keeps c (ceilingDecides i e charged r)
+ceiling-holds i (Reservation.Left after) h taken = taken
+ceiling-holds i Reservation.NoSlot h taken = h
+ceiling-holds i (Reservation.BytesShort k) h taken = h
+ceiling-holds i Reservation.Overflow h taken = h
 
-weighed-holds : (c : PeerMessagePolicyConfig) (i : FiberIngressBudget) (e : PeerMessagePolicyEntry) (size now : ℕ) → EntryHolds c e → Keeps c (weighed c i e size now)
-weighed-holds c i e size now h =
-    weighed-ways (Keeps c) c i e size now
+weighed-holds : (c : PeerMessagePolicyConfig) (i : FiberIngressBudget) (e : PeerMessagePolicyEntry) (size now : ℕ) (reservation : Reservation) → EntryHolds c e → Keeps c (weighedIn c i e size now reservation)
+weighed-holds c i e size now reservation h =
+    weighed-in-ways (Keeps c) c i e size now reservation
     (λ m. violated-holds c i e now Cause.MessagesShort h)
-    (λ m b. violated-holds c i e now (Cause.BytesShort (takeBytes c (e .bytes) size now .missing)) h)
+    (λ m b. violated-holds c i e now (Cause.BytesShort (missing (takeBytes c (e .bytes) size now .answer))) h)
     (λ m b.
-    ceiling-holds i (tryReserve c i size) h
+    ceiling-holds i reservation h
     (record {
       messages = message-level c (e .messages) now (h .messages);
       bytes = bytes-level c (e .bytes) size now (h .bytes);
@@ -142,7 +135,7 @@ pub decision-sound : (c : PeerMessagePolicyConfig) (i : FiberIngressBudget) (e :
 unfolding decision
 decision-sound c i e size now h =
     let used = entryUsed e now (c .«ban_duration_ms») in
-    holds-sound (weighed-holds c i used size now (used-holds now (c .«ban_duration_ms») (sound-holds h)))
+    holds-sound (weighed-holds c i used size now (tryReserve c i size) (used-holds now (c .«ban_duration_ms») (sound-holds h)))
 
 pub invalid-decision-sound : (c : PeerMessagePolicyConfig) (e : PeerMessagePolicyEntry) (now : ℕ) → entrySound c e ≡ true → entrySound c (invalidDecision c e now .entry) ≡ true
 unfolding invalidDecision
@@ -175,9 +168,9 @@ NotAllowed Cause.Overflow = Unit {0}
 
 -- an admitted message: both buckets passed, are charged, and the load is one message more
 pub record Admitted (c : PeerMessagePolicyConfig) (i : FiberIngressBudget) (e : PeerMessagePolicyEntry) (size now : ℕ) (d : Decision) : Type 0 where
-  pub messages : takeMessage c (e .messages) now .passes ≡ true
-  pub bytes : takeBytes c (e .bytes) size now .passes ≡ true
-  pub entry : d .entry ≡ withLevels e (takeMessage c (e .messages) now .level) (takeBytes c (e .bytes) size now .level)
+  pub messages : passes (takeMessage c (e .messages) now .answer) ≡ true
+  pub bytes : passes (takeBytes c (e .bytes) size now .answer) ≡ true
+  pub entry : d .entry ≡ bothCharged c e size now
   pub ingress : d .ingress ≡ ingressReserved i size
 
 -- any other: buckets and load are as they were
@@ -216,7 +209,7 @@ violated-orderly c i e size now cause holds n =
     kept-orderly (banning c (rateCounted c e now) t) tt (record { messages = refl; bytes = refl; ingress = refl }))
     (λ t. kept-orderly holds n (record { messages = refl; bytes = refl; ingress = refl }))
 
-ceiling-orderly : (c : PeerMessagePolicyConfig) (i : FiberIngressBudget) (e : PeerMessagePolicyEntry) (size now : ℕ) → takeMessage c (e .messages) now .passes ≡ true → takeBytes c (e .bytes) size now .passes ≡ true → (r : Reservation) → ReservationHolds c i size r → Orderly c i e size now (ceilingDecides i e (takeMessage c (e .messages) now .level) (takeBytes c (e .bytes) size now .level) r)
+ceiling-orderly : (c : PeerMessagePolicyConfig) (i : FiberIngressBudget) (e : PeerMessagePolicyEntry) (size now : ℕ) → passes (takeMessage c (e .messages) now .answer) ≡ true → passes (takeBytes c (e .bytes) size now .answer) ≡ true → (r : Reservation) → ReservationHolds c i size r → Orderly c i e size now (ceilingDecides i e (bothCharged c e size now) r)
 ceiling-orderly c i e size now m b (Reservation.Left after) h =
     record {
       cause = tt;
@@ -231,11 +224,11 @@ ceiling-orderly c i e size now m b (Reservation.BytesShort k) h =
 ceiling-orderly c i e size now m b Reservation.Overflow h =
     kept-orderly h tt (record { messages = refl; bytes = refl; ingress = refl })
 
-weighed-orderly : (c : PeerMessagePolicyConfig) (i : FiberIngressBudget) (e : PeerMessagePolicyEntry) (size now : ℕ) → Orderly c i e size now (weighed c i e size now)
+weighed-orderly : (c : PeerMessagePolicyConfig) (i : FiberIngressBudget) (e : PeerMessagePolicyEntry) (size now : ℕ) → Orderly c i e size now (weighedIn c i e size now (tryReserve c i size))
 weighed-orderly c i e size now =
-    weighed-ways (Orderly c i e size now) c i e size now
+    weighed-in-ways (Orderly c i e size now) c i e size now (tryReserve c i size)
     (λ m. violated-orderly c i e size now Cause.MessagesShort tt tt)
-    (λ m b. violated-orderly c i e size now (Cause.BytesShort (takeBytes c (e .bytes) size now .missing)) (bytes-missing c (e .bytes) size now b) tt)
+    (λ m b. violated-orderly c i e size now (Cause.BytesShort (missing (takeBytes c (e .bytes) size now .answer))) (bytes-missing c (e .bytes) size now b) tt)
     (λ m b. ceiling-orderly c i e size now m b (tryReserve c i size) (reservation-holds c i size))
 
 -- of a verdict on a message, with the entry as it finds it

@@ -1,10 +1,11 @@
 // What admit and record_invalid decide on one entry, before a byte is written.
 ghost use mathlib.Core.Path.{_≡_};
 ghost use mathlib.Core.Bool.{true};
-ghost use Prim.Native.Nat.{_≤_};
+ghost use Prim.Native.Nat.{_≤_, _<_};
+ghost use Rattle.amount.specs.Amount.{value, natural};
 ghost use Rattle.peer_state.specs.Entry.{entrySound};
-ghost use Rattle.peer_verdict.specs.Verdict.{passes, missing, takeMessage, takeBytes, withRateWindow, withInvalidWindow, withLevels};
-ghost use Rattle.peer_verdict.specs.Verdict.{reachesBan, violated, ceilingDecides, weighed, decision, noted, invalidDecision, overflows};
+ghost use Rattle.peer_verdict.specs.Verdict.{passes, missing, takeMessage, takeBytes, withRateWindow, withInvalidWindow, withBuckets};
+ghost use Rattle.peer_verdict.specs.Verdict.{reachesBan, violated, ceilingDecides, decision, invalidDecision, overflows};
 use amount::Amount;
 use peer_settings::config::PeerMessagePolicyConfig;
 use peer_state::entry::Level;
@@ -13,16 +14,11 @@ use peer_state::entry::ViolationWindow;
 use peer_state::ingress::FiberIngressBudget;
 use peer_state::ingress::Reservation;
 use token_bucket::answer::Consumed;
+use token_bucket::bytes::ByteConsumed;
 use token_bucket::bytes::ByteRateLimitConfig;
 use token_bucket::bytes::ByteTokenBucket;
+use token_bucket::discrete::DiscreteConsumed;
 use token_bucket::discrete::DiscreteTokenBucket;
-
-// A bucket's answer on a copy: whether it passes, by how much it falls short where it says no, and the level after.
-pub struct Take {
-    pub passes: bool,
-    pub missing: u64,
-    pub level: Level,
-}
 
 // Why a message is admitted or not, in the order in which the limits decide.
 pub enum Cause {
@@ -77,38 +73,27 @@ fn missing(answer: Consumed) -> u64
 }
 
 // One message out of the message bucket. Where the limit is off the bucket is passed by: it would say no once it is empty.
-pub fn take_message(config: PeerMessagePolicyConfig, level: Level, now_ms: u64) -> Take
+fn take_message(config: PeerMessagePolicyConfig, level: Level, now_ms: u64) -> DiscreteConsumed
     requires { ⌜ level .available ≤ config .«peer_message_burst» ⌝ }
     ensures { λ r. ⌜ r ≡ takeMessage config level «now_ms» ⌝ }
 {
-    if config.message_limit_disabled() {
-        return Take {
-            passes: true,
-            missing: 0,
-            level,
-        };
-    }
     let bucket = DiscreteTokenBucket {
         interval_ms: config.peer_message_interval_ms,
         capacity: config.peer_message_burst,
         available: level.available as u32,
         last_refill_ms: level.last_refill_ms,
     };
-    let consumed = bucket.try_consume(now_ms);
-    let after = consumed.bucket;
-    let answer = consumed.answer;
-    Take {
-        passes: passes(answer),
-        missing: missing(answer),
-        level: Level {
-            available: after.available as u64,
-            last_refill_ms: after.last_refill_ms,
-        },
+    if config.message_limit_disabled() {
+        return DiscreteConsumed {
+            bucket,
+            answer: Consumed::Yes,
+        };
     }
+    bucket.try_consume(now_ms)
 }
 
 // The message's bytes out of the byte bucket.
-pub fn take_bytes(config: PeerMessagePolicyConfig, level: Level, size: u64, now_ms: u64) -> Take
+fn take_bytes(config: PeerMessagePolicyConfig, level: Level, size: u64, now_ms: u64) -> ByteConsumed
     requires { ⌜ level .available ≤ config .«peer_message_burst_bytes» ⌝ }
     ensures { λ r. ⌜ r ≡ takeBytes config level size «now_ms» ⌝ }
 {
@@ -120,18 +105,7 @@ pub fn take_bytes(config: PeerMessagePolicyConfig, level: Level, size: u64, now_
         available_bytes: Amount::from_u64(level.available),
         last_refill_ms: level.last_refill_ms,
     };
-    let consumed = bucket.try_consume(size, now_ms);
-    let after = consumed.bucket;
-    let answer = consumed.answer;
-    let available = after.available_bytes;
-    Take {
-        passes: passes(answer),
-        missing: missing(answer),
-        level: Level {
-            available: available.to_u64(),
-            last_refill_ms: after.last_refill_ms,
-        },
-    }
+    bucket.try_consume(size, now_ms)
 }
 
 fn with_rate_window(e: PeerMessagePolicyEntry, w: ViolationWindow) -> PeerMessagePolicyEntry
@@ -168,29 +142,32 @@ fn with_invalid_window(e: PeerMessagePolicyEntry, w: ViolationWindow) -> PeerMes
     }
 }
 
-fn with_levels(e: PeerMessagePolicyEntry, messages: Level, bytes: Level) -> PeerMessagePolicyEntry
-    ensures { λ r. ⌜ r ≡ withLevels e messages bytes ⌝ }
+// The entry with the charged copies of its buckets; what they hold fits a u64.
+fn with_buckets(
+    e: PeerMessagePolicyEntry,
+    messages: DiscreteTokenBucket,
+    bytes: ByteTokenBucket,
+) -> PeerMessagePolicyEntry
+    requires { ⌜ natural (value (bytes .«available_bytes»)) < 18446744073709551616 ⌝ }
+    ensures { λ r. ⌜ r ≡ withBuckets e messages bytes ⌝ }
 {
+    let available_bytes = bytes.available_bytes;
     let rate_limit_violations = e.rate_limit_violations;
     let invalid_messages = e.invalid_messages;
     let ban = e.ban;
     PeerMessagePolicyEntry {
-        messages,
-        bytes,
+        messages: Level {
+            available: messages.available as u64,
+            last_refill_ms: messages.last_refill_ms,
+        },
+        bytes: Level {
+            available: available_bytes.to_u64(),
+            last_refill_ms: bytes.last_refill_ms,
+        },
         rate_limit_violations,
         invalid_messages,
         ban,
         last_used_ms: e.last_used_ms,
-    }
-}
-
-fn decided(cause: Cause, entry: PeerMessagePolicyEntry, ingress: FiberIngressBudget) -> Decision
-    ensures { λ r. ⌜ r ≡ record { cause = cause; entry = entry; ingress = ingress } ⌝ }
-{
-    Decision {
-        cause,
-        entry,
-        ingress,
     }
 }
 
@@ -201,7 +178,7 @@ fn reaches_ban(config: PeerMessagePolicyConfig, w: ViolationWindow) -> bool
 }
 
 // A bucket fell short: the violation is counted, and may begin a ban. The buckets stay as they were.
-pub fn violated(
+fn violated(
     config: PeerMessagePolicyConfig,
     ingress: FiberIngressBudget,
     entry: PeerMessagePolicyEntry,
@@ -215,9 +192,17 @@ pub fn violated(
     let noticed = with_rate_window(entry, counted);
     if reaches_ban(config, counted) {
         let banned = noticed.ban(now_ms, config.ban_duration_ms);
-        return decided(Cause::BanBegun, banned, ingress);
+        return Decision {
+            cause: Cause::BanBegun,
+            entry: banned,
+            ingress,
+        };
     }
-    decided(cause, noticed, ingress)
+    Decision {
+        cause,
+        entry: noticed,
+        ingress,
+    }
 }
 
 // Both buckets pass, and `charged` is the entry after their takes: where the ceiling has no room it is thrown away.
@@ -227,44 +212,33 @@ fn ceiling_decides(
     charged: PeerMessagePolicyEntry,
     reservation: Reservation,
 ) -> Decision
-    requires { ⌜ charged ≡ withLevels entry (charged .messages) (charged .bytes) ⌝ }
-    ensures { λ r. ⌜ r ≡ ceilingDecides ingress entry (charged .messages) (charged .bytes) reservation ⌝ }
+    ensures { λ r. ⌜ r ≡ ceilingDecides ingress entry charged reservation ⌝ }
 {
     match reservation {
-        Reservation::Left(after) => decided(Cause::Allowed, charged, after),
-        Reservation::NoSlot => decided(Cause::NoSlot, entry, ingress),
-        Reservation::BytesShort(short) => decided(Cause::CeilingShort(short), entry, ingress),
-        Reservation::Overflow => decided(Cause::Overflow, entry, ingress),
+        Reservation::Left(after) => Decision {
+            cause: Cause::Allowed,
+            entry: charged,
+            ingress: after,
+        },
+        Reservation::NoSlot => Decision {
+            cause: Cause::NoSlot,
+            entry,
+            ingress,
+        },
+        Reservation::BytesShort(short) => Decision {
+            cause: Cause::CeilingShort(short),
+            entry,
+            ingress,
+        },
+        Reservation::Overflow => Decision {
+            cause: Cause::Overflow,
+            entry,
+            ingress,
+        },
     }
 }
 
-// The message bucket, then the byte bucket, then the ceiling, on an entry whose last use is now.
-pub fn weighed(
-    config: PeerMessagePolicyConfig,
-    ingress: FiberIngressBudget,
-    entry: PeerMessagePolicyEntry,
-    size: u64,
-    now_ms: u64,
-) -> Decision
-    requires { ⌜ entrySound config entry ≡ true ⌝ }
-    ensures { λ r. ⌜ r ≡ weighed config ingress entry size «now_ms» ⌝ }
-{
-    let message_level = entry.messages;
-    let messages = take_message(config, message_level, now_ms);
-    if !messages.passes {
-        return violated(config, ingress, entry, now_ms, Cause::MessagesShort);
-    }
-    let byte_level = entry.bytes;
-    let bytes = take_bytes(config, byte_level, size, now_ms);
-    let charged = with_levels(entry, messages.level, bytes.level);
-    if !bytes.passes {
-        let cause = Cause::BytesShort(bytes.missing);
-        return violated(config, ingress, entry, now_ms, cause);
-    }
-    ceiling_decides(ingress, entry, charged, ingress.try_reserve(config, size))
-}
-
-// A message on an entry that is not banned.
+// A message on an entry that is not banned: the message bucket, then the byte bucket, then the ceiling.
 pub fn decide(
     config: PeerMessagePolicyConfig,
     ingress: FiberIngressBudget,
@@ -275,26 +249,38 @@ pub fn decide(
     requires { ⌜ entrySound config entry ≡ true ⌝ }
     ensures { λ r. ⌜ r ≡ decision config ingress entry size «now_ms» ⌝ }
 {
-    weighed(
-        config,
-        ingress,
-        entry.used(now_ms, config.ban_duration_ms),
-        size,
-        now_ms,
-    )
+    let used = entry.used(now_ms, config.ban_duration_ms);
+    let message_level = used.messages;
+    let messages = take_message(config, message_level, now_ms);
+    let message_answer = messages.answer;
+    if !passes(message_answer) {
+        return violated(config, ingress, used, now_ms, Cause::MessagesShort);
+    }
+    let byte_level = used.bytes;
+    let bytes = take_bytes(config, byte_level, size, now_ms);
+    let message_bucket = messages.bucket;
+    let byte_bucket = bytes.bucket;
+    let charged = with_buckets(used, message_bucket, byte_bucket);
+    let byte_answer = bytes.answer;
+    if !passes(byte_answer) {
+        let cause = Cause::BytesShort(missing(byte_answer));
+        return violated(config, ingress, used, now_ms, cause);
+    }
+    ceiling_decides(ingress, used, charged, ingress.try_reserve(config, size))
 }
 
-// An invalid message is counted in a window of its own, and may begin a ban too.
-pub fn noted(
+// An invalid message on an entry that is not banned: it is counted in a window of its own, and may begin a ban too.
+pub fn decide_invalid(
     config: PeerMessagePolicyConfig,
     entry: PeerMessagePolicyEntry,
     now_ms: u64,
 ) -> InvalidDecision
-    ensures { λ r. ⌜ r ≡ noted config entry «now_ms» ⌝ }
+    ensures { λ r. ⌜ r ≡ invalidDecision config entry «now_ms» ⌝ }
 {
-    let window = entry.invalid_messages;
+    let used = entry.used(now_ms, config.ban_duration_ms);
+    let window = used.invalid_messages;
     let counted = window.record(now_ms, config.ban_duration_ms);
-    let noticed = with_invalid_window(entry, counted);
+    let noticed = with_invalid_window(used, counted);
     if reaches_ban(config, counted) {
         let banned = noticed.ban(now_ms, config.ban_duration_ms);
         return InvalidDecision {
@@ -306,17 +292,6 @@ pub fn noted(
         cause: InvalidCause::Noted,
         entry: noticed,
     }
-}
-
-// An invalid message on an entry that is not banned.
-pub fn decide_invalid(
-    config: PeerMessagePolicyConfig,
-    entry: PeerMessagePolicyEntry,
-    now_ms: u64,
-) -> InvalidDecision
-    ensures { λ r. ⌜ r ≡ invalidDecision config entry «now_ms» ⌝ }
-{
-    noted(config, entry.used(now_ms, config.ban_duration_ms), now_ms)
 }
 
 // Whether the decision is refusal 4.

@@ -8,10 +8,10 @@ use native.Mathlib.Nat.{mul-comm, mul-sub, mul-le-mul-left}
 use native.Mathlib.Omega.{arith}
 use borrow.Author.Tests.{leb-true, ltb-false, le-ltb}
 use lib.Dec.{leb, ltb}
-use lib.IntN.{pos}
 use Rattle.truths.specs.TruthLaws.{by-test}
+use Rattle.bucket_terms.specs.declared.answer.Consumed.the-variants as Consumed
 use Rattle.bucket_terms.specs.Limit.{byteDisabled}
-use Rattle.bucket_bytes.specs.ByteBucket.{byteLevel, byteTryConsume}
+use Rattle.bucket_bytes.specs.ByteBucket.{byteTryConsume}
 use Rattle.bucket_bytes.specs.Natural.{refilledTo, refilledAt, naturalTake}
 use Rattle.bucket_bytes.specs.NaturalLaws.{value-of, try-consume-natural}
 use Rattle.peer_settings.specs.declared.config.PeerMessagePolicyConfig.{PeerMessagePolicyConfig}
@@ -19,7 +19,7 @@ use Rattle.peer_state.specs.declared.entry.Level.{Level}
 use Rattle.peer_settings.specs.Config.{bytesOf}
 use Rattle.peer_settings.specs.Fits.{ConfigFits}
 use Rattle.peer_state.specs.Entry.{level}
-use Rattle.peer_verdict.specs.Verdict.{takeBytes}
+use Rattle.peer_verdict.specs.Verdict.{passes, byteBucket, bytesLeft, takeBytes}
 use Rattle.promises.specs.Lives.{Allow, bytesAllowed}
 use Rattle.promises.specs.BucketLaws.{newest, InOrder, charged, Terms, Bounded, bounded-new, bounded-next, NotMore, NotLess, WithinParts, Backed, backed-next, backed-enough}
 
@@ -49,18 +49,22 @@ module _ (c : PeerMessagePolicyConfig) (config : ConfigFits c) (on : byteDisable
     (fits : b .available ≤ c .«peer_message_burst_bytes»)
     (size-fits : size < 2 ^ 64)
     (later : b .«last_refill_ms» ≤ now) where
-  consumed : byteTryConsume (byteLevel (bytesOf c) (pos (b .available)) (b .«last_refill_ms»)) size now ≡ naturalTake (bytesOf c) (refilled c b now) now size
+  consumed : byteTryConsume (byteBucket c b) size now ≡ naturalTake (bytesOf c) (refilled c b now) now size
   consumed =
       try-consume-natural (bytesOf c) (b .available) (b .«last_refill_ms») size now on fits (config .burstBytes) size-fits
       ∙ rw (refilled-same (c .«peer_message_rate_bytes_per_sec») (c .«peer_message_burst_bytes») (b .available) (b .«last_refill_ms») now fits, refilled-when (b .«last_refill_ms») now later)
 
   -- enough is there: so much is left
-  pub takes : size ≤ refilled c b now → takeBytes c b size now ≡ record { passes = true; missing = 0; level = level (refilled c b now - size) now }
+  pub takes : size ≤ refilled c b now → takeBytes c b size now ≡ record { bucket = byteBucket c (level (refilled c b now - size) now); answer = Consumed.Yes }
   unfolding takeBytes
-  takes enough = rw (consumed, le-ltb (refilled c b now) size enough, value-of (refilled c b now - size) (let f = config .burstBytes in omega arith))
+  takes enough = rw (consumed, le-ltb (refilled c b now) size enough)
+
+  -- and is what the entry keeps
+  pub leaves : bytesLeft (byteBucket c (level (refilled c b now - size) now)) ≡ level (refilled c b now - size) now
+  leaves = rw (value-of (refilled c b now - size) (let f = config .burstBytes in omega arith))
 
   -- the bytes were there if the take is not short
-  pub enough : takeBytes c b size now .passes ≡ true → size ≤ refilled c b now
+  pub enough : passes (takeBytes c b size now .answer) ≡ true → size ≤ refilled c b now
   unfolding takeBytes
   enough allowed =
       by-test (ltb (refilled c b now) size)
@@ -68,7 +72,7 @@ module _ (c : PeerMessagePolicyConfig) (config : ConfigFits c) (on : byteDisable
       (λ t. ltb-false (refilled c b now) size t)
 
 -- a bucket that is off never falls short
-pub bytes-off : (c : PeerMessagePolicyConfig) (b : Level) (size now : ℕ) → byteDisabled (bytesOf c) ≡ true → takeBytes c b size now .passes ≡ true
+pub bytes-off : (c : PeerMessagePolicyConfig) (b : Level) (size now : ℕ) → byteDisabled (bytesOf c) ≡ true → passes (takeBytes c b size now .answer) ≡ true
 unfolding takeBytes byteTryConsume
 bytes-off c b size now off = rw off
 
@@ -107,8 +111,11 @@ module _ (c : PeerMessagePolicyConfig) (config : ConfigFits c) (on : byteDisable
   after-last : b .«last_refill_ms» ≤ z .time
   after-last = rw (fair .last) later
 
-  takes-it : z .size ≤ refilled c b (z .time) → takeBytes c b (z .size) (z .time) ≡ record { passes = true; missing = 0; level = level (refilled c b (z .time) - z .size) (z .time) }
+  takes-it : z .size ≤ refilled c b (z .time) → takeBytes c b (z .size) (z .time) ≡ record { bucket = byteBucket c (level (refilled c b (z .time) - z .size) (z .time)); answer = Consumed.Yes }
   takes-it = takes c config on b (z .size) (z .time) (fair .bounded .within-capacity) size-fits after-last
+
+  leaves-it : bytesLeft (byteBucket c (level (refilled c b (z .time) - z .size) (z .time))) ≡ level (refilled c b (z .time) - z .size) (z .time)
+  leaves-it = leaves c config on b (z .size) (z .time) (fair .bounded .within-capacity) size-fits after-last
 
   turn-more : NotMore (byteTerms c) (newest log) (z .time) 0 0 (gained c b (z .time))
   turn-more = rw (fair .last) (not-more (c .«peer_message_rate_bytes_per_sec») (newest log) (z .time) later)
@@ -121,10 +128,10 @@ module _ (c : PeerMessagePolicyConfig) (config : ConfigFits c) (on : byteDisable
       by-log (y ∷ l) = not-less (c .«peer_message_rate_bytes_per_sec») (y .time) (z .time)
 
   -- an Allow
-  pub bytes-next : takeBytes c b (z .size) (z .time) .passes ≡ true → FairBytes c (takeBytes c b (z .size) (z .time) .level) (z ∷ log)
+  pub bytes-next : passes (takeBytes c b (z .size) (z .time) .answer) ≡ true → FairBytes c (bytesLeft (takeBytes c b (z .size) (z .time) .bucket)) (z ∷ log)
   bytes-next allowed =
       let there = enough c config on b (z .size) (z .time) (fair .bounded .within-capacity) size-fits after-last allowed in
-      rw (takes-it there)
+      rw (takes-it there, leaves-it)
       (record {
         last = refl;
         bounded = bounded-next (byteTerms c) (b .available) 0 log z 0 (gained c b (z .time)) (fair .bounded) ordered later (omega arith) turn-more there;
@@ -132,7 +139,7 @@ module _ (c : PeerMessagePolicyConfig) (config : ConfigFits c) (on : byteDisable
       })
 
   -- a call within the smaller allowance
-  pub bytes-enough : WithinParts (byteTerms c) (1000 * c .«peer_message_burst_bytes» + c .«peer_message_rate_bytes_per_sec» * z .time) 0 0 (z ∷ log) → takeBytes c b (z .size) (z .time) .passes ≡ true
+  pub bytes-enough : WithinParts (byteTerms c) (1000 * c .«peer_message_burst_bytes» + c .«peer_message_rate_bytes_per_sec» * z .time) 0 0 (z ∷ log) → passes (takeBytes c b (z .size) (z .time) .answer) ≡ true
   bytes-enough parts =
       rw (takes-it (backed-enough (byteTerms c) (b .available) 0 z 0 (gained c b (z .time)) log (fair .backed) turn-less (omega arith) parts))
 

@@ -9,7 +9,7 @@ use Rattle.peer_settings.specs.declared.config.PeerMessagePolicyConfig.{PeerMes
 use Rattle.bucket_discrete.specs.DiscreteBucket.{discreteTryConsume, discreteRefill, discreteTake}
 use Rattle.peer_settings.specs.Config.{messageLimitDisabled}
 use Rattle.peer_state.specs.Entry.{level}
-use Rattle.peer_verdict.specs.Verdict.{takeMessage}
+use Rattle.peer_verdict.specs.Verdict.{passes, messagesLeft, takeMessage}
 use Rattle.promises.specs.Lives.{Allow, FromEvery}
 
 -- ════ The gap between Allows, in intervals rounded down ════
@@ -43,9 +43,9 @@ oneInTwo =
 -- an Allow at 1, and a call at 8,589,934,592: 2^32 intervals have passed since the last refill, at 0, which
 -- the cut to 32 bits makes 0; with `Near` the call lies one millisecond too late
 pub gap-rule : (messageLimitDisabled oneInTwo ≡ false)
-    × (takeMessage oneInTwo (level 1 0) 1 .passes ≡ true)
+    × (passes (takeMessage oneInTwo (level 1 0) 1 .answer) ≡ true)
     × WithinRounded oneInTwo 8589934592 0 (record { time = 1; size = 0 } ∷ [])
-    × (takeMessage oneInTwo (takeMessage oneInTwo (level 1 0) 1 .level) 8589934592 .passes ≡ false)
+    × (passes (takeMessage oneInTwo (messagesLeft (takeMessage oneInTwo (level 1 0) 1 .bucket)) 8589934592 .answer) ≡ false)
 unfolding takeMessage discreteTryConsume discreteRefill discreteTake FromEvery
 gap-rule = (
   refl,

@@ -16,8 +16,8 @@ use Rattle.peer_verdict.specs.declared.verdict.Decision.{Decision}
 use Rattle.peer_verdict.specs.declared.verdict.InvalidDecision.{InvalidDecision}
 use Rattle.peer_state.specs.Entry.{entryBan, entryUsed}
 use Rattle.peer_state.specs.Ingress.{tryReserve}
-use Rattle.peer_verdict.specs.Verdict.{takeMessage, takeBytes, reachesBan, violated, ceilingDecides, weighedIn, weighed, decision, invalidDecision}
-use Rattle.peer_verdict.specs.VerdictLaws.{NotAllowed, rateCounted, violated-ways, noted-ways, weighed-in-ways}
+use Rattle.peer_verdict.specs.Verdict.{passes, missing, messagesLeft, bytesLeft, takeMessage, takeBytes, reachesBan, violated, ceilingDecides, weighedIn, decision, invalidDecision}
+use Rattle.peer_verdict.specs.VerdictLaws.{NotAllowed, rateCounted, bothCharged, violated-ways, noted-ways, weighed-in-ways}
 
 -- ════ A message ════
 
@@ -30,29 +30,29 @@ reservationCause Reservation.Overflow = Cause.Overflow
 
 -- an Allow: both buckets passed and are charged
 pub record Charged (c : PeerMessagePolicyConfig) (e : PeerMessagePolicyEntry) (size now : ℕ) (d : Decision) : Type 0 where
-  pub message-there : takeMessage c (e .messages) now .passes ≡ true
-  pub bytes-there : takeBytes c (e .bytes) size now .passes ≡ true
-  pub messages : d .entry .messages ≡ takeMessage c (e .messages) now .level
-  pub bytes : d .entry .bytes ≡ takeBytes c (e .bytes) size now .level
+  pub message-there : passes (takeMessage c (e .messages) now .answer) ≡ true
+  pub bytes-there : passes (takeBytes c (e .bytes) size now .answer) ≡ true
+  pub messages : d .entry .messages ≡ messagesLeft (takeMessage c (e .messages) now .bucket)
+  pub bytes : d .entry .bytes ≡ bytesLeft (takeBytes c (e .bytes) size now .bucket)
 
 -- what is known of a decision on a message, in this room
 pub record Decided (c : PeerMessagePolicyConfig) (e : PeerMessagePolicyEntry) (size now : ℕ) (reservation : Reservation) (d : Decision) : Type 0 where
   pub used : d .entry .«last_used_ms» ≡ now
   pub allowed : d .cause ≡ Cause.Allowed → Charged c e size now d
   pub other : NotAllowed (d .cause) → (d .entry .messages ≡ e .messages) × (d .entry .bytes ≡ e .bytes)
-  pub passed : takeMessage c (e .messages) now .passes ≡ true → takeBytes c (e .bytes) size now .passes ≡ true → d .cause ≡ reservationCause reservation
+  pub passed : passes (takeMessage c (e .messages) now .answer) ≡ true → passes (takeBytes c (e .bytes) size now .answer) ≡ true → d .cause ≡ reservationCause reservation
 
 -- a decision for this cause, other than Allow, that leaves the buckets
 kept-decided : {c : PeerMessagePolicyConfig} {e : PeerMessagePolicyEntry} {size now : ℕ} {reservation : Reservation} (d : Decision) → NotAllowed (d .cause)
     → d .entry .«last_used_ms» ≡ now → d .entry .messages ≡ e .messages → d .entry .bytes ≡ e .bytes
-    → (takeMessage c (e .messages) now .passes ≡ true → takeBytes c (e .bytes) size now .passes ≡ true → d .cause ≡ reservationCause reservation)
+    → (passes (takeMessage c (e .messages) now .answer) ≡ true → passes (takeBytes c (e .bytes) size now .answer) ≡ true → d .cause ≡ reservationCause reservation)
     → Decided c e size now reservation d
 kept-decided d n used messages bytes passed =
     record { used = used; allowed = λ q. absurd (subst NotAllowed q n); other = λ m. (messages, bytes); passed = passed }
 
 module _ (c : PeerMessagePolicyConfig) (i : FiberIngressBudget) (e : PeerMessagePolicyEntry) (size now : ℕ) (reservation : Reservation) (used : e .«last_used_ms» ≡ now) where
   violated-decided : (cause : Cause) → NotAllowed cause
-      → (takeMessage c (e .messages) now .passes ≡ true → takeBytes c (e .bytes) size now .passes ≡ true → ⊥)
+      → (passes (takeMessage c (e .messages) now .answer) ≡ true → passes (takeBytes c (e .bytes) size now .answer) ≡ true → ⊥)
       → Decided c e size now reservation (violated c i e now cause)
   unfolding entryBan
   violated-decided cause n short =
@@ -60,12 +60,12 @@ module _ (c : PeerMessagePolicyConfig) (i : FiberIngressBudget) (e : PeerMessage
       (λ t. kept-decided _ tt refl refl refl (λ m b. absurd (short m b)))
       (λ t. kept-decided _ n used refl refl (λ m b. absurd (short m b)))
 
-  ceilingDecides-decided : takeMessage c (e .messages) now .passes ≡ true → takeBytes c (e .bytes) size now .passes ≡ true
-      → Decided c e size now reservation (ceilingDecides i e (takeMessage c (e .messages) now .level) (takeBytes c (e .bytes) size now .level) reservation)
+  ceilingDecides-decided : passes (takeMessage c (e .messages) now .answer) ≡ true → passes (takeBytes c (e .bytes) size now .answer) ≡ true
+      → Decided c e size now reservation (ceilingDecides i e (bothCharged c e size now) reservation)
   ceilingDecides-decided m b = by-reservation reservation
     where
       by-reservation : (r : Reservation)
-          → Decided c e size now r (ceilingDecides i e (takeMessage c (e .messages) now .level) (takeBytes c (e .bytes) size now .level) r)
+          → Decided c e size now r (ceilingDecides i e (bothCharged c e size now) r)
       by-reservation (Reservation.Left after) =
           record {
             used = used;
@@ -81,7 +81,7 @@ module _ (c : PeerMessagePolicyConfig) (i : FiberIngressBudget) (e : PeerMessage
   weighed-decided =
       weighed-in-ways (Decided c e size now reservation) c i e size now reservation
       (λ no. violated-decided Cause.MessagesShort tt (λ m b. true-is-not-false m no))
-      (λ m no. violated-decided (Cause.BytesShort (takeBytes c (e .bytes) size now .missing)) tt (λ x b. true-is-not-false b no))
+      (λ m no. violated-decided (Cause.BytesShort (missing (takeBytes c (e .bytes) size now .answer))) tt (λ x b. true-is-not-false b no))
       ceilingDecides-decided
 
 -- with the entry as a call finds it
@@ -132,8 +132,8 @@ module _ (c : PeerMessagePolicyConfig) (i j : FiberIngressBudget) (now : ℕ) wh
       alike-chosen (reachesBan c (rateCounted c e now)) (record { cause = refl; entry = refl }) (record { cause = refl; entry = refl })
 
   ceilingDecides-alike : (e : PeerMessagePolicyEntry) (size : ℕ) (reservation : Reservation)
-      → Alike (ceilingDecides i e (takeMessage c (e .messages) now .level) (takeBytes c (e .bytes) size now .level) reservation)
-      (ceilingDecides j e (takeMessage c (e .messages) now .level) (takeBytes c (e .bytes) size now .level) reservation)
+      → Alike (ceilingDecides i e (bothCharged c e size now) reservation)
+      (ceilingDecides j e (bothCharged c e size now) reservation)
   ceilingDecides-alike e size (Reservation.Left after) = record { cause = refl; entry = refl }
   ceilingDecides-alike e size Reservation.NoSlot = record { cause = refl; entry = refl }
   ceilingDecides-alike e size (Reservation.BytesShort k) = record { cause = refl; entry = refl }
@@ -141,13 +141,13 @@ module _ (c : PeerMessagePolicyConfig) (i j : FiberIngressBudget) (now : ℕ) wh
 
   weighed-alike : (e : PeerMessagePolicyEntry) (size : ℕ) (reservation : Reservation) → Alike (weighedIn c i e size now reservation) (weighedIn c j e size now reservation)
   weighed-alike e size reservation =
-      alike-chosen (takeMessage c (e .messages) now .passes)
-      (alike-chosen (takeBytes c (e .bytes) size now .passes) (ceilingDecides-alike e size reservation)
-      (violated-alike e (Cause.BytesShort (takeBytes c (e .bytes) size now .missing))))
+      alike-chosen (passes (takeMessage c (e .messages) now .answer))
+      (alike-chosen (passes (takeBytes c (e .bytes) size now .answer)) (ceilingDecides-alike e size reservation)
+      (violated-alike e (Cause.BytesShort (missing (takeBytes c (e .bytes) size now .answer)))))
       (violated-alike e Cause.MessagesShort)
 
   -- admit's decision is that in the room which its load leaves, whatever load is carried
   pub decision-alike : (e : PeerMessagePolicyEntry) (size : ℕ)
       → Alike (decision c i e size now) (weighedIn c j (entryUsed e now (c .«ban_duration_ms»)) size now (tryReserve c i size))
-  unfolding decision weighed
+  unfolding decision
   decision-alike e size = weighed-alike (entryUsed e now (c .«ban_duration_ms»)) size (tryReserve c i size)

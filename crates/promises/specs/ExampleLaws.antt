@@ -23,7 +23,7 @@ use Rattle.peer_state.specs.Entry.{level, window, windowExpire, windowCounted, 
 use Rattle.peer_state.specs.Ingress.{tryReserve, inFlight}
 use Rattle.peer_verdict.specs.declared.verdict.Cause.{Cause}
 use Rattle.peer_verdict.specs.declared.verdict.Cause.the-variants as Cause
-use Rattle.peer_verdict.specs.Verdict.{takeMessage, takeBytes, violated, weighed, decision}
+use Rattle.peer_verdict.specs.Verdict.{takeMessage, takeBytes, violated, decision}
 use Rattle.peer_rows.specs.Rows.{Peers, peerLayout}
 use Rattle.peer_rows.specs.RowsLaws.{EntryFits, peer-faithful}
 use Rattle.table.specs.Room.{roomMade}
@@ -154,7 +154,7 @@ abbrev state₁ : State
 state₁ = afterwards state₀ (answerOf (fresh oneASecond) (allowedTo 1 3 (rowAt 7 5000))) memory₁
 
 first-turn : Policy.admit oneASecond (inFlight 0 0) (rowsIn state₀) (peer .bytes) 3 5000 ≡ allowedTo 1 3 (rowAt 7 5000)
-unfolding rows amountOf value saturated discreteRefill discreteTake discreteTryConsume byteRefill byteTake byteTryConsume look store retain removeAt leastFrom windowExpire windowCounted entryNew entryBan entryUsed tryReserve takeMessage takeBytes violated weighed decision evict roomMade makeRoom Policy.admit carriedOut entryForUpdate
+unfolding rows amountOf value saturated discreteRefill discreteTake discreteTryConsume byteRefill byteTake byteTryConsume look store retain removeAt leastFrom windowExpire windowCounted entryNew entryBan entryUsed tryReserve takeMessage takeBytes violated decision evict roomMade makeRoom Policy.admit carriedOut entryForUpdate
 first-turn = refl
 
 holds₁ : Holds peerLayout memory₀ memory₁ 0 (rowAt 7 5000 ∷ [])
@@ -209,7 +209,7 @@ abbrev memory₂ : List ℕ
 memory₂ = laid peerLayout memory₁ 1 (rowAt 7 6000 ∷ [])
 
 second-turn : Policy.admit oneASecond (inFlight 1 3) (rowsIn state₁) (peer .bytes) 3 6000 ≡ allowedTo 2 6 (rowAt 7 6000)
-unfolding amountOf value saturated discreteRefill discreteTake discreteTryConsume byteRefill byteTake byteTryConsume look store retain removeAt leastFrom windowExpire windowCounted entryNew entryBan entryUsed tryReserve takeMessage takeBytes violated weighed decision evict roomMade makeRoom Policy.admit carriedOut entryForUpdate
+unfolding amountOf value saturated discreteRefill discreteTake discreteTryConsume byteRefill byteTake byteTryConsume look store retain removeAt leastFrom windowExpire windowCounted entryNew entryBan entryUsed tryReserve takeMessage takeBytes violated decision evict roomMade makeRoom Policy.admit carriedOut entryForUpdate
 second-turn = ap (λ (rs : Peers). Policy.admit oneASecond (inFlight 1 3) rs (peer .bytes) 3 6000) rows₁
 
 holds₂ : Holds peerLayout memory₁ memory₂ 1 (rowAt 7 6000 ∷ [])

@@ -14,7 +14,7 @@ use Rattle.peer_state.specs.declared.entry.Level.{Level}
 use Rattle.peer_settings.specs.Config.{messageLimitDisabled, bytesOf}
 use Rattle.peer_settings.specs.Fits.{ConfigFits}
 use Rattle.peer_state.specs.Entry.{level}
-use Rattle.peer_verdict.specs.Verdict.{takeMessage, takeBytes}
+use Rattle.peer_verdict.specs.Verdict.{passes, messagesLeft, bytesLeft, takeMessage, takeBytes}
 use Rattle.promises.specs.Lives.{Allow, AtMost, Allowance, Within}
 use Rattle.promises.specs.BucketLaws.{newest, InOrder, within-parts}
 use Rattle.promises.specs.MessageLaws.{FairMessages, messageTerms, messages-new, messages-next, messages-enough, messages-most, message-off}
@@ -42,9 +42,9 @@ pub fair-allow : (c : PeerMessagePolicyConfig) → ConfigFits c → (m b : Level
     → size < 2 ^ 64
     → Fair c m b log
     → NotAfter log now
-    → takeMessage c m now .passes ≡ true
-    → takeBytes c b size now .passes ≡ true
-    → Fair c (takeMessage c m now .level) (takeBytes c b size now .level) (record { time = now; size = size } ∷ log)
+    → passes (takeMessage c m now .answer) ≡ true
+    → passes (takeBytes c b size now .answer) ≡ true
+    → Fair c (messagesLeft (takeMessage c m now .bucket)) (bytesLeft (takeBytes c b size now .bucket)) (record { time = now; size = size } ∷ log)
 fair-allow c config m b log size now size-fits fair after message-there bytes-there =
     let z : Allow = record { time = now; size = size } in
     let later = newest-before log now after in
@@ -75,7 +75,7 @@ pub fair-least : (c : PeerMessagePolicyConfig) → ConfigFits c → (m b : Level
     → Fair c m b log
     → NotAfter log now
     → Within c now size log
-    → (takeMessage c m now .passes ≡ true) × (takeBytes c b size now .passes ≡ true)
+    → (passes (takeMessage c m now .answer) ≡ true) × (passes (takeBytes c b size now .answer) ≡ true)
 unfolding Within
 fair-least c config m b log size now size-fits fair after allowed =
     let z : Allow = record { time = now; size = size } in

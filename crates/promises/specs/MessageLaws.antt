@@ -9,16 +9,15 @@ use native.Mathlib.Nat.{add-mul, mul-assoc, mul-comm, mul-le-mul-right, div-add-
 use native.Mathlib.Omega.{arith}
 use borrow.Author.Tests.{leb-true, leb-false, eqb-true, eqb-false, ne-eqb}
 use lib.Dec.{leb, eqb}
-use Rattle.truths.specs.TruthLaws.{by-test, neither, through}
-use Rattle.bucket_terms.specs.declared.answer.Consumed.{Consumed}
+use Rattle.truths.specs.TruthLaws.{by-test, neither}
 use Rattle.bucket_terms.specs.declared.answer.Consumed.the-variants as Consumed
+use Rattle.bucket_discrete.specs.declared.discrete.DiscreteTokenBucket.{DiscreteTokenBucket}
 use Rattle.bucket_discrete.specs.DiscreteBucket.{discreteTopped, discreteRefill, discreteTaken, discreteTake, discreteTryConsume}
 use Rattle.peer_settings.specs.declared.config.PeerMessagePolicyConfig.{PeerMessagePolicyConfig}
 use Rattle.peer_state.specs.declared.entry.Level.{Level}
-use Rattle.peer_verdict.specs.declared.verdict.Take.{Take}
 use Rattle.peer_settings.specs.Config.{messageLimitDisabled}
 use Rattle.peer_state.specs.Entry.{level}
-use Rattle.peer_verdict.specs.Verdict.{messageBucket, messagesTaken, takeMessage}
+use Rattle.peer_verdict.specs.Verdict.{passes, messageBucket, messagesLeft, takeMessage}
 use Rattle.promises.specs.Lives.{Allow, Near, allows}
 use Rattle.promises.specs.BucketLaws.{newest, InOrder, charged, Terms, Bounded, bounded-new, bounded-next, NotMore, NotLess, WithinParts, Backed, backed-next, backed-enough}
 
@@ -36,10 +35,9 @@ refilled c m now = min (m .available + passed c m now) (c .«peer_message_burst�
 abbrev pub refilledWhen : PeerMessagePolicyConfig → Level → ℕ → ℕ
 refilledWhen c m now = m .«last_refill_ms» + passed c m now * c .«peer_message_interval_ms»
 
--- one token out of so many
-abbrev pub taken : ℕ → ℕ → Take
-taken left last =
-    cond (eqb left 0) (record { passes = false; missing = 1; level = level left last }) (record { passes = true; missing = 0; level = level (left - 1) last })
+-- the bucket that it leaves
+abbrev pub refilledBucket : PeerMessagePolicyConfig → Level → ℕ → DiscreteTokenBucket
+refilledBucket c m now = messageBucket c (level (refilled c m now) (refilledWhen c m now))
 
 -- a test that leaves a value as it is, or changes nothing
 same-by : {A : Type 0} {x y : A} (s t : Bool) → (s ≡ true → x ≡ y) → (t ≡ true → x ≡ y) → cond s x (cond t x y) ≡ y
@@ -77,26 +75,24 @@ module _ (c : PeerMessagePolicyConfig) (on : messageLimitDisabled c ≡ false) w
         (λ t. topped-none (early-none (leb-true now (m .«last_refill_ms») t)))
         (λ t. topped-none (eqb-true (passed c m now) 0 t)))
 
-    pub take-message : takeMessage c m now ≡ taken (refilled c m now) (refilledWhen c m now)
-    unfolding takeMessage discreteTryConsume discreteTake
-    take-message =
-        rw (on, refill-topped)
-        (through messagesTaken (eqb (refilled c m now) 0)
-        (record { bucket = discreteTopped (messageBucket c m) (passed c m now); answer = Consumed.No 1 })
-        (record { bucket = discreteTaken (discreteTopped (messageBucket c m) (passed c m now)); answer = Consumed.Yes }))
+    pub take-message : takeMessage c m now ≡ discreteTake (refilledBucket c m now)
+    unfolding takeMessage discreteTryConsume
+    take-message = rw (on, refill-topped)
 
 -- a token was there if the take is not short
-taken-yes : (left last : ℕ) → taken left last .passes ≡ true → 1 ≤ left
-taken-yes left last h =
-    by-test (eqb left 0) (λ t. let no : _≡_ {A = Bool} false true = rw t at h in absurd (false≢true no))
-    (λ t. let ne = eqb-false left 0 t in omega arith)
+taken-yes : (b : DiscreteTokenBucket) → passes (discreteTake b .answer) ≡ true → 1 ≤ b .available
+unfolding discreteTake
+taken-yes b h =
+    by-test (eqb (b .available) 0) (λ t. let no : _≡_ {A = Bool} false true = rw t at h in absurd (false≢true no))
+    (λ t. let ne = eqb-false (b .available) 0 t in omega arith)
 
 -- a token that is there is taken
-taken-is : (left last : ℕ) → 1 ≤ left → taken left last ≡ record { passes = true; missing = 0; level = level (left - 1) last }
-taken-is left last h = rw (ne-eqb left 0 (λ e. omega arith))
+taken-is : (b : DiscreteTokenBucket) → 1 ≤ b .available → discreteTake b ≡ record { bucket = discreteTaken b; answer = Consumed.Yes }
+unfolding discreteTake
+taken-is b h = rw (ne-eqb (b .available) 0 (λ e. omega arith))
 
 -- a limit that is off never falls short
-pub message-off : (c : PeerMessagePolicyConfig) (m : Level) (now : ℕ) → messageLimitDisabled c ≡ true → takeMessage c m now .passes ≡ true
+pub message-off : (c : PeerMessagePolicyConfig) (m : Level) (now : ℕ) → messageLimitDisabled c ≡ true → passes (takeMessage c m now .answer) ≡ true
 unfolding takeMessage
 message-off c m now off = rw off
 
@@ -208,7 +204,7 @@ module _ (c : PeerMessagePolicyConfig) (on : messageLimitDisabled c ≡ false) w
     abbrev rest′ : ℕ
     rest′ = restOf (c .«peer_message_interval_ms») (m .«last_refill_ms») (z .time) (some-interval c on)
 
-    take-is : takeMessage c m (z .time) ≡ taken (refilled c m (z .time)) (refilledWhen c m (z .time))
+    take-is : takeMessage c m (z .time) ≡ discreteTake (refilledBucket c m (z .time))
     take-is = take-message c on m (z .time) (fair .bounded .within-capacity)
 
     next-phase : Phase (c .«peer_message_interval_ms») (refilledWhen c m (z .time)) (z .time) (lapsOf (c .«peer_message_interval_ms») (m .«last_refill_ms») (z .time) (some-interval c on)) rest′
@@ -231,10 +227,10 @@ module _ (c : PeerMessagePolicyConfig) (on : messageLimitDisabled c ≡ false) w
             not-less (c .«peer_message_interval_ms») (m .«last_refill_ms») (z .time) (some-interval c on) (y .time) laps rest phase k (near .0)
 
     -- an Allow
-    pub messages-next : takeMessage c m (z .time) .passes ≡ true → FairMessages c (takeMessage c m (z .time) .level) (z ∷ log)
+    pub messages-next : passes (takeMessage c m (z .time) .answer) ≡ true → FairMessages c (messagesLeft (takeMessage c m (z .time) .bucket)) (z ∷ log)
     messages-next allowed =
-        let enough = taken-yes (refilled c m (z .time)) (refilledWhen c m (z .time)) (rw take-is at allowed) in
-        rw (take-is, taken-is (refilled c m (z .time)) (refilledWhen c m (z .time)) enough)
+        let enough = taken-yes (refilledBucket c m (z .time)) (rw take-is at allowed) in
+        rw (take-is, taken-is (refilledBucket c m (z .time)) enough)
         (record {
           laps = lapsOf (c .«peer_message_interval_ms») (m .«last_refill_ms») (z .time) (some-interval c on);
           rest = rest′;
@@ -251,12 +247,12 @@ module _ (c : PeerMessagePolicyConfig) (on : messageLimitDisabled c ≡ false) w
     -- a call within the smaller allowance
     pub messages-enough : Near (c .«peer_message_interval_ms») (z .time) log
         → WithinParts (messageTerms c) (c .«peer_message_interval_ms» * c .«peer_message_burst» + 1 * z .time) 0 0 (z ∷ log)
-        → takeMessage c m (z .time) .passes ≡ true
+        → passes (takeMessage c m (z .time) .answer) ≡ true
     messages-enough near parts =
         let enough : 1 ≤ refilled c m (z .time) =
         backed-enough (messageTerms c) (m .available) (fair .rest) z rest′ (passed c m (z .time)) log (fair .backed (near-each (c .«peer_message_interval_ms») (z .time) log near)) (turn-less near) (next-phase .less) parts
         in
-        rw (take-is, taken-is (refilled c m (z .time)) (refilledWhen c m (z .time)) enough)
+        rw (take-is, taken-is (refilledBucket c m (z .time)) enough)
 
 -- the Allows of a log are its charges
 allows-charged : (from to : ℕ) (log : List Allow) → allows from to log ≡ charged (λ z. 1) from to log

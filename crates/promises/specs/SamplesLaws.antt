@@ -7,7 +7,7 @@ use Rattle.table.specs.Table.{look, store, erase, retain, removeAt, leastFrom}
 use Rattle.table_laws.specs.Raw.{mapEntries}
 use Rattle.peer_state.specs.Entry.{windowExpire, windowCounted, entryNew, entryBan, entryUsed}
 use Rattle.peer_state.specs.Ingress.{tryReserve}
-use Rattle.peer_verdict.specs.Verdict.{takeMessage, takeBytes, violated, weighed, decision}
+use Rattle.peer_verdict.specs.Verdict.{takeMessage, takeBytes, violated, decision}
 use Rattle.table.specs.Room.{roomMade}
 use Rattle.peer_table.specs.Room.{evict, makeRoom}
 use Rattle.peer_message_policy.specs.Policy.{admit, carriedOut, entryForUpdate}
@@ -20,5 +20,5 @@ use Rattle.gossip_limiter.specs.Limiter.{tryAcquire}
 use Rattle.promises.specs.Samples.{Agree, samplesRun, messages, bytes, promised, violations, peersOf, admitted, blamed, acquired}
 
 pub samples-agree : Agree samplesRun
-unfolding samplesRun messages bytes promised violations peersOf admitted blamed acquired tracker.recordViolation tracker.isBanned bannedIfReached banRoom.maybeExpire banRoom.makeRoom erase tryAcquire roomFor refilled askedOf mapEntries amountOf value saturated discreteRefill discreteTake discreteTryConsume byteRefill byteTake byteTryConsume byteReserve byteHasDebt look store retain removeAt leastFrom windowExpire windowCounted entryNew entryBan entryUsed tryReserve takeMessage takeBytes violated weighed decision evict roomMade makeRoom admit carriedOut entryForUpdate
+unfolding samplesRun messages bytes promised violations peersOf admitted blamed acquired tracker.recordViolation tracker.isBanned bannedIfReached banRoom.maybeExpire banRoom.makeRoom erase tryAcquire roomFor refilled askedOf mapEntries amountOf value saturated discreteRefill discreteTake discreteTryConsume byteRefill byteTake byteTryConsume byteReserve byteHasDebt look store retain removeAt leastFrom windowExpire windowCounted entryNew entryBan entryUsed tryReserve takeMessage takeBytes violated decision evict roomMade makeRoom admit carriedOut entryForUpdate
 samples-agree = (refl, (refl, (refl, (refl, (refl, (refl, (refl, (refl, (refl, (refl, (refl, tt)))))))))))

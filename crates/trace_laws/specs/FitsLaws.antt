@@ -11,7 +11,6 @@ use Rattle.truths.specs.TruthLaws.{chosen, neither}
 use Rattle.table.specs.Table.{look}
 use Rattle.peer_settings.specs.declared.config.PeerMessagePolicyConfig.{PeerMessagePolicyConfig}
 use Rattle.peer_state.specs.declared.entry.PeerMessagePolicyEntry.{PeerMessagePolicyEntry}
-use Rattle.peer_state.specs.declared.entry.Level.{Level}
 use Rattle.peer_state.specs.declared.ingress.FiberIngressBudget.{FiberIngressBudget}
 use Rattle.peer_state.specs.declared.ingress.Reservation.{Reservation}
 use Rattle.peer_state.specs.declared.ingress.Reservation.the-variants as Reservation
@@ -24,8 +23,8 @@ use Rattle.peer_settings.specs.Config.{unlimited}
 use Rattle.peer_settings.specs.Fits.{ConfigFits}
 use Rattle.peer_state.specs.Entry.{entryUsed}
 use Rattle.peer_state.specs.Ingress.{tryReserve}
-use Rattle.peer_verdict.specs.Verdict.{ceilingDecides, takeMessage, takeBytes, decision, invalidDecision}
-use Rattle.peer_verdict.specs.VerdictLaws.{violated-ways, weighed-ways}
+use Rattle.peer_verdict.specs.Verdict.{ceilingDecides, missing, takeBytes, decision, invalidDecision}
+use Rattle.peer_verdict.specs.VerdictLaws.{bothCharged, violated-ways, weighed-in-ways}
 use Rattle.peer_rows.specs.Rows.{Peers}
 use Rattle.peer_message_policy.specs.declared.policy.PeerMessagePolicy.{PeerMessagePolicy}
 use Rattle.peer_verdict.specs.Verdict.{overflows}
@@ -118,22 +117,20 @@ module _ (c : PeerMessagePolicyConfig) (config : ConfigFits c) (i : FiberIngress
   abbrev DecisionFits : Decision → Type 0
   DecisionFits d = LoadFits (d .ingress)
 
-  ceilingDecides-fits : (e : PeerMessagePolicyEntry) (m b : Level) (room : Reservation) → RoomFits room → DecisionFits (ceilingDecides i e m b room)
-  ceilingDecides-fits e m b (Reservation.Left after) h = h
-  ceilingDecides-fits e m b Reservation.NoSlot h = load
-  ceilingDecides-fits e m b (Reservation.BytesShort k) h = load
-  ceilingDecides-fits e m b Reservation.Overflow h = load
+  ceilingDecides-fits : (e charged : PeerMessagePolicyEntry) (room : Reservation) → RoomFits room → DecisionFits (ceilingDecides i e charged room)
+  ceilingDecides-fits e charged (Reservation.Left after) h = h
+  ceilingDecides-fits e charged Reservation.NoSlot h = load
+  ceilingDecides-fits e charged (Reservation.BytesShort k) h = load
+  ceilingDecides-fits e charged Reservation.Overflow h = load
 
   decision-fits : (e : PeerMessagePolicyEntry) (size now : ℕ) → DecisionFits (decision c i e size now)
   unfolding decision
   decision-fits e size now =
       let used : PeerMessagePolicyEntry = entryUsed e now (c .«ban_duration_ms») in
-      let m = takeMessage c (used .messages) now in
-      let b = takeBytes c (used .bytes) size now in
-      weighed-ways DecisionFits c i used size now
+      weighed-in-ways DecisionFits c i used size now (tryReserve c i size)
       (λ short. violated-ways DecisionFits c i used now Cause.MessagesShort (λ h. load) (λ h. load))
-      (λ passed short. violated-ways DecisionFits c i used now (Cause.BytesShort (b .missing)) (λ h. load) (λ h. load))
-      (λ passed passes. ceilingDecides-fits used (m .level) (b .level) (tryReserve c i size) (room-fits size))
+      (λ passed short. violated-ways DecisionFits c i used now (Cause.BytesShort (missing (takeBytes c (used .bytes) size now .answer))) (λ h. load) (λ h. load))
+      (λ passed passes. ceilingDecides-fits used (bothCharged c used size now) (tryReserve c i size) (room-fits size))
 
   pub admit-fits : (rs : Peers) (k : List ℕ) (size now : ℕ) → LoadFits (admit c i rs k size now .ingress)
   unfolding admit carriedOut

@@ -17,21 +17,15 @@ reaches-ban-requires c κs = search needs
 ban-requires : tie.Need-ban-requires
 ban-requires c κs = search needs
 
-decided-requires : tie.Need-decided-requires
-decided-requires c κs = search needs
-
 returns : tie.Need-returns
 unfolding violated
 returns c =
-    rw (c .decided .ensures, c .before .ban .ensures, c .before .before .before .before .with-rate-window .ensures, c .before .before .before .before .before .«record» .ensures, rw (c .before .before .before .before .before .«record» .ensures) at (sym (c .before .before .before .reaches-ban .ensures) ∙ c .before .before .if1 .taken))
-
-decided-requires-2 : tie.Need-decided-requires-2
-decided-requires-2 c κs = search needs
+    rw (c .ban .ensures, c .before .before .before .with-rate-window .ensures, c .before .before .before .before .«record» .ensures, rw (c .before .before .before .before .«record» .ensures) at (sym (c .before .before .reaches-ban .ensures) ∙ c .before .if1 .taken))
 
 returns-2 : tie.Need-returns-2
 unfolding violated
 returns-2 c =
-    rw (c .decided2 .ensures, c .before .before .before .with-rate-window .ensures, c .before .before .before .before .«record» .ensures, rw (c .before .before .before .before .«record» .ensures) at (sym (c .before .before .reaches-ban .ensures) ∙ c .before .if1 .left))
+    rw (c .before .before .with-rate-window .ensures, c .before .before .before .«record» .ensures, rw (c .before .before .before .«record» .ensures) at (sym (c .before .reaches-ban .ensures) ∙ c .if1 .left))
 
 pub violated-spec : {M : Type 1} → statement M
 violated-spec =
@@ -41,7 +35,5 @@ violated-spec =
     with-rate-window-requires
     reaches-ban-requires
     ban-requires
-    decided-requires
     returns
-    decided-requires-2
     returns-2)
