@@ -9,9 +9,10 @@ use native.Mathlib.Omega.{arith}
 use borrow.Author.Tests.{ne-eqb}
 use lib.Dec.{eqb, leb}
 use lib.ListN.{length, drop, replicate, length-append}
+use Rattle.decimal.specs.Ascii.{newline}
 use Rattle.peer_message_policy.specs.Calls.{refuse}
 use Rattle.trace_lines.specs.declared.line.TraceLine.{TraceLine}
-use Rattle.trace_lines.specs.Lines.{lineOf, eventOf, wordText, numberText, answerText, badLineText, refusalText}
+use Rattle.trace_lines.specs.Lines.{lineSize, lineOf, eventOf, wordText, numberText, answerText, badLineText, refusalText}
 use Rattle.trace.specs.declared.settle.Settled.{Settled}
 use Rattle.trace.specs.declared.settle.Settled.the-variants as Settled
 use Rattle.trace.specs.declared.scan.Phase.{Phase}
@@ -41,7 +42,7 @@ spoken : (number : ℕ) (a : Answered) → isEmpty (spokenText number a) ≡ fal
 unfolding answerText
 spoken number (Says w q) =
     let rest =
-    numberText (q .ingress .«in_flight_messages») ++ (numberText (q .ingress .«in_flight_bytes») ++ (numberText (q .rows) ++ (10 ∷ []))) in
+    numberText (q .ingress .«in_flight_messages») ++ (numberText (q .ingress .«in_flight_bytes») ++ (numberText (q .rows) ++ (newline ∷ []))) in
     ne-eqb (length (wordText w ++ rest)) 0 (λ e. omega (arith, e, length-append (wordText w) rest))
 spoken number (Refused n) = refusal n
 spoken number NoEvent = bad-line number
@@ -107,9 +108,9 @@ module _ (input : List ℕ) (h : Handed) (after : List ℕ) where
     unfolding NextMeets
     zero-is-done = let w = by-phase (scan .phase) scan before m in ap (λ (l : TraceLine). eqb (l .length) 0) (w .is) ∙ w .empty
 
--- in 64 bytes
-pub written-fits : (line : TraceLine) → Written line → length (line .bytes) ≡ 64 → line .length ≤ 64
+-- in a line's bytes
+pub written-fits : (line : TraceLine) → Written line → length (line .bytes) ≡ lineSize → line .length ≤ lineSize
 written-fits line w whole =
     let bytes = ap (λ (l : TraceLine). length (l .bytes)) (w .is) in
     let text = ap (λ (l : TraceLine). l .length) (w .is) in
-    omega (arith, whole, bytes, text, length-append (w .text) (replicate (64 - length (w .text)) 0))
+    omega (arith, whole, bytes, text, length-append (w .text) (replicate (lineSize - length (w .text)) 0))

@@ -16,27 +16,28 @@ use lib.ListN.{length, drop, take, getD, length-append, drop-of-length-le}
 use lib.Seq.{drop-cons, drop-at, length-take-le}
 use Rattle.lent_bytes.specs.LentBytes.{put}
 use Rattle.refusal.specs.OneOutcomeLaws.{one-outcome}
-use Rattle.decimal.specs.Decimal.{isDigit, digitsWithin, digitsOf, digitsAtFront, valueFrom, bounded, numberOf, scanOf}
+use Rattle.decimal.specs.Ascii.{code}
+use Rattle.decimal.specs.Decimal.{isDigit, digitsWithin, mostDigits, digitsOf, digitsAtFront, valueFrom, bounded, numberOf, scanOf}
 use Rattle.decimal.specs.declared.Scanned.{Scanned}
 use Rattle.decimal.specs.declared.Scanned.the-variants.{Number, Bad}
 
 -- ════ Digits of a text ════
 
-pub is-digit : (b : ℕ) → 48 ≤ b → b ≤ 57 → isDigit b ≡ true
-is-digit b low high = rw (le-leb 48 b low, le-leb b 57 high)
+pub is-digit : (b : ℕ) → code "0" ≤ b → b ≤ code "9" → isDigit b ≡ true
+is-digit b low high = rw (le-leb (code "0") b low, le-leb b (code "9") high)
 
-pub below-digits : (b : ℕ) → b < 48 → isDigit b ≡ false
-below-digits b h = rw (lt-leb 48 b h)
+pub below-digits : (b : ℕ) → b < code "0" → isDigit b ≡ false
+below-digits b h = rw (lt-leb (code "0") b h)
 
-pub above-digits : (b : ℕ) → 57 < b → isDigit b ≡ false
-above-digits b h = let low : 48 ≤ b = omega arith in rw (le-leb 48 b low, lt-leb b 57 h)
+pub above-digits : (b : ℕ) → code "9" < b → isDigit b ≡ false
+above-digits b h = let low : code "0" ≤ b = omega arith in rw (le-leb (code "0") b low, lt-leb b (code "9") h)
 
 -- a digit is one of the ten
-pub digit-range : (b : ℕ) → isDigit b ≡ true → (48 ≤ b) × (b ≤ 57)
-digit-range b h = go (leb 48 b) (leb b 57) refl refl h
+pub digit-range : (b : ℕ) → isDigit b ≡ true → (code "0" ≤ b) × (b ≤ code "9")
+digit-range b h = go (leb (code "0") b) (leb b (code "9")) refl refl h
   where
-    go : (low high : Bool) → leb 48 b ≡ low → leb b 57 ≡ high → low && high ≡ true → (48 ≤ b) × (b ≤ 57)
-    go true true p q r = (leb-true 48 b p, leb-true b 57 q)
+    go : (low high : Bool) → leb (code "0") b ≡ low → leb b (code "9") ≡ high → low && high ≡ true → (code "0" ≤ b) × (b ≤ code "9")
+    go true true p q r = (leb-true (code "0") b p, leb-true b (code "9") q)
     go true false p q r = let z : true ≡ false = sym r in absurd (let n : _≡_ {A = ℕ} 0 1 = cc in omega arith)
     go false high p q r = let z : true ≡ false = sym r in absurd (let n : _≡_ {A = ℕ} 0 1 = cc in omega arith)
 
@@ -91,12 +92,12 @@ take-front (b ∷ s) = go (isDigit b) (take-front s)
 
 pub value-append : (v : ℕ) (xs ys : List ℕ) → valueFrom v (xs ++ ys) ≡ valueFrom (valueFrom v xs) ys
 value-append v [] ys = refl
-value-append v (x ∷ xs) ys = value-append (v * 10 + (x - 48)) xs ys
+value-append v (x ∷ xs) ys = value-append (v * 10 + (x - code "0")) xs ys
 
 -- more digits make no number smaller
 pub value-grows : (v : ℕ) (ds : List ℕ) → v ≤ valueFrom v ds
 value-grows v [] = omega arith
-value-grows v (d ∷ ds) = omega (arith, value-grows (v * 10 + (d - 48)) ds)
+value-grows v (d ∷ ds) = omega (arith, value-grows (v * 10 + (d - code "0")) ds)
 
 -- digits spell a number below a power of ten
 pub value-below : (v : ℕ) (ds : List ℕ) → AllDigits ds → valueFrom v ds < (v + 1) * 10 ^ length ds
@@ -104,8 +105,8 @@ value-below v [] h = omega arith
 value-below v (d ∷ ds) h =
     let r = digit-range d (h .0) in
     let P : ℕ = 10 ^ length ds in
-    let below : valueFrom (v * 10 + (d - 48)) ds < (v * 10 + (d - 48) + 1) * P = value-below (v * 10 + (d - 48)) ds (h .1) in
-    let digit : v * 10 + (d - 48) + 1 ≤ v * 10 + 10 = omega (arith, r) in
+    let below : valueFrom (v * 10 + (d - code "0")) ds < (v * 10 + (d - code "0") + 1) * P = value-below (v * 10 + (d - code "0")) ds (h .1) in
+    let digit : v * 10 + (d - code "0") + 1 ≤ v * 10 + 10 = omega (arith, r) in
     let p : 10 ^ suc (length ds) ≡ P * 10 = pow-suc 10 (length ds) in
     rw p (omega (arith, below, mul-le-mul-right P digit))
 
@@ -118,13 +119,13 @@ within-more (suc k) zero n h below = absurd (omega arith)
 within-more (suc k) (suc j) n h below =
     let p : 10 ^ suc (suc k) ≡ 10 ^ suc k * 10 = pow-suc 10 (suc k) in
     let small : n / 10 < 10 ^ suc k = omega arith in
-    ap (λ (l : List ℕ). cond (ltb n 10) ((48 + n) ∷ []) (l ++ ((48 + n % 10) ∷ [])))
+    ap (λ (l : List ℕ). cond (ltb n 10) ((code "0" + n) ∷ []) (l ++ ((code "0" + n % 10) ∷ [])))
     (within-more k j (n / 10) (omega arith) small)
 
-within-small : (k n : ℕ) → n < 10 → digitsWithin (suc k) n ≡ (48 + n) ∷ []
+within-small : (k n : ℕ) → n < 10 → digitsWithin (suc k) n ≡ (code "0" + n) ∷ []
 within-small k n h = rw (lt-ltb n 10 h)
 
-within-large : (k n : ℕ) → 10 ≤ n → digitsWithin (suc k) n ≡ digitsWithin k (n / 10) ++ ((48 + n % 10) ∷ [])
+within-large : (k n : ℕ) → 10 ≤ n → digitsWithin (suc k) n ≡ digitsWithin k (n / 10) ++ ((code "0" + n % 10) ∷ [])
 within-large k n h = rw (le-ltb n 10 h)
 
 -- a number below ten or not
@@ -138,9 +139,9 @@ by-ten {P} n small large = go (ltb n 10) refl
 pub all-within : (k n : ℕ) → AllDigits (digitsWithin k n)
 all-within zero n = tt
 all-within (suc k) n =
-    by-ten n (λ h. rw (within-small k n h) (is-digit (48 + n) (omega arith) (omega arith), tt))
+    by-ten n (λ h. rw (within-small k n h) (is-digit (code "0" + n) (omega arith) (omega arith), tt))
     (λ h. rw (within-large k n h)
-    (all-append (digitsWithin k (n / 10)) _ (all-within k (n / 10)) (is-digit (48 + n % 10) (omega arith) (omega arith), tt)))
+    (all-append (digitsWithin k (n / 10)) _ (all-within k (n / 10)) (is-digit (code "0" + n % 10) (omega arith) (omega arith), tt)))
 
 -- the digits of a number spell it
 pub value-within : (k n : ℕ) → n < 10 ^ k → valueFrom 0 (digitsWithin k n) ≡ n
@@ -164,18 +165,18 @@ first-append [] ys h = absurd (omega arith)
 first-append (x ∷ xs) ys h = refl
 
 -- the first digit of a number above zero is no zero
-pub first-within : (k n : ℕ) → 0 < n → n < 10 ^ k → 48 < getD (digitsWithin k n) 0 0
+pub first-within : (k n : ℕ) → 0 < n → n < 10 ^ k → code "0" < getD (digitsWithin k n) 0 0
 first-within zero n h below = absurd (omega arith)
 first-within (suc k) n h below =
     let p : 10 ^ suc k ≡ 10 ^ k * 10 = pow-suc 10 k in
     by-ten n (λ s. rw (within-small k n s) (omega arith))
-    (λ l. let first : 48 < getD (digitsWithin k (n / 10)) 0 0 = first-within k (n / 10) (omega arith) (omega arith) in
+    (λ l. let first : code "0" < getD (digitsWithin k (n / 10)) 0 0 = first-within k (n / 10) (omega arith) (omega arith) in
     rw (within-large k n l, first-append (digitsWithin k (n / 10)) _ (omega arith)) first)
 
 -- the n lowest digits of a number, with the zeros before them that `digitsOf` leaves out
 abbrev pub lowDigits : ℕ → ℕ → List ℕ
 lowDigits zero n = []
-lowDigits (suc k) n = lowDigits k (n / 10) ++ ((48 + n % 10) ∷ [])
+lowDigits (suc k) n = lowDigits k (n / 10) ++ ((code "0" + n % 10) ∷ [])
 
 pub length-low : (k n : ℕ) → length (lowDigits k n) ≡ k
 length-low zero n = refl
@@ -192,19 +193,19 @@ low-within (suc k) n =
 -- the text of a number below a power of ten, up to the largest u64, has at most as many digits
 pub length-digits : (k n : ℕ) → n < 10 ^ suc k → length (digitsOf n) ≤ suc k
 unfolding digitsOf
-length-digits k n h = length-within k 20 n h
+length-digits k n h = length-within k mostDigits n h
 
 -- ════ What stands at a place ════
 
 -- a run that begins with no zero is the number that it spells
-pub plain-number : (ds : List ℕ) (at most : ℕ) → 48 < getD ds 0 0
+pub plain-number : (ds : List ℕ) (at most : ℕ) → code "0" < getD ds 0 0
     → numberOf ds at most ≡ bounded (valueFrom 0 ds) (at + length ds) most
 plain-number [] at most h = absurd (omega arith)
 plain-number (d ∷ []) at most h = rw zero-add
-plain-number (d ∷ e ∷ ds) at most h = rw (ne-eqb d 48 (λ q. omega arith))
+plain-number (d ∷ e ∷ ds) at most h = rw (ne-eqb d (code "0") (λ q. omega arith))
 
 -- a zero alone is a number, however small the largest one that is asked for
-pub zero-number : (ds : List ℕ) (at most : ℕ) → numberOf (48 ∷ ds) at most ≡ numberOf (48 ∷ ds) at 0
+pub zero-number : (ds : List ℕ) (at most : ℕ) → numberOf (code "0" ∷ ds) at most ≡ numberOf (code "0" ∷ ds) at 0
 zero-number [] at most = rw (le-leb 0 most (omega arith))
 zero-number (e ∷ ds) at most = refl
 
@@ -234,17 +235,17 @@ pub reads-back : (before rest : List ℕ) (n most : ℕ) → digitsAtFront rest 
     → scanOf (before ++ (digitsOf n ++ rest)) (length before) most ≡ Number n (length before + length (digitsOf n))
 unfolding scanOf digitsOf
 reads-back before rest n most ended small below =
-    let ds : List ℕ = digitsWithin 20 n in
+    let ds : List ℕ = digitsWithin mostDigits n in
     let at : ℕ = length before in
-    let front : digitsAtFront (ds ++ rest) ≡ ds = front-append ds rest (all-within 20 n) ∙ ap (λ (l : List ℕ). ds ++ l) ended ∙ append-nil ds in
+    let front : digitsAtFront (ds ++ rest) ≡ ds = front-append ds rest (all-within mostDigits n) ∙ ap (λ (l : List ℕ). ds ++ l) ended ∙ append-nil ds in
     ap (λ (l : List ℕ). numberOf (digitsAtFront l) at most) (drop-at before (ds ++ rest) at refl)
     ∙ ap (λ (l : List ℕ). numberOf l at most) front
     ∙ go (ltb 0 n) refl
   where
-    go : (b : Bool) → ltb 0 n ≡ b → numberOf (digitsWithin 20 n) (length before) most ≡ Number n (length before + length (digitsWithin 20 n))
+    go : (b : Bool) → ltb 0 n ≡ b → numberOf (digitsWithin mostDigits n) (length before) most ≡ Number n (length before + length (digitsWithin mostDigits n))
     go true p =
-        plain-number (digitsWithin 20 n) (length before) most (first-within 20 n (ltb-true 0 n p) below)
-        ∙ rw (value-within 20 n below) (bounded-number n (length before + length (digitsWithin 20 n)) most small)
+        plain-number (digitsWithin mostDigits n) (length before) most (first-within mostDigits n (ltb-true 0 n p) below)
+        ∙ rw (value-within mostDigits n below) (bounded-number n (length before + length (digitsWithin mostDigits n)) most small)
     go false p =
         let e : n ≡ 0 = omega (arith, ltb-false 0 n p) in
         rw e (bounded-number 0 (length before + 1) most (omega arith))
@@ -267,23 +268,23 @@ spelled : (j v : ℕ) (ds : List ℕ) → 0 < v → AllDigits ds → digitsWithi
 spelled j v [] h a = rw (add-zero, append-nil)
 spelled j v (d ∷ ds) h a =
     let r = digit-range d (a .0) in
-    let w : ℕ = v * 10 + (d - 48) in
+    let w : ℕ = v * 10 + (d - code "0") in
     let e : j + suc (length ds) ≡ suc j + length ds = omega arith in
     let high : w / 10 ≡ v = omega (arith, r) in
-    let low : 48 + w % 10 ≡ d = omega (arith, r) in
+    let low : code "0" + w % 10 ≡ d = omega (arith, r) in
     let one-more : digitsWithin (suc j) w ≡ digitsWithin j v ++ (d ∷ []) = within-large j w (omega arith) ∙ rw (high, low) in
     ap (λ (k : ℕ). digitsWithin k (valueFrom w ds)) e ∙ spelled (suc j) w ds (omega arith) (a .1)
     ∙ ap (λ (l : List ℕ). l ++ ds) one-more
     ∙ append-assoc (digitsWithin j v) (d ∷ []) ds
 
 -- the digits of what a run spells, which begins with no zero, are the run
-run-spelled : (d : ℕ) (ds : List ℕ) → AllDigits (d ∷ ds) → 48 < d → valueFrom 0 (d ∷ ds) < 10 ^ 20
-    → digitsWithin 20 (valueFrom 0 (d ∷ ds)) ≡ d ∷ ds
+run-spelled : (d : ℕ) (ds : List ℕ) → AllDigits (d ∷ ds) → code "0" < d → valueFrom 0 (d ∷ ds) < 10 ^ 20
+    → digitsWithin mostDigits (valueFrom 0 (d ∷ ds)) ≡ d ∷ ds
 run-spelled d ds a h below =
     let r = digit-range d (a .0) in
-    let v : ℕ = 0 * 10 + (d - 48) in
+    let v : ℕ = 0 * 10 + (d - code "0") in
     let e : 1 + length ds ≡ suc (length ds) = omega arith in
-    let f : 48 + v ≡ d = omega (arith, r) in
+    let f : code "0" + v ≡ d = omega (arith, r) in
     let first : digitsWithin 1 v ≡ d ∷ [] = within-small 0 v (omega (arith, r)) ∙ rw f in
     go (leb (length ds) 19) refl
     ∙ ap (λ (k : ℕ). digitsWithin k (valueFrom v ds)) (sym e)
@@ -291,11 +292,11 @@ run-spelled d ds a h below =
     ∙ ap (λ (l : List ℕ). l ++ ds) first
   where
     go : (b : Bool) → leb (length ds) 19 ≡ b
-        → digitsWithin 20 (valueFrom 0 (d ∷ ds)) ≡ digitsWithin (suc (length ds)) (valueFrom 0 (d ∷ ds))
+        → digitsWithin mostDigits (valueFrom 0 (d ∷ ds)) ≡ digitsWithin (suc (length ds)) (valueFrom 0 (d ∷ ds))
     go true p =
         let r = digit-range d (a .0) in
         let P : ℕ = 10 ^ length ds in
-        let v : ℕ = 0 * 10 + (d - 48) in
+        let v : ℕ = 0 * 10 + (d - code "0") in
         let q : 10 ^ suc (length ds) ≡ P * 10 = pow-suc 10 (length ds) in
         let ten : v + 1 ≤ 10 = omega (arith, r) in
         within-more (length ds) 19 (valueFrom v ds) (leb-true (length ds) 19 p)
@@ -314,20 +315,20 @@ unfolding digitsOf
 run-number [] at most n end a m h = let z : _≡_ {A = ℕ} 0 1 = cc in absurd (omega arith)
 run-number (d ∷ []) at most n end a m h =
     let r = digit-range d (a .0) in
-    let w = within-bound (d - 48) (at + 1) most n end h in
-    let e : 48 + n ≡ d = omega (arith, r, w .same-value) in
+    let w = within-bound (d - code "0") (at + 1) most n end h in
+    let e : code "0" + n ≡ d = omega (arith, r, w .same-value) in
     (sym (within-small 19 n (omega (arith, r, w .same-value)) ∙ rw e), (w .same-end, w .small))
-run-number (d ∷ e ∷ ds) at most n end a m h = go (eqb d 48) refl h
+run-number (d ∷ e ∷ ds) at most n end a m h = go (eqb d (code "0")) refl h
   where
-    go : (b : Bool) → eqb d 48 ≡ b
+    go : (b : Bool) → eqb d (code "0") ≡ b
         → cond b Bad (bounded (valueFrom 0 (d ∷ e ∷ ds)) (at + length (d ∷ e ∷ ds)) most) ≡ Number n end
-        → (d ∷ e ∷ ds ≡ digitsWithin 20 n) × ((end ≡ at + length (d ∷ e ∷ ds)) × (n ≤ most))
+        → (d ∷ e ∷ ds ≡ digitsWithin mostDigits n) × ((end ≡ at + length (d ∷ e ∷ ds)) × (n ≤ most))
     go true p q = let z : _≡_ {A = ℕ} 0 1 = cc in absurd (omega arith)
     go false p q =
         let r = digit-range d (a .0) in
         let w = within-bound (valueFrom 0 (d ∷ e ∷ ds)) (at + length (d ∷ e ∷ ds)) most n end q in
-        let above : 48 < d = omega (arith, r, eqb-false d 48 p) in (
-          sym (ap (λ (x : ℕ). digitsWithin 20 x) (w .same-value) ∙ run-spelled d (e ∷ ds) a above (omega (arith, w .same-value, w .small))),
+        let above : code "0" < d = omega (arith, r, eqb-false d (code "0") p) in (
+          sym (ap (λ (x : ℕ). digitsWithin mostDigits x) (w .same-value) ∙ run-spelled d (e ∷ ds) a above (omega (arith, w .same-value, w .small))),
           (w .same-end, w .small),
         )
 

@@ -5,7 +5,11 @@ ghost use mathlib.Core.Path.{_≡_};
 ghost use Prim.Native.Nat.{_+_, _≤_};
 ghost use lib.ListN.{length, getD, drop};
 ghost use Rattle.lent_bytes.specs.LentBytes.{put};
+ghost use Rattle.decimal.specs.Ascii.{code};
 ghost use Rattle.decimal.specs.Decimal.{isDigit, digitsOf, digitsAtFront, valueFrom, bounded, numberOf, scanOf};
+
+// How many digits a number has at most.
+pub const MOST_DIGITS: usize = 20;
 
 // What stands at a place: a number and the place behind it, or nothing that is one.
 pub enum Scanned {
@@ -30,7 +34,7 @@ pub fn scan(text: &[u8], at: usize, most: u64) -> Scanned
 
 // A zero is a number where no digit follows it.
 fn zero_alone(text: &[u8], at: usize) -> Scanned
-    requires { ⌜ (at + 1 ≤ length (now text)) × (getD (now text) at 0 ≡ 48) ⌝ }
+    requires { ⌜ (at + 1 ≤ length (now text)) × (getD (now text) at 0 ≡ code "0") ⌝ }
     ensures { λ r. ⌜ r ≡ numberOf (digitsAtFront (drop at (now (text .entry)))) at 0 ⌝ }
 {
     let next = at + 1;
@@ -76,7 +80,7 @@ pub fn width(n: u64) -> usize
 {
     let mut rest: u64 = n;
     let mut width: usize = 1;
-    while width < 20 {
+    while width < MOST_DIGITS {
         if rest < 10 {
             return width;
         }
@@ -96,7 +100,7 @@ pub fn put_decimal(out: &mut [u8], at: usize, n: u64) -> usize
     let mut left: usize = digits;
     while 0 < left {
         left -= 1;
-        out[at + left] = (48 + rest % 10) as u8;
+        out[at + left] = b'0' + (rest % 10) as u8;
         rest = rest / 10;
     }
     at + digits

@@ -9,8 +9,9 @@ use Rattle.table.specs.Memory.{rows}
 use Rattle.table.specs.TableLaws.{sub-length}
 use Rattle.table.specs.MemoryLaws.{AllFit, length-rows, fit-rows, fit-retain}
 use Rattle.table_laws.specs.ChangeLaws.{unchanged}
-use Rattle.table_laws.specs.StoreLaws.{Counted, counted-then}
-use Rattle.gossip_ban_rows.specs.Rows.{Bans, banLayout}
+use Rattle.table_laws.specs.Private.{Counted}
+use Rattle.table_laws.specs.StoreLaws.{counted-then}
+use Rattle.gossip_ban_rows.specs.Rows.{rowWidth, Bans, banLayout}
 use Rattle.gossip_ban_rows.specs.RowsLaws.{EntryFits, ban-faithful}
 use Rattle.gossip_ban_rows.specs.Room.{unexpired, pruneExpired, evict}
 use Rattle.gossip_ban_rows.specs.Private.{roomFor}
@@ -20,7 +21,7 @@ use Rattle.gossip_ban_rows.specs.RoomLaws.{sub-prune, room-free, room-pr
 counted-same : {s t : List ℕ} {n m : ℕ} {rs qs : Bans} → rs ≡ qs → Counted banLayout s t n m rs → Counted banLayout s t n m qs
 counted-same {s} {t} {n} {m} e h = subst (λ (l : Bans). Counted banLayout s t n m l) e h
 
-module _ (limit duration now : ℕ) (s : List ℕ) (n : ℕ) (b : Bytes s) (h : 65 * n ≤ length s) where
+module _ (limit duration now : ℕ) (s : List ℕ) (n : ℕ) (b : Bytes s) (h : rowWidth * n ≤ length s) where
   -- the table is not full
   pub made-free : n < limit → Counted banLayout s s n n (roomFor limit duration now (rows banLayout s n))
   made-free k =

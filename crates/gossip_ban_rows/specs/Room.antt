@@ -55,13 +55,13 @@ contains k rs = isSome (look k rs)
 abbrev pub hasRoom : ℕ → List ℕ → Bans → Bool
 hasRoom limit k rs = contains k rs || ltb (length rs) limit
 
--- the while of maybe_make_room_for_new_entry, so many turns at most
+-- the while of maybe_make_room_for_new_entry, so many rounds at most
 unfoldable pub evictWhileFull : ℕ → ℕ → ℕ → List ℕ → Bans → Bans
 evictWhileFull zero limit now k rs = rs
-evictWhileFull (suc turns) limit now k rs =
-    cond (hasRoom limit k rs) rs (evictWhileFull turns limit now k (evict now rs))
+evictWhileFull (suc rounds) limit now k rs =
+    cond (hasRoom limit k rs) rs (evictWhileFull rounds limit now k (evict now rs))
 
--- maybe_make_room_for_new_entry: each turn takes a row out, so there are no more turns than rows
+-- maybe_make_room_for_new_entry: each round takes a row out, so there are no more rounds than rows
 unfoldable pub makeRoom : ℕ → ℕ → ℕ → List ℕ → Bans → Bans
 makeRoom limit duration now k rs =
     cond (hasRoom limit k rs) rs

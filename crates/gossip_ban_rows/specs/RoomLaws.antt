@@ -123,17 +123,17 @@ module _ (limit duration now : ℕ) (rs : Bans) where
 
 module _ (limit now : ℕ) (k : List ℕ) where
   -- the while ends at once where there is room
-  while-free : (turns : ℕ) (rs : Bans) → length rs < limit → evictWhileFull turns limit now k rs ≡ rs
+  while-free : (rounds : ℕ) (rs : Bans) → length rs < limit → evictWhileFull rounds limit now k rs ≡ rs
   unfolding evictWhileFull
   while-free zero rs h = refl
-  while-free (suc turns) rs h = rw (or-else (contains k rs) (λ _. lt-ltb (length rs) limit h))
+  while-free (suc rounds) rs h = rw (or-else (contains k rs) (λ _. lt-ltb (length rs) limit h))
 
-  -- and after one turn where one row was too many
-  while-full : (turns : ℕ) (rs : Bans) → 0 < turns → look k rs ≡ none → limit ≤ length rs → length (evict now rs) < limit
-      → evictWhileFull turns limit now k rs ≡ evict now rs
+  -- and after one round where one row was too many
+  while-full : (rounds : ℕ) (rs : Bans) → 0 < rounds → look k rs ≡ none → limit ≤ length rs → length (evict now rs) < limit
+      → evictWhileFull rounds limit now k rs ≡ evict now rs
   unfolding evictWhileFull
-  while-full zero rs turn h full one = absurd (omega arith)
-  while-full (suc turns) rs turn h full one = rw (h, le-ltb (length rs) limit full) (while-free turns (evict now rs) one)
+  while-full zero rs some-round h full one = absurd (omega arith)
+  while-full (suc rounds) rs some-round h full one = rw (h, le-ltb (length rs) limit full) (while-free rounds (evict now rs) one)
 
 module _ (limit duration now : ℕ) (k : List ℕ) (rs : Bans) where
   -- there is room

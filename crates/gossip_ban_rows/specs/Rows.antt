@@ -9,6 +9,18 @@ use Rattle.table_laws.specs.Words.{Numbers, wordLayout}
 use Rattle.gossip_ban_rows.specs.declared.entry.GossipBanEntry.{GossipBanEntry}
 use Rattle.gossip_ban_rows.specs.Entry.{banEntry, entrySound}
 
+-- ════ Widths, in bytes ════
+
+-- of a key
+abbrev pub keyWidth : ℕ
+keyWidth = 33
+
+-- of a row: its key, and four numbers of eight bytes behind it
+abbrev pub rowWidth : ℕ
+rowWidth = 65
+
+-- ════ A row ════
+
 -- the four numbers of an entry, in the order of the row
 abbrev pub entryWords : GossipBanEntry → List ℕ
 entryWords e = e .score ∷ e .mark ∷ e .«until_ms» ∷ e .«last_updated_ms» ∷ []
@@ -22,9 +34,9 @@ banNumbers =
       ofWords = λ ws. banEntry (getD ws 0 0) (getD ws 1 0) (getD ws 2 0) (getD ws 3 0);
     }
 
--- a row: a key of 33 bytes and four numbers, 65 bytes
+-- how a row stands in bytes
 abbrev pub banLayout : Layout GossipBanEntry
-banLayout = wordLayout 33 65 banNumbers
+banLayout = wordLayout keyWidth rowWidth banNumbers
 
 -- the rows of a tracker, each peer's by its key
 abbrev pub Bans : Type 0

@@ -1,40 +1,39 @@
 // Room for one peer more, as the Rust makes it: the expired entries go, and if the table is still full, one row more.
 ghost use mathlib.Core.Path.{_≡_};
-ghost use mathlib.Core.Bool.{cond};
 ghost use Prim.Native.Nat.{_+_, _*_, _<_, _≤_};
 ghost use lib.Dec.{ltb};
 ghost use lib.ListN.{length};
-ghost use Rattle.lent_bytes.specs.LentBytes.{part, put};
 ghost use Rattle.table.specs.Table.{nothing, best, leastFrom};
-ghost use Rattle.table.specs.Memory.{rowOf, rows, tableBytes};
-ghost use Rattle.table_laws.specs.StoreLaws.{Counted};
-ghost use Rattle.gossip_ban_rows.specs.Rows.{banLayout};
+ghost use Rattle.table.specs.Memory.{rows};
+ghost use Rattle.table_laws.specs.Private.{Counted, Gathered, PlainStep};
+ghost use Rattle.gossip_ban_rows.specs.Rows.{rowWidth, banLayout};
 ghost use Rattle.gossip_ban_rows.specs.Room.{unexpired, pruneExpired, rank, evictionRank};
-ghost use Rattle.gossip_ban_rows.specs.Private.{isLighter, roomFor};
+ghost use Rattle.gossip_ban_rows.specs.Private.{isLighter, rankAt, earlierOf, roomFor};
 ghost use Rattle.gossip_ban_rows.specs.Room.{evict as evicted};
 use crate::entry::GossipBanEntry;
 use crate::place::remove_at;
+use crate::row::ROW_WIDTH;
 use crate::row::entry_at;
 
 // One step of the walk that keeps rows: the row at the index `from` moves down to `to`, unless it is expired. Answers where the next
 // one goes.
 fn keep_unexpired(table: &mut [u8], from: usize, to: usize, duration_ms: u64, now_ms: u64) -> usize
     requires { ⌜ to ≤ from ⌝ }
-    requires { ⌜ 65 * (from + 1) ≤ length (now table) ⌝ }
-    ensures { λ r. ⌜ (now (table .exit) ≡ cond (unexpired «duration_ms» «now_ms» (rowOf banLayout (part (now (table .entry)) (65 * from) 65))) (put (now (table .entry)) (65 * to) (part (now (table .entry)) (65 * from) 65)) (now (table .entry))) × (r ≡ cond (unexpired «duration_ms» «now_ms» (rowOf banLayout (part (now (table .entry)) (65 * from) 65))) (to + 1) to) ⌝ }
+    requires { ⌜ rowWidth * (from + 1) ≤ length (now table) ⌝ }
+    ensures { λ r. ⌜ PlainStep banLayout (unexpired «duration_ms» «now_ms») (now (table .entry)) (now (table .exit)) from to r ⌝ }
 {
-    let e = entry_at(table, 65 * from);
+    let e = entry_at(table, ROW_WIDTH * from);
     if e.is_expired(duration_ms, now_ms) {
         return to;
     }
-    table::rows::keep_row(table, 65, from, to);
+    table::rows::keep_row(table, ROW_WIDTH, from, to);
     to + 1
 }
 
 // The rows that are not expired, one after another at the front. What stands behind them is left.
 fn gather_unexpired(table: &mut [u8], count: usize, duration_ms: u64, now_ms: u64) -> usize
-    requires { ⌜ 65 * count ≤ length (now table) ⌝ }
-    ensures { λ r. ⌜ (now (table .exit) ≡ put (now (table .entry)) 0 (tableBytes banLayout (pruneExpired «duration_ms» «now_ms» (rows banLayout (now (table .entry)) count)))) × (r ≡ length (pruneExpired «duration_ms» «now_ms» (rows banLayout (now (table .entry)) count))) ⌝ }
+    requires { ⌜ rowWidth * count ≤ length (now table) ⌝ }
+    ensures { λ r. ⌜ Gathered banLayout (now (table .entry)) (now (table .exit)) r (pruneExpired «duration_ms» «now_ms» (rows banLayout (now (table .entry)) count)) ⌝ }
 {
     let mut kept: usize = 0;
     let mut i: usize = 0;
@@ -47,11 +46,11 @@ fn gather_unexpired(table: &mut [u8], count: usize, duration_ms: u64, now_ms: u6
 
 // prune_expired: takes the expired rows out, and answers how many are left.
 pub fn prune_expired(table: &mut [u8], count: usize, duration_ms: u64, now_ms: u64) -> usize
-    requires { ⌜ 65 * count ≤ length (now table) ⌝ }
+    requires { ⌜ rowWidth * count ≤ length (now table) ⌝ }
     ensures { λ r. ⌜ Counted banLayout (now (table .entry)) (now (table .exit)) count r (pruneExpired «duration_ms» «now_ms» (rows banLayout (now (table .entry)) count)) ⌝ }
 {
     let kept = gather_unexpired(table, count, duration_ms, now_ms);
-    table::rows::zero_rows(table, 65, kept, count - kept);
+    table::rows::zero_rows(table, ROW_WIDTH, kept, count - kept);
     kept
 }
 
@@ -84,13 +83,13 @@ fn goes_before(e: GossipBanEntry, other: GossipBanEntry, now_ms: u64) -> bool
 
 // Of the rows at two indexes the one that goes first; where they are equal the one that was found, whose key is the smaller.
 fn earlier(table: &[u8], index: usize, found: usize, now_ms: u64) -> usize
-    requires { ⌜ 65 * (index + 1) ≤ length (now table) ⌝ }
-    requires { ⌜ 65 * (found + 1) ≤ length (now table) ⌝ }
-    ensures { λ r. ⌜ r ≡ cond (ltb (rank «now_ms» (rowOf banLayout (part (now (table .entry)) (65 * index) 65) .entry)) (rank «now_ms» (rowOf banLayout (part (now (table .entry)) (65 * found) 65) .entry))) index found ⌝ }
+    requires { ⌜ rowWidth * (index + 1) ≤ length (now table) ⌝ }
+    requires { ⌜ rowWidth * (found + 1) ≤ length (now table) ⌝ }
+    ensures { λ r. ⌜ r ≡ earlierOf «now_ms» (now (table .entry)) index found ⌝ }
 {
     if goes_before(
-        entry_at(table, 65 * index),
-        entry_at(table, 65 * found),
+        entry_at(table, ROW_WIDTH * index),
+        entry_at(table, ROW_WIDTH * found),
         now_ms,
     ) {
         return index;
@@ -101,8 +100,8 @@ fn earlier(table: &[u8], index: usize, found: usize, now_ms: u64) -> usize
 // The row that goes first.
 fn first_to_go(table: &[u8], count: usize, now_ms: u64) -> usize
     requires { ⌜ 0 < count ⌝ }
-    requires { ⌜ 65 * count ≤ length (now table) ⌝ }
-    ensures { λ r. ⌜ leastFrom (evictionRank «now_ms») nothing 0 (rows banLayout (now (table .entry)) count) ≡ best r (rank «now_ms» (rowOf banLayout (part (now (table .entry)) (65 * r) 65) .entry)) ⌝ }
+    requires { ⌜ rowWidth * count ≤ length (now table) ⌝ }
+    ensures { λ r. ⌜ leastFrom (evictionRank «now_ms») nothing 0 (rows banLayout (now (table .entry)) count) ≡ best r (rankAt «now_ms» (now (table .entry)) r) ⌝ }
 {
     let mut found: usize = 0;
     let mut i: usize = 1;
@@ -116,7 +115,7 @@ fn first_to_go(table: &[u8], count: usize, now_ms: u64) -> usize
 // Takes out the row that goes first, and answers how many are left.
 fn evict(table: &mut [u8], count: usize, now_ms: u64) -> usize
     requires { ⌜ 0 < count ⌝ }
-    requires { ⌜ 65 * count ≤ length (now table) ⌝ }
+    requires { ⌜ rowWidth * count ≤ length (now table) ⌝ }
     ensures { λ r. ⌜ Counted banLayout (now (table .entry)) (now (table .exit)) count r (evicted «now_ms» (rows banLayout (now (table .entry)) count)) ⌝ }
 {
     let index = first_to_go(table, count, now_ms);
@@ -127,7 +126,7 @@ fn evict(table: &mut [u8], count: usize, now_ms: u64) -> usize
 // maybe_make_room_for_new_entry, for a peer that has no row. Answers how many rows are left.
 pub fn make_room(table: &mut [u8], count: usize, limit: u64, duration_ms: u64, now_ms: u64) -> usize
     requires { ⌜ 0 < limit ⌝ }
-    requires { ⌜ 65 * count ≤ length (now table) ⌝ }
+    requires { ⌜ rowWidth * count ≤ length (now table) ⌝ }
     ensures { λ r. ⌜ Counted banLayout (now (table .entry)) (now (table .exit)) count r (roomFor limit «duration_ms» «now_ms» (rows banLayout (now (table .entry)) count)) ⌝ }
 {
     if (count as u64) < limit {

@@ -10,7 +10,8 @@ use Rattle.table.specs.Memory.{rows, Holds}
 use Rattle.table.specs.TableLaws.{Sub, sub-length}
 use Rattle.table.specs.MemoryLaws.{AllFit, length-rows, fit-rows, sub-fit}
 use Rattle.table_laws.specs.ChangeLaws.{over, stored-at, erased-at}
-use Rattle.table_laws.specs.StoreLaws.{Counted, counted-then}
+use Rattle.table_laws.specs.Private.{Counted}
+use Rattle.table_laws.specs.StoreLaws.{counted-then}
 use Rattle.gossip_ban_rows.specs.declared.entry.GossipBanEntry.{GossipBanEntry}
 use Rattle.gossip_ban_rows.specs.Rows.{Bans, banLayout}
 use Rattle.gossip_ban_rows.specs.RowsLaws.{EntryFits, ban-faithful}

@@ -13,7 +13,7 @@ use Rattle.table.specs.Outcome.{Change, same, become, rowsAfter, Outcome, Meets
 use Rattle.table_laws.specs.Lent.{longEnough}
 use Rattle.gossip_settings.specs.declared.ban.GossipBanConfig.{GossipBanConfig}
 use Rattle.gossip_settings.specs.declared.violation.GossipViolation.{GossipViolation}
-use Rattle.gossip_settings.specs.Settings.{violationScore}
+use Rattle.gossip_settings.specs.Settings.{maxTrackedPeers, violationScore}
 use Rattle.gossip_ban_rows.specs.declared.entry.GossipBanEntry.{GossipBanEntry}
 use Rattle.gossip_ban_rows.specs.Rows.{banLayout}
 use Rattle.gossip_ban_rows.specs.Room.{pruneExpired}
@@ -77,10 +77,10 @@ refuse answer = turn answer same
 abbrev pub fresh : GossipBanConfig → ℕ → GossipBanTracker
 fresh c limit = record { config = c; «max_entries» = limit; rows = 0 }
 
--- with_max_entries: 2 for a limit above 1,024, then 1 for memory that is too short for it
+-- with_max_entries: 2 for a limit above the most, then 1 for memory that is too short for it
 unfoldable pub madeOutcome : GossipBanConfig → ℕ → List ℕ → Outcome GossipBanEntry MadeTracker
 madeOutcome c limit s =
-    cond (ltb 1024 limit) (refuse (MadeTracker.Refused limitTooLarge))
+    cond (ltb maxTrackedPeers limit) (refuse (MadeTracker.Refused limitTooLarge))
     (cond (longEnough banLayout (limitOf limit) s) (turn (MadeTracker.Tracker (fresh c limit)) (become []))
     (refuse (MadeTracker.Refused tooShort)))
 

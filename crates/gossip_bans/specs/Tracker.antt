@@ -9,7 +9,7 @@ use Rattle.table.specs.Memory.{rows}
 use Rattle.table.specs.Outcome.{Change, same, become, Outcome}
 use Rattle.table_laws.specs.Lent.{lentSound}
 use Rattle.gossip_settings.specs.declared.ban.GossipBanConfig.{GossipBanConfig}
-use Rattle.gossip_settings.specs.Settings.{gossipBanDisabled}
+use Rattle.gossip_settings.specs.Settings.{gossipBanDisabled, maxTrackedPeers}
 use Rattle.gossip_ban_rows.specs.declared.entry.GossipBanEntry.{GossipBanEntry}
 use Rattle.gossip_ban_rows.specs.Entry.{entryDefault, isCurrentlyBanned, raised, reaches, bannedIfReached}
 use Rattle.gossip_ban_rows.specs.Rows.{Bans, banLayout, banSound}
@@ -26,9 +26,9 @@ limitOf limit = max limit 1
 
 -- ════ Soundness ════
 
--- the record's own rules: the limit within 1,024, and the rows within the limit
+-- the record's own rules: no limit above the most, and the rows within the limit
 unfoldable pub trackerSound : GossipBanTracker → Bool
-trackerSound t = leb (t .«max_entries») 1024 && leb (t .rows) (limitOf (t .«max_entries»))
+trackerSound t = leb (t .«max_entries») maxTrackedPeers && leb (t .rows) (limitOf (t .«max_entries»))
 
 -- a tracker and the memory lent to it
 abbrev pub sound : GossipBanTracker → List ℕ → Bool

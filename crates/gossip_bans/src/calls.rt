@@ -11,6 +11,7 @@ use super::tracker::GossipBanTracker;
 use bucket_terms::answer::Told;
 use gossip_ban_rows::entry;
 use gossip_ban_rows::entry::GossipBanEntry;
+use gossip_ban_rows::row::ROW_WIDTH;
 use gossip_ban_rows::row::entry_at;
 use gossip_settings::violation::GossipViolation;
 use pubkey::Pubkey;
@@ -41,7 +42,7 @@ pub(crate) fn violation_known(
             answer: Told::No,
         };
     }
-    let found = entry_at(table, 65 * index);
+    let found = entry_at(table, ROW_WIDTH * index);
     let kept = entry::unexpired_or_default(found, config.duration_ms, now_ms);
     let raised = entry::raised(kept, violation.score(), now_ms);
     let answer = told(entry::reaches(config, raised));
@@ -92,7 +93,7 @@ pub(crate) fn standing_known(
             answer: Told::No,
         };
     }
-    let e = entry_at(table, 65 * index);
+    let e = entry_at(table, ROW_WIDTH * index);
     if e.is_expired(config.duration_ms, now_ms) {
         let tracker = carry::drop_known(t, table, peer, index);
         return BanTold {
@@ -115,7 +116,7 @@ pub(crate) fn score_known(
     ensures { λ r. ⌜ ScoreMeets t (now (table .entry)) peer «now_ms» r (now (table .exit)) ⌝ }
 {
     let config = t.config;
-    let e = entry_at(table, 65 * index);
+    let e = entry_at(table, ROW_WIDTH * index);
     if e.is_expired(config.duration_ms, now_ms) {
         let tracker = carry::drop_known(t, table, peer, index);
         return BanScored {

@@ -3,6 +3,7 @@ ghost use mathlib.Core.Path.{_≡_};
 ghost use Rattle.gossip_bans.specs.Tracker.{limitOf, trackerSound, sound};
 ghost use Rattle.gossip_bans.specs.Private.{soughtIn};
 use super::tracker::GossipBanTracker;
+use gossip_ban_rows::row::ROW_WIDTH;
 use gossip_settings::ban::GossipBanConfig;
 use pubkey::Pubkey;
 use table::seek::Seek;
@@ -31,7 +32,7 @@ pub(crate) fn sought(t: GossipBanTracker, table: &[u8], peer: Pubkey) -> Seek
     if !is_sound(t) {
         return Seek::Unsound;
     }
-    if ((table.len() / 65) as u64) < limit_of(t.max_entries) {
+    if ((table.len() / ROW_WIDTH) as u64) < limit_of(t.max_entries) {
         return Seek::Unsound;
     }
     gossip_ban_rows::walk::sought(table, t.rows as usize, peer)

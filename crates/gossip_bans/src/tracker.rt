@@ -13,6 +13,7 @@ use super::calls;
 use super::carry;
 use super::judge;
 use bucket_terms::answer::Told;
+use gossip_ban_rows::row::ROW_WIDTH;
 use gossip_settings::ban::GossipBanConfig;
 use gossip_settings::violation::GossipViolation;
 use pubkey::Pubkey;
@@ -47,10 +48,10 @@ impl GossipBanTracker {
             return MadeTracker::Refused(refusal::LIMIT_TOO_LARGE);
         }
         let limit = judge::limit_of(max_entries);
-        if ((table.len() / 65) as u64) < limit {
+        if ((table.len() / ROW_WIDTH) as u64) < limit {
             return MadeTracker::Refused(refusal::TOO_SHORT);
         }
-        table::rows::zero_rows(table, 65, 0, limit as usize);
+        table::rows::zero_rows(table, ROW_WIDTH, 0, limit as usize);
         MadeTracker::Tracker(GossipBanTracker {
             config,
             max_entries,

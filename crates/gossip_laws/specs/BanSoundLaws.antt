@@ -28,7 +28,7 @@ use Rattle.gossip_settings.specs.Settings.{gossipBanDisabled, violationScore}
 use Rattle.gossip_ban_rows.specs.declared.entry.GossipBanEntry.{GossipBanEntry}
 use Rattle.gossip_ban_rows.specs.Entry.{entryDefault, raised, reaches, bannedIfReached, isExpired, entrySound}
 use Rattle.gossip_ban_rows.specs.Private.{unexpiredOrDefault}
-use Rattle.gossip_ban_rows.specs.Rows.{Bans, banNumbers, banLayout, banSound}
+use Rattle.gossip_ban_rows.specs.Rows.{keyWidth, rowWidth, Bans, banNumbers, banLayout, banSound}
 use Rattle.gossip_ban_rows.specs.Room.{maybeExpire, pruneExpired}
 use Rattle.gossip_ban_rows.specs.Private.{roomFor}
 use Rattle.gossip_ban_rows.specs.RoomLaws.{sub-expire, sub-prune, sub-room, room-for-one}
@@ -83,7 +83,7 @@ pub record BanKept (t : GossipBanTracker) (s : List ℕ) (q : GossipBanTracker) 
   pub same-limit : q .«max_entries» ≡ t .«max_entries»
 
 ban-of-numbers : OfNumbers banLayout banNumbers
-ban-of-numbers = of-numbers 33 65 banNumbers (omega arith) refl (λ e. refl) (λ e. refl) (λ s. refl)
+ban-of-numbers = of-numbers keyWidth rowWidth banNumbers (omega arith) refl (λ e. refl) (λ e. refl) (λ s. refl)
 
 ban-encodes : Encodes banLayout
 ban-encodes = record { key-fits = omega arith; length-encode = length-encode ban-of-numbers; encode-bytes = encode-bytes ban-of-numbers }
@@ -188,7 +188,7 @@ module _ (c : GossipBanConfig) (limit : ℕ) (s u : List ℕ) where
   fresh-sound t b m =
       let parts = made-as (ltb 1024 limit) (longEnough banLayout (limitOf limit) s) refl m in
       let within : limit ≤ 1024 = ltb-false 1024 limit (parts .1 .0) in
-      let long : 65 * limitOf limit ≤ length s = leb-true (65 * limitOf limit) (length s) (parts .1 .1 .0) in
+      let long : rowWidth * limitOf limit ≤ length s = leb-true (rowWidth * limitOf limit) (length s) (parts .1 .1 .0) in
       let same-length : length u ≡ length s =
       ap length (parts .1 .1 .1 .memory) ∙ length-laid-keyed ban-encodes s (limitOf limit) [] tt long (omega arith) in
       let here : sound (fresh c limit) u ≡ true =

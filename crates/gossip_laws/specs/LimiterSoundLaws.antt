@@ -37,7 +37,7 @@ use Rattle.gossip_settings.specs.declared.channel_update.ChannelUpdateRateLimit
 use Rattle.gossip_settings.specs.Settings.{channelUpdateDisabled}
 use Rattle.gossip_limiter_rows.specs.declared.entry.ChannelUpdateLimiterEntry.{ChannelUpdateLimiterEntry}
 use Rattle.gossip_limiter_rows.specs.Entry.{bucketOf, refilled, askedOf}
-use Rattle.gossip_limiter_rows.specs.Rows.{Limits, limiterNumbers, limiterLayout, limiterSound}
+use Rattle.gossip_limiter_rows.specs.Rows.{keyWidth, rowWidth, sidePlace, Limits, limiterNumbers, limiterLayout, limiterSound}
 use Rattle.gossip_limiter_rows.specs.RowsLaws.{sound-level, refilled-sound, asked-level}
 use Rattle.gossip_limiter_rows.specs.Prune.{notFull, roomFor}
 use Rattle.gossip_limiter_rows.specs.PruneLaws.{by-room}
@@ -56,21 +56,21 @@ side-small : (b : Bool) → sideByte b ≤ 1
 side-small true = omega arith
 side-small false = omega arith
 
--- the last of a key's 70 bytes is its side
-side-last : (k : ChannelUpdateLimiterKey) → Whole k → getD (limiterKeyBytes k) 69 0 ≤ 1
+-- what stands in a key where its side does is a side
+side-last : (k : ChannelUpdateLimiterKey) → Whole k → getD (limiterKeyBytes k) sidePlace 0 ≤ 1
 unfolding limiterKeyBytes
 side-last k w =
     let p : List ℕ = k .peer .bytes in
     let o : List ℕ = k .«channel_outpoint» .bytes in
     let side : List ℕ = sideByte (k .«is_node1») ∷ [] in
-    let behind : 69 ≡ length p + 36 = omega (arith, w .peer-length) in
+    let behind : sidePlace ≡ length p + 36 = omega (arith, w .peer-length) in
     let last : 36 ≡ length o + 0 = omega (arith, w .outpoint-length) in
-    let there : getD (p ++ (o ++ side)) 69 0 ≡ sideByte (k .«is_node1») =
+    let there : getD (p ++ (o ++ side)) sidePlace 0 ≡ sideByte (k .«is_node1») =
     ap (λ (i : ℕ). getD (p ++ (o ++ side)) i 0) behind ∙ getD-append-add p (o ++ side) 36 0
     ∙ ap (λ (i : ℕ). getD (o ++ side) i 0) last ∙ getD-append-add o side 0 0 in
     rw there (side-small (k .«is_node1»))
 
--- its 70 bytes are a key of the table
+-- its bytes are a key of the table
 key-held : (k : ChannelUpdateLimiterKey) → Whole k → Bytes (k .peer .bytes) → Bytes (k .«channel_outpoint» .bytes) → Key limiterLayout (limiterKeyBytes k)
 unfolding limiterKeyBytes
 key-held k w peer outpoint = (
@@ -81,11 +81,11 @@ key-held k w peer outpoint = (
 )
 
 -- the row of a bucket that was asked, under a key with a side
-asked-sound : (c : ChannelUpdateRateLimitConfig) (k : List ℕ) (b : DiscreteTokenBucket) (now : ℕ) → getD k 69 0 ≤ 1 → b .capacity ≡ c .burst
+asked-sound : (c : ChannelUpdateRateLimitConfig) (k : List ℕ) (b : DiscreteTokenBucket) (now : ℕ) → getD k sidePlace 0 ≤ 1 → b .capacity ≡ c .burst
     → b .available ≤ b .capacity → limiterSound c (rowUnder k (askedOf b now .entry)) ≡ true
 unfolding limiterSound
 asked-sound c k b now side capacity level =
-    both (le-leb (askedOf b now .entry .available) (c .burst) (omega (arith, asked-level b now level))) (le-leb (getD k 69 0) 1 side)
+    both (le-leb (askedOf b now .entry .available) (c .burst) (omega (arith, asked-level b now level))) (le-leb (getD k sidePlace 0) 1 side)
 
 -- ════ What try_acquire makes of the rows ════
 
@@ -96,7 +96,7 @@ module _ (c : ChannelUpdateRateLimitConfig) (limit now : ℕ) (k : List ℕ) (rs
       (sub-hold limiterLayout (limiterSound c) limit (sub-retain (notFull c) (mapEntries (refilled c now) rs))
       (map-hold (refilled c now) (limiterSound c) (refilled-sound c now) limiterLayout limit rs h))
 
-  module _ (key : Key limiterLayout k) (side : getD k 69 0 ≤ 1) where
+  module _ (key : Key limiterLayout k) (side : getD k sidePlace 0 ≤ 1) where
     -- the call's change, by an equation of what it comes to
     comes : (o : Outcome ChannelUpdateLimiterEntry Told) → tryAcquire c limit k now rs ≡ o
         → ChangeHolds limiterLayout (limiterSound c) limit (o .change) → ChangeHolds limiterLayout (limiterSound c) limit (tryAcquire c limit k now rs .change)
@@ -135,7 +135,7 @@ pub record LimiterKept (l : ChannelUpdateLimiter) (s : List ℕ) (q : ChannelUpd
   pub same-limit : q .«max_entries» ≡ l .«max_entries»
 
 limiter-of-numbers : OfNumbers limiterLayout limiterNumbers
-limiter-of-numbers = of-numbers 70 94 limiterNumbers (omega arith) refl (λ e. refl) (λ e. refl) (λ s. refl)
+limiter-of-numbers = of-numbers keyWidth rowWidth limiterNumbers (omega arith) refl (λ e. refl) (λ e. refl) (λ s. refl)
 
 limiter-encodes : Encodes limiterLayout
 limiter-encodes =
@@ -187,7 +187,7 @@ module _ (c : ChannelUpdateRateLimitConfig) (limit : ℕ) (s u : List ℕ) where
   fresh-limiter-sound l m =
       let parts = made-as (ltb 1024 limit) (longEnough limiterLayout (limitOf limit) s) refl m in
       let within : limit ≤ 1024 = ltb-false 1024 limit (parts .1 .0) in
-      let long : 94 * limitOf limit ≤ length s = leb-true (94 * limitOf limit) (length s) (parts .1 .1 .0) in
+      let long : rowWidth * limitOf limit ≤ length s = leb-true (rowWidth * limitOf limit) (length s) (parts .1 .1 .0) in
       let same-length : length u ≡ length s =
       ap length (parts .1 .1 .1 .memory) ∙ length-laid-keyed limiter-encodes s (limitOf limit) [] tt long (omega arith) in
       let here : sound (fresh c limit) u ≡ true =

@@ -32,7 +32,7 @@ use Rattle.bucket_bytes.specs.KeptLaws.{Left, as-it-was, left-config, left-soun
 use Rattle.gossip_outbound_rows.specs.declared.entry.OutboundEntry.{OutboundEntry}
 use Rattle.gossip_outbound_rows.specs.Entry.{entryOf}
 use Rattle.gossip_outbound_rows.specs.EntryLaws.{Stands, stands-entry, known-stands, fresh-stands, left-stands}
-use Rattle.gossip_outbound_rows.specs.Rows.{outboundNumbers, outboundLayout, outboundSound}
+use Rattle.gossip_outbound_rows.specs.Rows.{keyWidth, rowWidth, outboundNumbers, outboundLayout, outboundSound}
 use Rattle.gossip_outbound_state.specs.declared.state.Outbound.{Outbound}
 use Rattle.gossip_outbound_state.specs.declared.charge.Charged.{Charged}
 use Rattle.gossip_outbound_state.specs.State.{rowsOf, ownSound, sound, bucketOrFresh, full, isYes, charged, chargeBoth, promiseBoth, outboundWith}
@@ -48,7 +48,7 @@ use Rattle.gossip_laws.specs.OutboundKept.{Given, Kept, fresh}
 -- an entry's bytes, whatever it is
 pub outbound-encodes : Encodes outboundLayout
 outbound-encodes =
-    let num = of-numbers 33 65 outboundNumbers (omega arith) refl (λ e. refl) (λ e. refl) (λ s. refl) in
+    let num = of-numbers keyWidth rowWidth outboundNumbers (omega arith) refl (λ e. refl) (λ e. refl) (λ s. refl) in
     record { key-fits = omega arith; length-encode = length-encode num; encode-bytes = encode-bytes num }
 
 -- ════ A fresh state ════

@@ -16,7 +16,8 @@ use Rattle.table.specs.MemoryLaws.{length-rows}
 use Rattle.table.specs.Outcome.{same, become, Memory, Outcome}
 use Rattle.table_laws.specs.ChangeLaws.{over, stored-at}
 use Rattle.table_laws.specs.LentLaws.{own-sound, rows-fit, limit-fits, known-look, unknown-look}
-use Rattle.table_laws.specs.StoreLaws.{Counted, counted-then}
+use Rattle.table_laws.specs.Private.{Counted}
+use Rattle.table_laws.specs.StoreLaws.{counted-then}
 use Rattle.bucket_terms.specs.declared.answer.Told.{Told}
 use Rattle.bucket_terms.specs.declared.answer.Told.the-variants as Told
 use Rattle.bucket_discrete.specs.declared.discrete.DiscreteTokenBucket.{DiscreteTokenBucket}

@@ -14,6 +14,7 @@ use Rattle.bucket_terms.specs.Answers.{toldSays}
 use Rattle.table.specs.Outcome.{Change, same, become, rowsAfter, Outcome, Meets}
 use Rattle.table_laws.specs.Lent.{longEnough}
 use Rattle.gossip_settings.specs.declared.channel_update.ChannelUpdateRateLimitConfig.{ChannelUpdateRateLimitConfig}
+use Rattle.gossip_settings.specs.Settings.{maxTrackedKeys}
 use Rattle.gossip_limiter_rows.specs.declared.entry.ChannelUpdateLimiterEntry.{ChannelUpdateLimiterEntry}
 use Rattle.gossip_limiter_rows.specs.Rows.{limiterLayout}
 use Rattle.gossip_limiter.specs.declared.limiter.ChannelUpdateLimiter.{ChannelUpdateLimiter}
@@ -66,10 +67,10 @@ refuse answer = turn answer same
 abbrev pub fresh : ChannelUpdateRateLimitConfig → ℕ → ChannelUpdateLimiter
 fresh c limit = record { config = c; «max_entries» = limit; rows = 0 }
 
--- with_max_entries: 2 for a limit above 1,024, then 1 for memory that is too short for it
+-- with_max_entries: 2 for a limit above the most, then 1 for memory that is too short for it
 unfoldable pub madeOutcome : ChannelUpdateRateLimitConfig → ℕ → List ℕ → Outcome ChannelUpdateLimiterEntry MadeLimiter
 madeOutcome c limit s =
-    cond (ltb 1024 limit) (refuse (MadeLimiter.Refused limitTooLarge))
+    cond (ltb maxTrackedKeys limit) (refuse (MadeLimiter.Refused limitTooLarge))
     (cond (longEnough limiterLayout (limitOf limit) s) (turn (MadeLimiter.Limiter (fresh c limit)) (become []))
     (refuse (MadeLimiter.Refused tooShort)))
 

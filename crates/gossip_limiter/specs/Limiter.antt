@@ -14,7 +14,7 @@ use Rattle.bucket_terms.specs.declared.answer.Told.the-variants as Told
 use Rattle.bucket_discrete.specs.declared.discrete.DiscreteTokenBucket.{DiscreteTokenBucket}
 use Rattle.bucket_discrete.specs.DiscreteBucket.{discreteNew}
 use Rattle.gossip_settings.specs.declared.channel_update.ChannelUpdateRateLimitConfig.{ChannelUpdateRateLimitConfig}
-use Rattle.gossip_settings.specs.Settings.{channelUpdateDisabled}
+use Rattle.gossip_settings.specs.Settings.{channelUpdateDisabled, maxTrackedKeys}
 use Rattle.gossip_limiter_rows.specs.declared.entry.ChannelUpdateLimiterEntry.{ChannelUpdateLimiterEntry}
 use Rattle.gossip_limiter_rows.specs.Entry.{bucketOf, askedOf}
 use Rattle.gossip_limiter_rows.specs.Rows.{Limits, limiterLayout, limiterSound}
@@ -31,9 +31,9 @@ limitOf limit = max limit 1
 
 -- ════ Soundness ════
 
--- the record's own rules: the limit within 1,024, and the rows within the limit
+-- the record's own rules: no limit above the most, and the rows within the limit
 unfoldable pub limiterRecordSound : ChannelUpdateLimiter → Bool
-limiterRecordSound l = leb (l .«max_entries») 1024 && leb (l .rows) (limitOf (l .«max_entries»))
+limiterRecordSound l = leb (l .«max_entries») maxTrackedKeys && leb (l .rows) (limitOf (l .«max_entries»))
 
 -- a limiter and the memory lent to it
 abbrev pub sound : ChannelUpdateLimiter → List ℕ → Bool

@@ -11,6 +11,7 @@ use bucket_terms::answer::Told;
 use gossip_limiter_rows::entry;
 use gossip_limiter_rows::place;
 use gossip_limiter_rows::prune;
+use gossip_limiter_rows::row::ROW_WIDTH;
 use gossip_limiter_rows::row::entry_at;
 use pubkey::ChannelUpdateLimiterKey;
 
@@ -44,7 +45,7 @@ pub(crate) fn acquire_known(
             answer: Told::Yes,
         };
     }
-    let found = entry_at(table, 94 * index);
+    let found = entry_at(table, ROW_WIDTH * index);
     let bucket = entry::bucket_of(config, found);
     let asked = entry::ask(bucket, now_ms);
     let e = asked.entry;

@@ -4,6 +4,7 @@ ghost use Rattle.pubkey.specs.Order.{limiterKeyBytes};
 ghost use Rattle.gossip_limiter.specs.Limiter.{limitOf, limiterRecordSound};
 ghost use Rattle.gossip_limiter.specs.Private.{soughtIn};
 use super::limiter::ChannelUpdateLimiter;
+use gossip_limiter_rows::row::ROW_WIDTH;
 use gossip_settings::channel_update::ChannelUpdateRateLimitConfig;
 use pubkey::ChannelUpdateLimiterKey;
 use table::seek::Seek;
@@ -32,7 +33,7 @@ pub(crate) fn sought(l: ChannelUpdateLimiter, table: &[u8], key: ChannelUpdateLi
     if !is_sound(l) {
         return Seek::Unsound;
     }
-    if ((table.len() / 94) as u64) < limit_of(l.max_entries) {
+    if ((table.len() / ROW_WIDTH) as u64) < limit_of(l.max_entries) {
         return Seek::Unsound;
     }
     let config = l.config;

@@ -7,6 +7,7 @@ use super::answer::TrackedKeys;
 use super::calls;
 use super::judge;
 use bucket_terms::answer::Told;
+use gossip_limiter_rows::row::ROW_WIDTH;
 use gossip_settings::channel_update::ChannelUpdateRateLimitConfig;
 use pubkey::ChannelUpdateLimiterKey;
 use table::seek::Seek;
@@ -44,10 +45,10 @@ impl ChannelUpdateLimiter {
             return MadeLimiter::Refused(refusal::LIMIT_TOO_LARGE);
         }
         let limit = judge::limit_of(max_entries);
-        if ((table.len() / 94) as u64) < limit {
+        if ((table.len() / ROW_WIDTH) as u64) < limit {
             return MadeLimiter::Refused(refusal::TOO_SHORT);
         }
-        table::rows::zero_rows(table, 94, 0, limit as usize);
+        table::rows::zero_rows(table, ROW_WIDTH, 0, limit as usize);
         MadeLimiter::Limiter(ChannelUpdateLimiter {
             config,
             max_entries,

@@ -19,7 +19,7 @@ use Rattle.gossip_settings.specs.declared.channel_update.ChannelUpdateRateLimit
 use Rattle.gossip_limiter_rows.specs.declared.entry.ChannelUpdateLimiterEntry.{ChannelUpdateLimiterEntry}
 use Rattle.gossip_limiter_rows.specs.declared.entry.Asked.{Asked}
 use Rattle.gossip_limiter_rows.specs.Entry.{bucketOf, entryOf, refilled, isYes, askedOf}
-use Rattle.gossip_limiter_rows.specs.Rows.{limiterLayout, limiterSound}
+use Rattle.gossip_limiter_rows.specs.Rows.{rowWidth, sidePlace, limiterLayout, limiterSound}
 use Rattle.gossip_limiter_rows.specs.RowsLaws.{side-place}
 
 -- the entry of a refilled bucket
@@ -40,13 +40,13 @@ asked-by b now r e t level h entry says =
     let same : r ≡ discreteTryConsume b now = discrete-try-consume-sound b now (le-leb (b .available) (b .capacity) level) h in
     rw (entry, says, same)
 
-module _ (c : ChannelUpdateRateLimitConfig) (s : List ℕ) (at : ℕ) (e : ChannelUpdateLimiterEntry) (read : e ≡ rowOf limiterLayout (part s at 94) .entry) where
+module _ (c : ChannelUpdateRateLimitConfig) (s : List ℕ) (at : ℕ) (e : ChannelUpdateLimiterEntry) (read : e ≡ rowOf limiterLayout (part s at rowWidth) .entry) where
   -- more is available than the burst allows
-  pub row-over : c .burst < e .available → false ≡ limiterSound c (rowOf limiterLayout (part s at 94))
+  pub row-over : c .burst < e .available → false ≡ limiterSound c (rowOf limiterLayout (part s at rowWidth))
   unfolding limiterSound
   row-over h = rw (← read, lt-leb (e .available) (c .burst) h)
 
   -- it is not: the side decides
-  pub row-side : e .available ≤ c .burst → leb (getD s (at + 69) 0) 1 ≡ limiterSound c (rowOf limiterLayout (part s at 94))
+  pub row-side : e .available ≤ c .burst → leb (getD s (at + sidePlace) 0) 1 ≡ limiterSound c (rowOf limiterLayout (part s at rowWidth))
   unfolding limiterSound
   row-side h = rw (← read, le-leb (e .available) (c .burst) h, side-place s at)

@@ -16,7 +16,7 @@ use Rattle.table_laws.specs.RawLaws.{length-map}
 use Rattle.table_laws.specs.MapLaws.{fit-map}
 use Rattle.gossip_settings.specs.declared.channel_update.ChannelUpdateRateLimitConfig.{ChannelUpdateRateLimitConfig}
 use Rattle.gossip_limiter_rows.specs.Entry.{refilled}
-use Rattle.gossip_limiter_rows.specs.Rows.{Limits, limiterLayout}
+use Rattle.gossip_limiter_rows.specs.Rows.{rowWidth, Limits, limiterLayout}
 use Rattle.gossip_limiter_rows.specs.RowsLaws.{EntryFits, limiter-faithful, refilled-fits}
 use Rattle.gossip_limiter_rows.specs.Prune.{notFull, pruneIdle, roomFor}
 
@@ -47,7 +47,7 @@ module _ (c : ChannelUpdateRateLimitConfig) (now : ℕ) where
     pub length-room : length (roomFor limit c now rs) ≤ length rs
     length-room = by-room (λ (qs : Limits). length qs ≤ length rs) (omega arith) (length-prune rs)
 
-  module _ (s : List ℕ) (n : ℕ) (small : c .burst < 2 ^ 64) (time : now < 2 ^ 64) (b : Bytes s) (h : 94 * n ≤ length s) where
+  module _ (s : List ℕ) (n : ℕ) (small : c .burst < 2 ^ 64) (time : now < 2 ^ 64) (b : Bytes s) (h : rowWidth * n ≤ length s) where
     -- rows of the memory, refilled, fit
     pub refilled-fit : AllFit limiterLayout EntryFits (mapEntries (refilled c now) (rows limiterLayout s n))
     refilled-fit =

@@ -23,7 +23,7 @@ use Rattle.bucket_discrete.specs.LevelLaws.{refills, takes}
 use Rattle.gossip_settings.specs.declared.channel_update.ChannelUpdateRateLimitConfig.{ChannelUpdateRateLimitConfig}
 use Rattle.gossip_limiter_rows.specs.declared.entry.ChannelUpdateLimiterEntry.{ChannelUpdateLimiterEntry}
 use Rattle.gossip_limiter_rows.specs.Entry.{limiterEntry, bucketOf, refilled, askedOf}
-use Rattle.gossip_limiter_rows.specs.Rows.{limiterNumbers, limiterLayout, limiterSound}
+use Rattle.gossip_limiter_rows.specs.Rows.{keyWidth, rowWidth, sidePlace, limiterNumbers, limiterLayout, limiterSound}
 
 -- an entry's numbers fit eight bytes each: those of any entry that a program holds do
 abbrev pub EntryFits : ChannelUpdateLimiterEntry → Type 0
@@ -31,28 +31,28 @@ EntryFits = NumbersFit limiterNumbers
 
 -- entries stand in their rows and are read back
 pub limiter-faithful : Faithful limiterLayout EntryFits
-limiter-faithful = words-faithful 70 94 limiterNumbers (omega arith) refl (λ e. refl) (λ e. refl) (λ s. refl)
+limiter-faithful = words-faithful keyWidth rowWidth limiterNumbers (omega arith) refl (λ e. refl) (λ e. refl) (λ s. refl)
 
 -- the entry of the row at a place
-pub entry-places : (s : List ℕ) (at : ℕ) → rowOf limiterLayout (part s at 94) .entry
-    ≡ limiterEntry (le (part s (at + 70) 8)) (le (part s (at + 78) 8)) (le (part s (at + 86) 8))
+pub entry-places : (s : List ℕ) (at : ℕ) → rowOf limiterLayout (part s at rowWidth) .entry
+    ≡ limiterEntry (le (part s (at + keyWidth) 8)) (le (part s (at + (keyWidth + 8)) 8)) (le (part s (at + (keyWidth + 16)) 8))
 unfolding rowOf
 entry-places s at =
     rw (
-      word-place s at 70 94 0 (at + 70) (omega arith) (omega arith),
-      word-place s at 70 94 1 (at + 78) (omega arith) (omega arith),
-      word-place s at 70 94 2 (at + 86) (omega arith) (omega arith),
+      word-place s at keyWidth rowWidth 0 (at + keyWidth) (omega arith) (omega arith),
+      word-place s at keyWidth rowWidth 1 (at + (keyWidth + 8)) (omega arith) (omega arith),
+      word-place s at keyWidth rowWidth 2 (at + (keyWidth + 16)) (omega arith) (omega arith),
     )
 
 -- the side of the row at a place
-pub side-place : (s : List ℕ) (at : ℕ) → getD (rowOf limiterLayout (part s at 94) .key) 69 0 ≡ getD s (at + 69) 0
+pub side-place : (s : List ℕ) (at : ℕ) → getD (rowOf limiterLayout (part s at rowWidth) .key) sidePlace 0 ≡ getD s (at + sidePlace) 0
 side-place s at =
-    ap (λ (l : List ℕ). getD l 69 0) (key-rowOf limiter-faithful s at) ∙ getD-part s at 70 69 (omega arith)
+    ap (λ (l : List ℕ). getD l sidePlace 0) (key-rowOf limiter-faithful s at) ∙ getD-part s at keyWidth sidePlace (omega arith)
 
 -- what is available in a row that keeps its rule
 pub sound-level : (c : ChannelUpdateRateLimitConfig) (r : Row ChannelUpdateLimiterEntry) → limiterSound c r ≡ true → r .entry .available ≤ c .burst
 unfolding limiterSound
-sound-level c r h = leb-true (r .entry .available) (c .burst) (both-parts (leb (r .entry .available) (c .burst)) (leb (getD (r .key) 69 0) 1) h .0)
+sound-level c r h = leb-true (r .entry .available) (c .burst) (both-parts (leb (r .entry .available) (c .burst)) (leb (getD (r .key) sidePlace 0) 1) h .0)
 
 module _ (c : ChannelUpdateRateLimitConfig) (now : ℕ) where
   -- a refilled entry's numbers fit
@@ -68,7 +68,7 @@ module _ (c : ChannelUpdateRateLimitConfig) (now : ℕ) where
   pub refilled-sound : (r : Row ChannelUpdateLimiterEntry) → limiterSound c r ≡ true → limiterSound c (mapRow (refilled c now) r) ≡ true
   unfolding limiterSound refilled
   refilled-sound r h =
-      let parts = both-parts (leb (r .entry .available) (c .burst)) (leb (getD (r .key) 69 0) 1) h in
+      let parts = both-parts (leb (r .entry .available) (c .burst)) (leb (getD (r .key) sidePlace 0) 1) h in
       let level : discreteRefill (bucketOf c (r .entry)) now .available ≤ c .burst =
       omega (arith, refills (bucketOf c (r .entry)) now .level, leb-true (r .entry .available) (c .burst) (parts .0)) in
       both (le-leb (discreteRefill (bucketOf c (r .entry)) now .available) (c .burst) level) (parts .1)

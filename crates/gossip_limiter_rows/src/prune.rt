@@ -1,19 +1,21 @@
 // Idle rows taken out: each row is refilled, and those whose bucket is then full go.
 ghost use mathlib.Core.Path.{_≡_};
-ghost use mathlib.Core.Bool.{true, cond};
+ghost use mathlib.Core.Bool.{true};
 ghost use mathlib.Core.List.{_++_};
 ghost use Prim.Native.Nat.{_+_, _*_, _≤_};
 ghost use lib.ListN.{length};
 ghost use Rattle.lent_bytes.specs.LentBytes.{part, put};
 ghost use Rattle.table.specs.Table.{every};
-ghost use Rattle.table.specs.Memory.{wordBytes, rowBytes, rowOf, rows, tableBytes};
-ghost use Rattle.table_laws.specs.KeepLaws.{rewritten};
-ghost use Rattle.table_laws.specs.StoreLaws.{Counted};
+ghost use Rattle.table.specs.Memory.{wordBytes, rows};
+ghost use Rattle.table_laws.specs.Walk.{rowAt};
+ghost use Rattle.table_laws.specs.Private.{Counted, Gathered, RewritingStep};
 ghost use Rattle.gossip_limiter_rows.specs.Entry.{refilled as refilledBy};
-ghost use Rattle.gossip_limiter_rows.specs.Rows.{entryWords, limiterLayout, limiterSound};
+ghost use Rattle.gossip_limiter_rows.specs.Rows.{keyWidth, rowWidth, entryWords, limiterLayout, limiterSound};
 ghost use Rattle.gossip_limiter_rows.specs.Prune.{notFull, pruneIdle, roomFor};
 use crate::entry;
 use crate::entry::ChannelUpdateLimiterEntry;
+use crate::row::KEY_WIDTH;
+use crate::row::ROW_WIDTH;
 use crate::row::entry_at;
 use crate::row::words_of;
 use gossip_settings::channel_update::ChannelUpdateRateLimitConfig;
@@ -21,12 +23,12 @@ use gossip_settings::channel_update::ChannelUpdateRateLimitConfig;
 // Moves the row at the index `from` down to `to`, with another entry.
 fn move_with(table: &mut [u8], from: usize, to: usize, e: ChannelUpdateLimiterEntry)
     requires { ⌜ to ≤ from ⌝ }
-    requires { ⌜ 94 * (from + 1) ≤ length (now table) ⌝ }
-    ensures { λ _. ⌜ now (table .exit) ≡ put (now (table .entry)) (94 * to) (part (now (table .entry)) (94 * from) 70 ++ wordBytes (entryWords e)) ⌝ }
+    requires { ⌜ rowWidth * (from + 1) ≤ length (now table) ⌝ }
+    ensures { λ _. ⌜ now (table .exit) ≡ put (now (table .entry)) (rowWidth * to) (part (now (table .entry)) (rowWidth * from) keyWidth ++ wordBytes (entryWords e)) ⌝ }
 {
     let words = words_of(e);
-    table::rows::keep_row(table, 94, from, to);
-    table::rows::put_words(table, 94 * to + 70, &words);
+    table::rows::keep_row(table, ROW_WIDTH, from, to);
+    table::rows::put_words(table, ROW_WIDTH * to + KEY_WIDTH, &words);
 }
 
 // One step of the walk that keeps rows: the row at the index `from` is refilled and moves down to `to`, unless its bucket is then
@@ -39,11 +41,11 @@ fn keep_busy(
     now_ms: u64,
 ) -> usize
     requires { ⌜ to ≤ from ⌝ }
-    requires { ⌜ 94 * (from + 1) ≤ length (now table) ⌝ }
-    requires { ⌜ limiterSound config (rowOf limiterLayout (part (now table) (94 * from) 94)) ≡ true ⌝ }
-    ensures { λ r. ⌜ (now (table .exit) ≡ cond (notFull config (rewritten limiterLayout (refilledBy config «now_ms») (now (table .entry)) from)) (put (now (table .entry)) (94 * to) (rowBytes limiterLayout (rewritten limiterLayout (refilledBy config «now_ms») (now (table .entry)) from))) (now (table .entry))) × (r ≡ cond (notFull config (rewritten limiterLayout (refilledBy config «now_ms») (now (table .entry)) from)) (to + 1) to) ⌝ }
+    requires { ⌜ rowWidth * (from + 1) ≤ length (now table) ⌝ }
+    requires { ⌜ limiterSound config (rowAt limiterLayout (now table) from) ≡ true ⌝ }
+    ensures { λ r. ⌜ RewritingStep limiterLayout (notFull config) (refilledBy config «now_ms») (now (table .entry)) (now (table .exit)) from to r ⌝ }
 {
-    let found = entry_at(table, 94 * from);
+    let found = entry_at(table, ROW_WIDTH * from);
     let e = entry::refilled(config, found, now_ms);
     if entry::is_full(config, e) {
         return to;
@@ -59,9 +61,9 @@ fn gather_busy(
     config: ChannelUpdateRateLimitConfig,
     now_ms: u64,
 ) -> usize
-    requires { ⌜ 94 * count ≤ length (now table) ⌝ }
+    requires { ⌜ rowWidth * count ≤ length (now table) ⌝ }
     requires { ⌜ every (limiterSound config) (rows limiterLayout (now table) count) ≡ true ⌝ }
-    ensures { λ r. ⌜ (now (table .exit) ≡ put (now (table .entry)) 0 (tableBytes limiterLayout (pruneIdle config «now_ms» (rows limiterLayout (now (table .entry)) count)))) × (r ≡ length (pruneIdle config «now_ms» (rows limiterLayout (now (table .entry)) count))) ⌝ }
+    ensures { λ r. ⌜ Gathered limiterLayout (now (table .entry)) (now (table .exit)) r (pruneIdle config «now_ms» (rows limiterLayout (now (table .entry)) count)) ⌝ }
 {
     let mut kept: usize = 0;
     let mut i: usize = 0;
@@ -79,12 +81,12 @@ fn prune_idle(
     config: ChannelUpdateRateLimitConfig,
     now_ms: u64,
 ) -> usize
-    requires { ⌜ 94 * count ≤ length (now table) ⌝ }
+    requires { ⌜ rowWidth * count ≤ length (now table) ⌝ }
     requires { ⌜ every (limiterSound config) (rows limiterLayout (now table) count) ≡ true ⌝ }
     ensures { λ r. ⌜ Counted limiterLayout (now (table .entry)) (now (table .exit)) count r (pruneIdle config «now_ms» (rows limiterLayout (now (table .entry)) count)) ⌝ }
 {
     let kept = gather_busy(table, count, config, now_ms);
-    table::rows::zero_rows(table, 94, kept, count - kept);
+    table::rows::zero_rows(table, ROW_WIDTH, kept, count - kept);
     kept
 }
 
@@ -96,7 +98,7 @@ pub fn make_room(
     config: ChannelUpdateRateLimitConfig,
     now_ms: u64,
 ) -> usize
-    requires { ⌜ 94 * count ≤ length (now table) ⌝ }
+    requires { ⌜ rowWidth * count ≤ length (now table) ⌝ }
     requires { ⌜ every (limiterSound config) (rows limiterLayout (now table) count) ≡ true ⌝ }
     ensures { λ r. ⌜ Counted limiterLayout (now (table .entry)) (now (table .exit)) count r (roomFor limit config «now_ms» (rows limiterLayout (now (table .entry)) count)) ⌝ }
 {

@@ -6,7 +6,8 @@ ghost use Rattle.pubkey.specs.Order.{limiterKeyBytes};
 ghost use Rattle.table.specs.Table.{every};
 ghost use Rattle.table.specs.Private.{seek};
 ghost use Rattle.table.specs.Memory.{rows};
-ghost use Rattle.gossip_limiter_rows.specs.Rows.{limiterLayout, limiterSound};
+ghost use Rattle.gossip_limiter_rows.specs.Rows.{rowWidth, limiterLayout, limiterSound};
+use crate::row::ROW_WIDTH;
 use crate::row::is_sound_at;
 use gossip_settings::channel_update::ChannelUpdateRateLimitConfig;
 use pubkey::ChannelUpdateLimiterKey;
@@ -14,12 +15,12 @@ use table::seek::Seek;
 
 // Whether each row keeps its rule.
 fn rules_kept(table: &[u8], count: usize, config: ChannelUpdateRateLimitConfig) -> bool
-    requires { ⌜ 94 * count ≤ length (now table) ⌝ }
+    requires { ⌜ rowWidth * count ≤ length (now table) ⌝ }
     ensures { λ r. ⌜ r ≡ every (limiterSound config) (rows limiterLayout (now (table .entry)) count) ⌝ }
 {
     let mut i: usize = 0;
     while i < count {
-        if !is_sound_at(table, 94 * i, config) {
+        if !is_sound_at(table, ROW_WIDTH * i, config) {
             return false;
         }
         i += 1;
@@ -34,12 +35,12 @@ pub fn sought(
     config: ChannelUpdateRateLimitConfig,
     key: ChannelUpdateLimiterKey,
 ) -> Seek
-    requires { ⌜ 94 * count ≤ length (now table) ⌝ }
+    requires { ⌜ rowWidth * count ≤ length (now table) ⌝ }
     ensures { λ r. ⌜ r ≡ seek (limiterSound config) (limiterKeyBytes key) (rows limiterLayout (now (table .entry)) count) ⌝ }
 {
     if !rules_kept(table, count, config) {
         return Seek::Unsound;
     }
     let bytes = key.bytes();
-    keyed_rows::find::find(table, 94, count, &bytes)
+    keyed_rows::find::find(table, ROW_WIDTH, count, &bytes)
 }

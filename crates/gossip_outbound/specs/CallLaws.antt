@@ -10,7 +10,7 @@ use Rattle.refusal.specs.Refusal.{unsound, noRow}
 use Rattle.table.specs.declared.seek.Seek.{Seek}
 use Rattle.table.specs.Table.{look, erase}
 use Rattle.table.specs.Outcome.{become, Outcome, Meets}
-use Rattle.table_laws.specs.StoreLaws.{Counted}
+use Rattle.table_laws.specs.Private.{Counted}
 use Rattle.bucket_terms.specs.declared.answer.Told.{Told}
 use Rattle.bucket_terms.specs.declared.answer.Told.the-variants as Told
 use Rattle.bucket_terms.specs.declared.answer.Delay.{Delay}

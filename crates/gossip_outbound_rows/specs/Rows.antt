@@ -11,6 +11,18 @@ use Rattle.bucket_terms.specs.declared.limit.ByteRateLimitConfig.{ByteRateLimit
 use Rattle.gossip_outbound_rows.specs.declared.entry.OutboundEntry.{OutboundEntry}
 use Rattle.gossip_outbound_rows.specs.Entry.{outboundEntry, entrySound}
 
+-- ════ Widths, in bytes ════
+
+-- of a key
+abbrev pub keyWidth : ℕ
+keyWidth = 33
+
+-- of a row: its key, and four numbers of eight bytes behind it
+abbrev pub rowWidth : ℕ
+rowWidth = 65
+
+-- ════ A row ════
+
 -- the four numbers of an entry, in the order of the row
 abbrev pub entryWords : OutboundEntry → List ℕ
 entryWords e = e .sign ∷ e .low ∷ e .high ∷ e .«last_refill_ms» ∷ []
@@ -24,9 +36,9 @@ outboundNumbers =
       ofWords = λ ws. outboundEntry (getD ws 0 0) (getD ws 1 0) (getD ws 2 0) (getD ws 3 0);
     }
 
--- a row: a key of 33 bytes and four numbers, 65 bytes
+-- how a row stands in bytes
 abbrev pub outboundLayout : Layout OutboundEntry
-outboundLayout = wordLayout 33 65 outboundNumbers
+outboundLayout = wordLayout keyWidth rowWidth outboundNumbers
 
 -- the rows of the peers, each by its key
 abbrev pub Buckets : Type 0

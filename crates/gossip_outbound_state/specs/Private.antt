@@ -13,14 +13,14 @@ use Rattle.bucket_bytes.specs.declared.bytes.ByteTokenBucket.{ByteTokenBucket}
 use Rattle.bucket_bytes.specs.ByteBucket.{byteSound}
 use Rattle.gossip_outbound_rows.specs.Rows.{outboundLayout, outboundSound}
 use Rattle.gossip_outbound_state.specs.declared.state.Outbound.{Outbound}
-use Rattle.gossip_outbound_state.specs.State.{rowsOf, ownSound, sound, bucketOrFresh}
+use Rattle.gossip_outbound_state.specs.State.{maxRows, rowsOf, ownSound, sound, bucketOrFresh}
 use Rattle.table.specs.declared.seek.Seek.the-variants.{Unsound, At, Gap}
 use Rattle.table.specs.Table.{look}
 use Rattle.table.specs.Private.{placeFrom}
 
 -- what every call begins with: unsound, or the place of a key, or the gap where it would stand
 abbrev pub soughtIn : Outbound → List ℕ → List ℕ → Seek
-soughtIn o s k = lentSought outboundLayout (outboundSound (o .«peer_outbound_config»)) (ownSound o) 1024 s (o .rows) k
+soughtIn o s k = lentSought outboundLayout (outboundSound (o .«peer_outbound_config»)) (ownSound o) maxRows s (o .rows) k
 
 -- whether the answer to a question is yes
 abbrev pub isToldYes : Told → Bool
@@ -34,11 +34,11 @@ isUnsound Unsound = true
 isUnsound (At i) = false
 isUnsound (Gap i) = false
 
--- by what was found: whether a row would have to be made and all 1,024 are taken
+-- by what was found: whether a row would have to be made and all are taken
 abbrev pub fullAt : ℕ → Seek → Bool
 fullAt n Unsound = false
 fullAt n (At i) = false
-fullAt n (Gap i) = leb 1024 n
+fullAt n (Gap i) = leb maxRows n
 
 -- a sound state and memory, and where a key stands or would stand
 pub record Placed (o : Outbound) (s k : List ℕ) (found : Seek) : Type 0 where

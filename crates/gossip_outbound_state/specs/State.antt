@@ -23,19 +23,23 @@ use Rattle.gossip_outbound_state.specs.declared.state.Outbound.{Outbound
 use Rattle.gossip_outbound_state.specs.declared.charge.Charged.{Charged}
 use Rattle.gossip_outbound_state.specs.declared.charge.Promised.{Promised}
 
+-- how many rows there are at most, one a peer
+abbrev pub maxRows : ℕ
+maxRows = 1024
+
 -- the rows that a state has in lent memory
 abbrev pub rowsOf : Outbound → List ℕ → Buckets
 rowsOf o s = rows outboundLayout s (o .rows)
 
 -- ════ Soundness ════
 
--- the record's own rules: rows within 1,024, and a global bucket that is sound
+-- the record's own rules: no more rows than the most, and a global bucket that is sound
 unfoldable pub ownSound : Outbound → Bool
-ownSound o = leb (o .rows) 1024 && byteSound (o .«global_outbound»)
+ownSound o = leb (o .rows) maxRows && byteSound (o .«global_outbound»)
 
 -- a state and the memory lent to it
 abbrev pub sound : Outbound → List ℕ → Bool
-sound o s = lentSound outboundLayout (outboundSound (o .«peer_outbound_config»)) (ownSound o) 1024 s (o .rows)
+sound o s = lentSound outboundLayout (outboundSound (o .«peer_outbound_config»)) (ownSound o) maxRows s (o .rows)
 
 -- ════ A peer's bucket ════
 
@@ -44,9 +48,9 @@ abbrev pub bucketOrFresh : ByteRateLimitConfig → Option OutboundEntry → Byte
 bucketOrFresh c none = byteNew c
 bucketOrFresh c (some e) = bucketOf c e
 
--- whether a row would have to be made and all 1,024 are taken
+-- whether a row would have to be made and all are taken
 abbrev pub full : ℕ → Option OutboundEntry → Bool
-full n none = leb 1024 n
+full n none = leb maxRows n
 full n (some e) = false
 
 -- ════ Two buckets ════

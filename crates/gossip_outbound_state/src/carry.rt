@@ -2,7 +2,7 @@
 ghost use mathlib.Core.Path.{_≡_};
 ghost use mathlib.Core.Bool.{false};
 ghost use Rattle.table.specs.Table.{look, store, erase};
-ghost use Rattle.table_laws.specs.StoreLaws.{Counted};
+ghost use Rattle.table_laws.specs.Private.{Counted};
 ghost use Rattle.gossip_outbound_rows.specs.Entry.{entryOf};
 ghost use Rattle.gossip_outbound_rows.specs.Rows.{outboundLayout};
 ghost use Rattle.gossip_outbound_state.specs.State.{rowsOf, outboundWith, peerDelay, peerDebt};
@@ -12,6 +12,7 @@ use crate::state::Outbound;
 use bucket_bytes::bytes::ByteTokenBucket;
 use gossip_outbound_rows::entry;
 use gossip_outbound_rows::place;
+use gossip_outbound_rows::row::ROW_WIDTH;
 use gossip_outbound_rows::row::entry_at;
 use pubkey::Pubkey;
 use table::seek::Seek;
@@ -24,7 +25,7 @@ pub fn peer_bucket(o: Outbound, table: &[u8], peer: Pubkey, found: Seek) -> Byte
     let config = o.peer_outbound_config;
     match found {
         Seek::At(index) => {
-            let e = entry_at(table, 65 * index);
+            let e = entry_at(table, ROW_WIDTH * index);
             entry::bucket_of(config, e)
         }
         Seek::Gap(_) => ByteTokenBucket::new(config),
@@ -48,7 +49,7 @@ pub fn peer_delay(
     let config = o.peer_outbound_config;
     match found {
         Seek::At(index) => {
-            let e = entry_at(table, 65 * index);
+            let e = entry_at(table, ROW_WIDTH * index);
             charge::delay_of(entry::bucket_of(config, e), bytes, now_ms)
         }
         Seek::Gap(_) => 0,
@@ -64,7 +65,7 @@ pub fn peer_debt(o: Outbound, table: &[u8], peer: Pubkey, found: Seek, now_ms: u
     let config = o.peer_outbound_config;
     match found {
         Seek::At(index) => {
-            let e = entry_at(table, 65 * index);
+            let e = entry_at(table, ROW_WIDTH * index);
             charge::in_debt(entry::bucket_of(config, e), now_ms)
         }
         Seek::Gap(_) => false,

@@ -25,7 +25,7 @@ pub fn sought(o: Outbound, table: &[u8], peer: Pubkey) -> Seek
     if !is_sound(o) {
         return Seek::Unsound;
     }
-    if table.len() < 66_560 {
+    if table.len() < Outbound::TABLE_BYTES {
         return Seek::Unsound;
     }
     let config = o.peer_outbound_config;

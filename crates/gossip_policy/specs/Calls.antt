@@ -13,11 +13,13 @@ use Rattle.table.specs.Outcome.{same, become, Outcome, Meets}
 use Rattle.table_laws.specs.Lent.{longEnough}
 use Rattle.gossip_settings.specs.declared.policy.GossipPolicyConfig.{GossipPolicyConfig}
 use Rattle.gossip_settings.specs.declared.violation.GossipViolation.{GossipViolation}
+use Rattle.gossip_settings.specs.Settings.{maxTrackedPeers}
 use Rattle.gossip_ban_rows.specs.Rows.{banLayout}
 use Rattle.gossip_bans.specs.declared.answer.BanTold.{BanTold}
 use Rattle.gossip_bans.specs.declared.answer.BanPruned.{BanPruned}
 use Rattle.gossip_bans.specs.Calls as bans
 use Rattle.gossip_outbound_rows.specs.Rows.{outboundLayout}
+use Rattle.gossip_outbound_state.specs.State.{maxRows}
 use Rattle.gossip_outbound.specs.declared.answer.OutboundTold.{OutboundTold}
 use Rattle.gossip_outbound.specs.declared.answer.OutboundReserved.{OutboundReserved}
 use Rattle.gossip_outbound.specs.declared.answer.OutboundSettled.{OutboundSettled}
@@ -77,9 +79,9 @@ outboundSettled s a = record { state = withOutbound s (a .outbound); answer = a 
 
 -- ════ Making ════
 
--- both tables have room for 1,024 rows
+-- both tables have room for the most rows that there are
 abbrev pub bothLong : List ℕ → List ℕ → Bool
-bothLong bans outbound = longEnough banLayout 1024 bans && longEnough outboundLayout 1024 outbound
+bothLong bans outbound = longEnough banLayout maxTrackedPeers bans && longEnough outboundLayout maxRows outbound
 
 abbrev pub settled : GossipPolicyState → Settled → GossipSettled
 settled s answer = record { state = s; answer = answer }
@@ -93,8 +95,8 @@ newOutcome c bans outbound =
 -- every place of both tables is zeroed, and the bytes further on stay
 unfoldable pub NewMeets : GossipPolicyConfig → List ℕ → List ℕ → GossipSettled → List ℕ → List ℕ → Type 0
 NewMeets c bans outbound r bans' outbound' =
-    Meets banLayout r bans bans' 1024 (newOutcome c bans outbound)
-    × Meets outboundLayout r outbound outbound' 1024 (newOutcome c bans outbound)
+    Meets banLayout r bans bans' maxTrackedPeers (newOutcome c bans outbound)
+    × Meets outboundLayout r outbound outbound' maxRows (newOutcome c bans outbound)
 
 -- ════ Bans ════
 

@@ -17,6 +17,7 @@ use bucket_terms::limit::ByteRateLimitConfig;
 use gossip_bans::tracker::GossipBanTracker;
 use gossip_outbound::answer::Settled;
 use gossip_outbound::calls;
+use gossip_settings::ban::GossipBanConfig;
 use gossip_settings::policy::GossipPolicyConfig;
 use gossip_settings::violation::GossipViolation;
 use pubkey::Pubkey;
@@ -42,10 +43,12 @@ fn capacity_of(config: ByteRateLimitConfig) -> DelayedByteCapacity
 }
 
 impl GossipPolicyState {
-    // How many bytes each table has at least: 1,024 rows of 65.
-    pub const TABLE_BYTES: usize = 66_560;
+    // How many rows each table has at least, one a peer, and how many bytes: in both tables a row has as many.
+    pub const TABLE_ROWS: usize = GossipBanConfig::MAX_TRACKED_PEERS as usize;
 
-    // A state without a row. Both tables are judged before the first 66,560 bytes of each are zeroed. Refused with 1 where one is shorter.
+    pub const TABLE_BYTES: usize = gossip_ban_rows::row::ROW_WIDTH * GossipPolicyState::TABLE_ROWS;
+
+    // A state without a row. Both tables are judged before the rows of each are zeroed. Refused with 1 where one is shorter.
     pub fn new(
         config: GossipPolicyConfig,
         ban_table: &mut [u8],
@@ -66,8 +69,14 @@ impl GossipPolicyState {
                 answer: Settled::Refused(refusal::TOO_SHORT),
             };
         }
-        table::rows::zero_rows(ban_table, 65, 0, 1_024);
-        table::rows::zero_rows(outbound_table, 65, 0, 1_024);
+        let rows = GossipPolicyState::TABLE_ROWS;
+        table::rows::zero_rows(ban_table, gossip_ban_rows::row::ROW_WIDTH, 0, rows);
+        table::rows::zero_rows(
+            outbound_table,
+            gossip_outbound_rows::row::ROW_WIDTH,
+            0,
+            rows,
+        );
         GossipSettled {
             state,
             answer: Settled::Done,

@@ -17,7 +17,7 @@ banDefault = record { «threshold» = 100; «duration_ms» = 600000 }
 abbrev pub gossipBanDisabled : GossipBanConfig → Bool
 gossipBanDisabled c = eqb (c .«threshold») 0 || eqb (c .«duration_ms») 0
 
--- how many peers a tracker follows whose maker names no limit (50,000 in the Rust)
+-- how many peers a tracker follows at most, and where its maker names no limit (50,000 in the Rust, where it names none)
 abbrev pub maxTrackedPeers : ℕ
 maxTrackedPeers = 1024
 
@@ -29,7 +29,7 @@ channelUpdateDefault = record { «interval_ms» = 60000; «burst» = 10 }
 abbrev pub channelUpdateDisabled : ChannelUpdateRateLimitConfig → Bool
 channelUpdateDisabled c = eqb (c .«interval_ms») 0 || eqb (c .«burst») 0
 
--- how many keys a limiter follows whose maker names no limit (50,000 in the Rust)
+-- how many keys a limiter follows at most, and where its maker names no limit (50,000 in the Rust, where it names none)
 abbrev pub maxTrackedKeys : ℕ
 maxTrackedKeys = 1024
 

@@ -8,11 +8,12 @@ use native.Mathlib.Omega.{arith}
 use lib.ListN.{length}
 use Rattle.lent_bytes.specs.LentBytes.{part, put, Bytes}
 use Rattle.table.specs.declared.seek.Seek.the-variants.{At, Gap}
-use Rattle.table.specs.Table.{Row, store}
+use Rattle.table.specs.Table.{Row}
 use Rattle.table.specs.Private.{placeFrom}
-use Rattle.table.specs.Memory.{rows, Holds}
+use Rattle.table.specs.Memory.{rows}
 use Rattle.table.specs.MemoryLaws.{Faithful}
 use Rattle.table_laws.specs.Raw.{rawLayout}
+use Rattle.table_laws.specs.Private.{RawStored}
 use Rattle.table_laws.specs.RawLaws.{RawFits, raw-encode, raw-faithful}
 use Rattle.table_laws.specs.ChangeLaws.{overwritten, inserted, place-inside, gap-within, stored-at, stored-gap}
 
@@ -39,7 +40,7 @@ module _ (s t : List ℕ) (w n : ℕ) (k b : List ℕ) (j : ℕ) (wide : 0 < w) 
 
   -- over the row of the key
   pub stored-over : placeFrom 0 k raw ≡ At j → t ≡ put s (w * j + length k) b
-      → Holds (rawLayout (length k) w) s t n (store k b raw) × (n ≡ length (store k b raw))
+      → RawStored w s t n n k b
   stored-over h e =
       stored-at ok s t n k j b h
       (overwritten ok s t n bytes fits j b b (place-inside (rawLayout (length k) w) s n k j h) good
@@ -47,7 +48,7 @@ module _ (s t : List ℕ) (w n : ℕ) (k b : List ℕ) (j : ℕ) (wide : 0 < w) 
 
   -- into a row put in
   pub stored-into : Bytes k → placeFrom 0 k raw ≡ Gap j → t ≡ put s (w * j) ((k ++ b) ++ part s (w * j) (w * (n - j)))
-      → Holds (rawLayout (length k) w) s t n (store k b raw) × (n + 1 ≡ length (store k b raw))
+      → RawStored w s t n (n + 1) k b
   stored-into key h e =
       stored-gap ok s t n k j b h
       (inserted ok s t n bytes fits j k b b (gap-within (rawLayout (length k) w) s n k j h) refl key good

@@ -3,9 +3,8 @@
 ghost use mathlib.Core.Path.{_≡_};
 ghost use Prim.Native.Nat.{_+_, _*_, _<_, _≤_};
 ghost use lib.ListN.{length};
-ghost use Rattle.table.specs.Table.{store as stored};
-ghost use Rattle.table.specs.Memory.{wordBytes, rows, Holds};
-ghost use Rattle.table_laws.specs.Raw.{rawLayout};
+ghost use Rattle.table.specs.Memory.{wordBytes};
+ghost use Rattle.table_laws.specs.Private.{RawStored};
 use super::find::place_of;
 use table::seek::Seek;
 
@@ -14,7 +13,7 @@ use table::seek::Seek;
 pub fn store(table: &mut [u8], width: usize, count: usize, key: &[u8], words: &[u64]) -> usize
     requires { ⌜ (0 < width) × (length (now key) + 8 * length (now words) ≡ width) ⌝ }
     requires { ⌜ width * (count + 1) ≤ length (now table) ⌝ }
-    ensures { λ r. ⌜ Holds (rawLayout (length (now (key .entry))) width) (now (table .entry)) (now (table .exit)) count (stored (now (key .entry)) (wordBytes (now (words .entry))) (rows (rawLayout (length (now (key .entry))) width) (now (table .entry)) count)) × (r ≡ length (stored (now (key .entry)) (wordBytes (now (words .entry))) (rows (rawLayout (length (now (key .entry))) width) (now (table .entry)) count))) ⌝ }
+    ensures { λ r. ⌜ RawStored width (now (table .entry)) (now (table .exit)) count r (now (key .entry)) (wordBytes (now (words .entry))) ⌝ }
 {
     match place_of(table, width, count, key) {
         Seek::At(index) => {

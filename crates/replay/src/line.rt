@@ -2,12 +2,17 @@
 ghost use mathlib.Core.Path.{_≡_};
 ghost use mathlib.Core.List.{[], _∷_};
 ghost use Prim.Native.Nat.{_+_, _*_};
-ghost use Rattle.replay.specs.Line.{written, extended, thenText, truthText, amountText, refusalText};
+ghost use Rattle.replay.specs.Line.{written, extended, truthText, amountText};
+ghost use Rattle.text_pieces.specs.Text.{numberText, refusalPiece};
 ghost use Rattle.decimal.specs.Decimal.{digitsOf};
 use amount::Amount;
+use decimal::MOST_DIGITS;
+
+// How many bytes a line has room for.
+pub const LINE_SIZE: usize = 160;
 
 pub struct Line {
-    pub bytes: [u8; 160],
+    pub bytes: [u8; LINE_SIZE],
     pub used: usize,
 }
 
@@ -15,7 +20,7 @@ impl Line {
     pub fn empty() -> Line
         ensures { λ r. ⌜ written r ≡ [] ⌝ }
     {
-        let bytes = [0u8; 160];
+        let bytes = [0u8; LINE_SIZE];
         Line { bytes, used: 0 }
     }
 
@@ -23,7 +28,7 @@ impl Line {
         ensures { λ r. ⌜ written r ≡ extended (written self) (b ∷ []) ⌝ }
     {
         let at = self.used;
-        if at >= 160 {
+        if at >= LINE_SIZE {
             return self;
         }
         let mut bytes = self.bytes;
@@ -49,14 +54,14 @@ impl Line {
     pub fn decimal(self, n: u64) -> Line
         ensures { λ r. ⌜ written r ≡ extended (written self) (digitsOf n) ⌝ }
     {
-        let mut digits = [0u8; 20];
+        let mut digits = [0u8; MOST_DIGITS];
         let end = decimal::put_decimal(&mut digits, 0, n);
         self.text(&digits[..end])
     }
 
     // A number after a space.
     pub fn then(self, n: u64) -> Line
-        ensures { λ r. ⌜ written r ≡ extended (written self) (thenText n) ⌝ }
+        ensures { λ r. ⌜ written r ≡ extended (written self) (numberText n) ⌝ }
     {
         self.byte(b' ').decimal(n)
     }
@@ -82,7 +87,7 @@ impl Line {
     }
 
     pub fn refusal(self, number: u32) -> Line
-        ensures { λ r. ⌜ written r ≡ extended (written self) (refusalText number) ⌝ }
+        ensures { λ r. ⌜ written r ≡ extended (written self) (refusalPiece number) ⌝ }
     {
         self.text(b"refusal").then(number as u64)
     }

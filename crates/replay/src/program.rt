@@ -1,6 +1,8 @@
 // What a replaying program does with standard input and output: no contract says what is read and written.
+use super::line::LINE_SIZE;
 use super::line::Line;
 use super::record;
+use super::record::RECORD_SIZE;
 use super::record::Record;
 use standard::Input;
 
@@ -12,7 +14,7 @@ pub enum Next {
 }
 
 pub fn next_record() -> Next {
-    let mut bytes = [0u8; 64];
+    let mut bytes = [0u8; RECORD_SIZE];
     let input = standard::read(&mut bytes);
     match input {
         Input::Failed => Next::End,
@@ -20,7 +22,7 @@ pub fn next_record() -> Next {
             if count == 0 {
                 return Next::End;
             }
-            if count < 64 {
+            if count < RECORD_SIZE {
                 return Next::Cut;
             }
             Next::Whole(record::decoded(&bytes))
@@ -33,7 +35,7 @@ pub fn print(line: Line) -> bool {
     let ended = line.byte(b'\n');
     let bytes = ended.bytes;
     let used = ended.used;
-    if used > 160 {
+    if used > LINE_SIZE {
         return false;
     }
     standard::write(&bytes[..used])

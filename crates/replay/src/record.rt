@@ -8,6 +8,9 @@ use amount::Amount;
 use lent_bytes::number::get_u64;
 use lent_bytes::number::put_u64;
 
+// Eight words of eight bytes.
+pub const RECORD_SIZE: usize = 64;
+
 pub struct Record {
     pub operation: u64,
     pub first: u64,
@@ -19,7 +22,7 @@ pub struct Record {
     pub seventh: u64,
 }
 
-pub fn decoded(bytes: &[u8; 64]) -> Record
+pub fn decoded(bytes: &[u8; RECORD_SIZE]) -> Record
     ensures { λ r. ⌜ r ≡ recordOf (now (bytes .entry)) ⌝ }
 {
     Record {

@@ -26,17 +26,17 @@ fn main() {
     run(&mut first, &mut second);
 }
 
-// A proved loop has to end, and nothing says that the input does: so turns are counted down from a number that no run uses up.
+// A proved loop has to end, and nothing says that the input does: so rounds are counted down from a number that no run uses up.
 fn run(first: &mut [u8], second: &mut [u8]) {
     let mut held = Held::lending(0, 0);
-    let mut turns = u64::MAX;
-    while turns > 0 {
+    let mut rounds = u64::MAX;
+    while rounds > 0 {
         let progress = answer_next(held, first, second);
         if !progress.more {
             return;
         }
         held = progress.held;
-        turns -= 1;
+        rounds -= 1;
     }
 }
 

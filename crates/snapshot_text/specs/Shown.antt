@@ -3,7 +3,7 @@
 -- A line for each number with its name, then the rows as a table; or one line with the refusal that reading the snapshot comes to.
 use mathlib.Core.Bool.{cond}
 use mathlib.Core.List.{List, [], _∷_, _++_, map, flatten}
-use Prim.Native.Nat.{ℕ, _-_}
+use Prim.Native.Nat.{ℕ, _+_, _-_}
 use lib.Dec.{ltb}
 use lib.ListN.{length, getD, drop}
 use Rattle.lent_bytes.specs.LentBytes.{zeros}
@@ -17,6 +17,7 @@ use Rattle.peer_message_policy.specs.declared.answer.Made.the-variants as Made
 use Rattle.peer_message_policy.specs.Policy.{rowsOf}
 use Rattle.snapshot.specs.Form.{first, rowsPlace}
 use Rattle.snapshot.specs.Snapshot.{policyIn}
+use Rattle.decimal.specs.Ascii.{newline}
 use Rattle.text_pieces.specs.Text.{blanks, columnText, columnsText, hexText, refusalText}
 use Rattle.snapshot_text.specs.declared.line.ShownLine.{ShownLine}
 use Rattle.snapshot_text.specs.Words.{
@@ -70,9 +71,13 @@ fieldsOf p =
     ∷ field rowsName (p .rows)
     ∷ []
 
--- a name, and the number so that it ends at the 52nd place: a name has at most 31 places, a number 20
+-- the place that the number of a named line ends at, without the blank before it: a name has at most 31 places, a number 20
+abbrev pub numbersEnd : ℕ
+numbersEnd = 51
+
+-- a name, and the number so that all such lines end alike
 unfoldable pub fieldText : List ℕ → ℕ → List ℕ
-fieldText name number = name ++ (columnText (51 - length name) number ++ (10 ∷ []))
+fieldText name number = name ++ (columnText (numbersEnd - length name) number ++ (newline ∷ []))
 
 abbrev pub fieldTextOf : Field → List ℕ
 fieldTextOf f = fieldText (f .name) (f .number)
@@ -83,14 +88,21 @@ fieldLine p index = fieldTextOf (getD (fieldsOf p) index (field [] 0))
 
 -- ════ The rows ════
 
--- the head of a number's column: as the numbers, a blank and 13 places
-abbrev pub columnHead : List ℕ → List ℕ
-columnHead word = blanks (14 - length word) ++ word
+-- how many places a row's number has, and a key: two digits for each of its 33 bytes
+abbrev pub rowColumn : ℕ
+rowColumn = 13
 
--- the heads: the key has 66 places
+abbrev pub keyPlaces : ℕ
+keyPlaces = 66
+
+-- the head of a number's column: as the numbers, with a blank before it
+abbrev pub columnHead : List ℕ → List ℕ
+columnHead word = blanks ((1 + rowColumn) - length word) ++ word
+
+-- the heads
 unfoldable pub headText : List ℕ
 headText =
-    (keyHead ++ blanks (66 - length keyHead))
+    (keyHead ++ blanks (keyPlaces - length keyHead))
     ++ flatten
     (columnHead messagesHead
     ∷ columnHead refilledHead
@@ -103,12 +115,12 @@ headText =
     ∷ columnHead banHead
     ∷ columnHead untilHead
     ∷ columnHead lastUsedHead
-    ∷ (10 ∷ [])
+    ∷ (newline ∷ [])
     ∷ [])
 
 -- a row: its key in hex digits, and its eleven numbers
 unfoldable pub rowText : List ℕ → PeerMessagePolicyEntry → List ℕ
-rowText key e = hexText key ++ (columnsText 13 (entryWords e) ++ (10 ∷ []))
+rowText key e = hexText key ++ (columnsText rowColumn (entryWords e) ++ (newline ∷ []))
 
 abbrev pub rowLine : Row PeerMessagePolicyEntry → List ℕ
 rowLine r = rowText (r .key) (r .entry)
@@ -147,6 +159,10 @@ shownText z = flatten (shownLines z)
 
 -- ════ Lines ════
 
--- a text as a line of 300 bytes, the unused ones zero
+-- how many bytes a line is written in: the longest, a row's, has 298
+abbrev pub lineSize : ℕ
+lineSize = 300
+
+-- a text as a line, the unused bytes zero
 abbrev pub lineOf : List ℕ → ShownLine
-lineOf text = record { bytes = text ++ zeros (300 - length text); length = length text }
+lineOf text = record { bytes = text ++ zeros (lineSize - length text); length = length text }

@@ -3,7 +3,9 @@ ghost use mathlib.Core.Path.{_≡_};
 ghost use Prim.Native.Nat.{_<_, _≤_};
 ghost use lib.ListN.{length};
 ghost use Rattle.text_pieces.specs.Text.{refusalText};
+ghost use Rattle.snapshot_text.specs.Words.{rateName};
 ghost use Rattle.snapshot_text.specs.Shown.{lineOf, fieldText, fieldLine, headText, rowText};
+ghost use Rattle.snapshot_text.specs.Scan.{numbers};
 use peer_message_policy::policy::PeerMessagePolicy;
 use snapshot_reader::row::SnapshotRow;
 use text_pieces::column::put_column;
@@ -38,9 +40,9 @@ pub(crate) fn refusal_line(number: u32) -> ShownLine
     }
 }
 
-// A name, and its number so that all such lines end alike.
+// A name, and its number so that all such lines end alike. None is longer than `peer_message_rate_bytes_per_sec`.
 fn field_line(name: &[u8], number: u64) -> ShownLine
-    requires { ⌜ length (now name) ≤ 31 ⌝ }
+    requires { ⌜ length (now name) ≤ length rateName ⌝ }
     ensures { λ r. ⌜ r ≡ lineOf (fieldText (now (name .entry)) number) ⌝ }
 {
     let mut out = [0u8; LINE_SIZE];
@@ -56,7 +58,7 @@ fn field_line(name: &[u8], number: u64) -> ShownLine
 
 // The named number at this index: nine settings in their order, the load in flight, the rows.
 pub(crate) fn number_line(policy: PeerMessagePolicy, index: usize) -> ShownLine
-    requires { ⌜ index < 12 ⌝ }
+    requires { ⌜ index < numbers ⌝ }
     ensures { λ r. ⌜ r ≡ lineOf (fieldLine policy index) ⌝ }
 {
     let config = policy.config;

@@ -1,7 +1,7 @@
 // A snapshot shown line by line: judged once, then one line a call.
 ghost use mathlib.Core.Path.{_≡_};
 ghost use Prim.Native.Nat.{_≤_};
-ghost use Rattle.snapshot_text.specs.Scan.{begun, following, rowHanded, ended, refusedNext, policyNext, nextOf, OpenMeets};
+ghost use Rattle.snapshot_text.specs.Scan.{begun, following, rowHanded, ended, numbers, refusedNext, policyNext, nextOf, OpenMeets};
 use super::line::LINE_SIZE;
 use super::line::ShownLine;
 use super::line::head_line;
@@ -59,7 +59,7 @@ pub fn open(input: &[u8], table: &mut [u8]) -> Scan
 
 // A line before the rows, and the scan behind it.
 fn following(made: Made, line: usize, at: usize, text: ShownLine) -> Handed
-    requires { ⌜ line ≤ 12 ⌝ }
+    requires { ⌜ line ≤ numbers ⌝ }
     ensures { λ r. ⌜ r ≡ following made line at text ⌝ }
 {
     Handed {

@@ -21,6 +21,7 @@ use Rattle.table.specs.MemoryLaws.{put-remove, put-remove-run, put-insert, put-
 use Rattle.table_laws.specs.Raw.{rawLayout, mapEntries}
 use Rattle.table_laws.specs.RawLaws.{length-map, store-map, rawRows, rows-raw, holds-raw}
 use Rattle.table_laws.specs.WalkLaws.{row-in}
+use Rattle.table_laws.specs.Private.{Counted, RawStored}
 
 -- memory that holds rows, by an equation of the rows
 pub holds-same : {A : Type 0} {L : Layout A} {s t : List ℕ} {n : ℕ} {rs qs : List (Row A)} → rs ≡ qs → Holds L s t n rs → Holds L s t n qs
@@ -112,13 +113,13 @@ module _ {A : Type 0} {L : Layout A} {Good : A → Type 0} (ok : Faithful L Good
 
   -- a store over the row of the key
   pub stored-at : (e : A) → placeFrom 0 k (rows L s n) ≡ At j → Holds L s t n (over L s n j e)
-      → Holds L s t n (store k e (rows L s n)) × (n ≡ length (store k e (rows L s n)))
+      → Counted L s t n n (store k e (rows L s n))
   stored-at e h held =
       (holds-same (over-store e h) held, sym (at-length-store k (rows L s n) h e ∙ length-rows L s n))
 
   -- a store into a row put in
   pub stored-gap : (e : A) → placeFrom 0 k (rows L s n) ≡ Gap j → Holds L s t n (insertAt j (rowUnder k e) (rows L s n))
-      → Holds L s t n (store k e (rows L s n)) × (n + 1 ≡ length (store k e (rows L s n)))
+      → Counted L s t n (n + 1) (store k e (rows L s n))
   stored-gap e h held = (
     holds-same (sym (gap-store k (rows L s n) h e)) held,
     sym (gap-length-store k (rows L s n) h e ∙ ap (λ (m : ℕ). m + 1) (length-rows L s n)),
@@ -126,7 +127,7 @@ module _ {A : Type 0} {L : Layout A} {Good : A → Type 0} (ok : Faithful L Good
 
   -- the row of the key taken out is an erase
   pub erased-at : placeFrom 0 k (rows L s n) ≡ At j → Holds L s t n (removeAt j (rows L s n))
-      → Holds L s t n (erase k (rows L s n)) × (n - 1 ≡ length (erase k (rows L s n)))
+      → Counted L s t n (n - 1) (erase k (rows L s n))
   erased-at h held = (
     holds-same (sym (at-erase k (rows L s n) h)) held,
     omega (arith, at-length-erase k (rows L s n) h, length-rows L s n),
@@ -167,8 +168,8 @@ length-store-most {A} k e rs = by (look k rs) refl
 -- a store among raw rows, of an entry's bytes, is a store of the entry among the rows
 module _ {A : Type 0} {L : Layout A} {Good : A → Type 0} (ok : Faithful L Good) (s t : List ℕ) (n m : ℕ) (k : List ℕ) (e : A) (bytes : List ℕ) where
   stored-raw : Bytes t → L .width * (n + 1) ≤ length t → Good e → bytes ≡ L .encode e
-      → Holds (rawLayout (L .keyWidth) (L .width)) s t n (store k bytes (rawRows L s n)) × (m ≡ length (store k bytes (rawRows L s n)))
-      → Holds L s t n (store k e (rows L s n)) × (m ≡ length (store k e (rows L s n)))
+      → Counted (rawLayout (L .keyWidth) (L .width)) s t n m (store k bytes (rawRows L s n))
+      → Counted L s t n m (store k e (rows L s n))
   stored-raw b room good same held =
       let raw : List (Row (List ℕ)) = rawRows L s n in
       let most : length (store k bytes raw) ≤ n + 1 =
@@ -184,12 +185,9 @@ module _ {A : Type 0} {L : Layout A} {Good : A → Type 0} (ok : Faithful L Good
 
   -- the same of `keyed_rows::change::store`, which takes the keys' width from the key
   pub stored-under : Bytes t → L .width * (n + 1) ≤ length t → Good e → bytes ≡ L .encode e → length k ≡ L .keyWidth
-      → Holds (rawLayout (length k) (L .width)) s t n (store k bytes (rows (rawLayout (length k) (L .width)) s n))
-      × (m ≡ length (store k bytes (rows (rawLayout (length k) (L .width)) s n)))
-      → Holds L s t n (store k e (rows L s n)) × (m ≡ length (store k e (rows L s n)))
+      → RawStored (L .width) s t n m k bytes → Counted L s t n m (store k e (rows L s n))
   stored-under b room good same long held =
       stored-raw b room good same
       (subst
-      (λ (w : ℕ). Holds (rawLayout w (L .width)) s t n (store k bytes (rows (rawLayout w (L .width)) s n))
-      × (m ≡ length (store k bytes (rows (rawLayout w (L .width)) s n))))
+      (λ (w : ℕ). Counted (rawLayout w (L .width)) s t n m (store k bytes (rows (rawLayout w (L .width)) s n)))
       long held)

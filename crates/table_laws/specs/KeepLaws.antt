@@ -20,6 +20,7 @@ use Rattle.table.specs.MemoryLaws.{fit-rows, fit-take, fit-retain, part-kept, p
 use Rattle.table_laws.specs.Raw.{mapRow, mapEntries}
 use Rattle.table_laws.specs.RawLaws.{length-map}
 use Rattle.table_laws.specs.WalkLaws.{row-in}
+use Rattle.table_laws.specs.Private.{Gathered, rewritten}
 
 -- ════ The walk over any rows ════
 
@@ -89,8 +90,7 @@ module _ {A : Type 0} {L : Layout A} {Good : A → Type 0} (ok : Faithful L Good
         })
 
   -- the walk has ended: all rows have been tried
-  pub kept-ends : {i k : ℕ} {t : List ℕ} → length qs ≤ i → KeptSo L test s qs i t k
-      → (t ≡ put s 0 (tableBytes L (retain test qs))) × (k ≡ length (retain test qs))
+  pub kept-ends : {i k : ℕ} {t : List ℕ} → length qs ≤ i → KeptSo L test s qs i t k → Gathered L s t k (retain test qs)
   kept-ends {i} h so =
       let all : retain test (take i qs) ≡ retain test qs = retain-ends test qs i h in
       (so .memory ∙ ap (λ (rs : List (Row A)). put s 0 (tableBytes L rs)) all, so .count ∙ ap length all)
@@ -114,10 +114,6 @@ unfolding mapEntries
 getD-map f [] i d = refl
 getD-map f (r ∷ rs) zero d = refl
 getD-map f (r ∷ rs) (suc i) d = getD-map f rs i d
-
--- the row at the i-th place of memory, its entry rewritten
-abbrev pub rewritten : {A : Type 0} → Layout A → (A → A) → List ℕ → ℕ → Row A
-rewritten L f t i = mapRow f (rowOf L (part t (L .width * i) (L .width)))
 
 module _ {A : Type 0} {L : Layout A} {Good : A → Type 0} (ok : Faithful L Good) (test : Row A → Bool) (f : A → A) (s : List ℕ) (n : ℕ) (fit : AllFit L Good (mapEntries f (rows L s n))) where
   -- there are as many rows as before
@@ -168,7 +164,7 @@ module _ {A : Type 0} {L : Layout A} {Good : A → Type 0} (ok : Faithful L Good
 
   -- the walk has ended: what stands in memory, and how many
   pub plain-ends : {i k : ℕ} {t : List ℕ} → n ≤ i → KeptSo L test s (rows L s n) i t k
-      → (t ≡ put s 0 (tableBytes L (retain test (rows L s n)))) × (k ≡ length (retain test (rows L s n)))
+      → Gathered L s t k (retain test (rows L s n))
   plain-ends e so = kept-ends ok test s (rows L s n) (fit-rows ok s n b h) (omega (arith, length-rows L s n)) so
 
   -- and the places freed are zeros

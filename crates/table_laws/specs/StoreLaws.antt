@@ -9,6 +9,7 @@ use Rattle.table.specs.Table.{Row, rowUnder, below, ascending, store, erase}
 use Rattle.table.specs.Memory.{Layout, rows, Holds}
 use Rattle.table.specs.TableLaws.{by-answer, below-less, ascending-parts, equal-below}
 use Rattle.table.specs.MemoryLaws.{Faithful, AllFit}
+use Rattle.table_laws.specs.Private.{Counted}
 use Rattle.table_laws.specs.ChangeLaws.{holds-holds}
 
 module _ {A : Type 0} (k : List ℕ) (e : A) where
@@ -25,10 +26,6 @@ module _ {A : Type 0} (k : List ℕ) (e : A) where
   store-erase (r ∷ rs) h =
       let rest : store k e (erase k rs) ≡ store k e rs = store-erase rs (ascending-parts r rs h .1) in
       by-answer (compareBytes k (r .key)) (λ o. rw (o, o)) (λ o. rw o (store-below rs (equal-below r rs k h o))) (λ o. rw (o, o, rest))
-
--- memory that held n rows holds these, and this is their number
-abbrev pub Counted : {A : Type 0} → Layout A → List ℕ → List ℕ → ℕ → ℕ → List (Row A) → Type 0
-Counted L s t n m rs = Holds L s t n rs × (m ≡ length rs)
 
 -- rows that were left in memory, then changed there: one change of the rows that there were
 pub counted-then : {A : Type 0} {L : Layout A} {Good : A → Type 0} → Faithful L Good → (change : List (Row A) → List (Row A)) (s t u : List ℕ) (n m l : ℕ) (rs : List (Row A))

@@ -11,8 +11,9 @@ use lib.Seq.{drop-at, take-suc}
 use lib.ListN.{length, take, drop, getD, set, length-append, length-set, length-replicate, replicate-append-replicate}
 use Rattle.lent_bytes.specs.LentBytes.{put, zeros}
 use Rattle.lent_bytes.specs.LentBytesLaws.{length-zeros, length-put, put-put, put-nil, set-put, put-snoc}
-use Rattle.decimal.specs.Decimal.{digitsWithin, digitsOf}
-use Rattle.text_pieces.specs.Text.{blanks, numberText, columnText, columnsText, hexChar, hexText, refusalWord, refusalText}
+use Rattle.decimal.specs.Ascii.{code, blank, newline}
+use Rattle.decimal.specs.Decimal.{digitsWithin, mostDigits, digitsOf}
+use Rattle.text_pieces.specs.Text.{blanks, numberText, numberRoom, columnText, columnsText, hexChar, hexText, refusalWord, refusalText, refusalRoom}
 use Rattle.text_pieces.specs.Private.{Wrote}
 
 -- ════ Lengths ════
@@ -23,26 +24,25 @@ digits-within zero n = omega arith
 digits-within (suc k) n = go (ltb n 10) (digits-within k (n / 10))
   where
     go : (b : Bool) → length (digitsWithin k (n / 10)) ≤ k
-        → length (cond b ((48 + n) ∷ []) (digitsWithin k (n / 10) ++ ((48 + n % 10) ∷ []))) ≤ suc k
+        → length (cond b ((code "0" + n) ∷ []) (digitsWithin k (n / 10) ++ ((code "0" + n % 10) ∷ []))) ≤ suc k
     go true h = omega arith
-    go false h = omega (arith, length-append (digitsWithin k (n / 10)) ((48 + n % 10) ∷ []))
+    go false h = omega (arith, length-append (digitsWithin k (n / 10)) ((code "0" + n % 10) ∷ []))
 
--- no number has more than 20 digits
-pub few-digits : (n : ℕ) → length (digitsOf n) ≤ 20
+pub few-digits : (n : ℕ) → length (digitsOf n) ≤ mostDigits
 unfolding digitsOf
-few-digits n = digits-within 20 n
+few-digits n = digits-within mostDigits n
 
 pub length-column : (width n : ℕ) → length (columnText width n) ≡ (width - length (digitsOf n)) + (1 + length (digitsOf n))
 unfolding columnText
 length-column width n =
     length-append (blanks (width - length (digitsOf n))) (numberText n)
-    ∙ omega (arith, length-replicate {A = ℕ} (width - length (digitsOf n)) 32)
+    ∙ omega (arith, length-replicate {A = ℕ} (width - length (digitsOf n)) blank)
 
--- a column of up to 20 places takes at most one more
-pub column-fits : (width n : ℕ) → width ≤ 20 → length (columnText width n) ≤ 21
+-- a column of no more places than a number has digits takes at most one more
+pub column-fits : (width n : ℕ) → width ≤ mostDigits → length (columnText width n) ≤ numberRoom
 column-fits width n h = omega (arith, length-column width n, few-digits n)
 
-pub columns-fit : (width : ℕ) (ns : List ℕ) → width ≤ 20 → length (columnsText width ns) ≤ 21 * length ns
+pub columns-fit : (width : ℕ) (ns : List ℕ) → width ≤ mostDigits → length (columnsText width ns) ≤ numberRoom * length ns
 unfolding columnsText
 columns-fit width [] h = omega arith
 columns-fit width (n ∷ ns) h =
@@ -52,11 +52,10 @@ pub length-hex : (bs : List ℕ) → length (hexText bs) ≡ 2 * length bs
 length-hex [] = refl
 length-hex (b ∷ bs) = omega (arith, length-hex bs)
 
--- the line of a refusal takes at most 29 bytes
-pub refusal-fits : (n : ℕ) → length (refusalText n) ≤ 29
+pub refusal-fits : (n : ℕ) → length (refusalText n) ≤ refusalRoom
 unfolding refusalText
 refusal-fits n =
-    omega (arith, length-append refusalWord (numberText n ++ (10 ∷ [])), length-append (numberText n) (10 ∷ []), few-digits n)
+    omega (arith, length-append refusalWord (numberText n ++ (newline ∷ [])), length-append (numberText n) (newline ∷ []), few-digits n)
 
 -- ════ One more ════
 
@@ -92,8 +91,8 @@ hex-more bs i h =
     ∙ ap hexText (take-suc bs i 0 h)
     ∙ hex-append (take i bs) (getD bs i 0 ∷ [])
 
-pub blanks-more : (n : ℕ) → blanks (n + 1) ≡ blanks n ++ (32 ∷ [])
-blanks-more n = sym (replicate-append-replicate {A = ℕ} n 1 32)
+pub blanks-more : (n : ℕ) → blanks (n + 1) ≡ blanks n ++ (blank ∷ [])
+blanks-more n = sym (replicate-append-replicate {A = ℕ} n 1 blank)
 
 -- ════ Writing ════
 
@@ -124,11 +123,11 @@ wrote-as {s} {t} {at} {place} e w =
     record { behind = w .behind ∙ ap (λ (l : List ℕ). at + length l) e; leaves = w .leaves ∙ ap (put s at) e }
 
 -- one blank more is written
-pub blank-written : (s : List ℕ) (at k : ℕ) → at + k < length s → set (put s at (blanks k)) (at + k) 32 ≡ put s at (blanks (k + 1))
+pub blank-written : (s : List ℕ) (at k : ℕ) → at + k < length s → set (put s at (blanks k)) (at + k) blank ≡ put s at (blanks (k + 1))
 blank-written s at k h =
-    let size : length (blanks k) ≡ k = length-replicate {A = ℕ} k 32 in
-    ap (λ (n : ℕ). set (put s at (blanks k)) (at + n) 32) (sym size)
-    ∙ put-snoc s at (blanks k) 32 (omega arith)
+    let size : length (blanks k) ≡ k = length-replicate {A = ℕ} k blank in
+    ap (λ (n : ℕ). set (put s at (blanks k)) (at + n) blank) (sym size)
+    ∙ put-snoc s at (blanks k) blank (omega arith)
     ∙ ap (put s at) (sym (blanks-more k))
 
 -- the digits of one byte more are written

@@ -2,7 +2,8 @@
 ghost use mathlib.Core.Path.{_≡_};
 ghost use Prim.Native.Nat.{_+_, _-_, _*_, _≤_};
 ghost use lib.ListN.{length};
-ghost use Rattle.text_pieces.specs.Text.{columnText, columnsText};
+ghost use Rattle.decimal.specs.Decimal.{mostDigits};
+ghost use Rattle.text_pieces.specs.Text.{columnText, columnsText, numberRoom};
 ghost use Rattle.text_pieces.specs.Private.{Wrote};
 use super::piece::put_blanks;
 use super::piece::put_number;
@@ -27,10 +28,10 @@ pub fn put_column(out: &mut [u8], at: usize, width: usize, n: u64) -> usize
     put_number(out, after_blanks, n)
 }
 
-// Writes numbers in columns of one width. A number has at most 20 digits, so each takes at most 21 places.
+// Writes numbers in columns of one width. A number has at most 20 digits, so with its blank it takes at most 21 places.
 pub fn put_columns(out: &mut [u8], at: usize, width: usize, numbers: &[u64]) -> usize
-    requires { ⌜ width ≤ 20 ⌝ }
-    requires { ⌜ at + 21 * length (now numbers) ≤ length (now out) ⌝ }
+    requires { ⌜ width ≤ mostDigits ⌝ }
+    requires { ⌜ at + numberRoom * length (now numbers) ≤ length (now out) ⌝ }
     ensures { λ r. ⌜ Wrote (now (out .entry)) at (columnsText width (now (numbers .entry))) r (now (out .exit)) ⌝ }
 {
     let mut place = at;

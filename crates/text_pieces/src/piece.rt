@@ -1,7 +1,7 @@
 // A text that is given, blanks, a number.
 ghost use Prim.Native.Nat.{_+_, _≤_};
 ghost use lib.ListN.{length};
-ghost use Rattle.text_pieces.specs.Text.{blanks, numberText, refusalText};
+ghost use Rattle.text_pieces.specs.Text.{blanks, numberText, refusalText, refusalRoom};
 ghost use Rattle.text_pieces.specs.Private.{Wrote};
 use lent_bytes::run::put_slice;
 
@@ -38,7 +38,7 @@ pub fn put_number(out: &mut [u8], at: usize, n: u64) -> usize
 
 // Writes the line `refusal N` at the front.
 pub fn put_refusal(out: &mut [u8], number: u64) -> usize
-    requires { ⌜ 29 ≤ length (now out) ⌝ }
+    requires { ⌜ refusalRoom ≤ length (now out) ⌝ }
     ensures { λ r. ⌜ Wrote (now (out .entry)) 0 (refusalText number) r (now (out .exit)) ⌝ }
 {
     let after_word = put_text(out, 0, b"refusal");

@@ -6,6 +6,7 @@ use mathlib.Core.Option.{Option, none, some}
 use Prim.Native.Nat.{ℕ, _+_}
 use lib.Dec.{leb, ltb, eqb}
 use lib.ListN.{length, take, drop}
+use Rattle.decimal.specs.Ascii.{newline}
 use Rattle.refusal.specs.Refusal.{Said, gives, refused}
 use Rattle.peer_settings.specs.Config.{configDefault, limit}
 use Rattle.peer_message_policy.specs.declared.policy.PeerMessagePolicy.{PeerMessagePolicy}
@@ -36,7 +37,7 @@ joined b (some line) = some (b ∷ line)
 -- the first line of a text, without its newline; none where no newline stands
 unfoldable pub firstLine : List ℕ → Option (List ℕ)
 firstLine [] = none
-firstLine (b ∷ more) = cond (eqb b 10) (some []) (joined b (firstLine more))
+firstLine (b ∷ more) = cond (eqb b newline) (some []) (joined b (firstLine more))
 
 -- the number of the line behind one; the largest number has none behind it
 unfoldable pub following : ℕ → ℕ

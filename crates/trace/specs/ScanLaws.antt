@@ -12,6 +12,7 @@ use borrow.Author.Tests.{eq-eqb, ne-eqb}
 use lib.Dec.{eqb}
 use lib.ListN.{length, getD, take, drop, length-drop, drop-of-length-le}
 use lib.Seq.{drop-cons}
+use Rattle.decimal.specs.Ascii.{newline}
 use Rattle.trace.specs.declared.newline.LineEnd.the-variants.{At, Missing}
 use Rattle.trace.specs.Scan.{joined, firstLine}
 use Rattle.trace.specs.Private.{endFrom, lineEndOf}
@@ -24,15 +25,15 @@ end-joined b i (some line) = let e : i + suc (length line) ≡ suc i + length li
 
 module _ (s : List ℕ) (i : ℕ) where
   -- no newline stands here: the line ends where it ends from the next place on
-  pub end-further : i < length s → (getD s i 0 ≡ 10 → ⊥) → lineEndOf s i ≡ lineEndOf s (i + 1)
+  pub end-further : i < length s → (getD s i 0 ≡ newline → ⊥) → lineEndOf s i ≡ lineEndOf s (i + 1)
   unfolding lineEndOf firstLine
   end-further h other =
-      rw (add-one, drop-cons s i 0 h, ne-eqb (getD s i 0) 10 other) (end-joined (getD s i 0) i (firstLine (drop (suc i) s)))
+      rw (add-one, drop-cons s i 0 h, ne-eqb (getD s i 0) newline other) (end-joined (getD s i 0) i (firstLine (drop (suc i) s)))
 
   -- a newline stands here
-  pub end-here : i < length s → getD s i 0 ≡ 10 → lineEndOf s i ≡ At i
+  pub end-here : i < length s → getD s i 0 ≡ newline → lineEndOf s i ≡ At i
   unfolding lineEndOf firstLine
-  end-here h newline = rw (drop-cons s i 0 h, eq-eqb (getD s i 0) 10 newline, add-zero)
+  end-here h is-newline = rw (drop-cons s i 0 h, eq-eqb (getD s i 0) newline is-newline, add-zero)
 
   -- nothing stands here
   pub end-missing : length s ≤ i → lineEndOf s i ≡ Missing
@@ -49,7 +50,7 @@ Front text (some line) = (line ≡ take (length line) text) × (length line < le
 pub front : (text : List ℕ) → Front text (firstLine text)
 unfolding firstLine
 front [] = tt
-front (b ∷ more) = go (eqb b 10) (firstLine more) (front more)
+front (b ∷ more) = go (eqb b newline) (firstLine more) (front more)
   where
     go : (c : Bool) (o : Option (List ℕ)) → Front more o → Front (b ∷ more) (cond c (some []) (joined b o))
     go true o h = (refl, omega arith)

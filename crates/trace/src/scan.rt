@@ -10,6 +10,7 @@ use super::step::step;
 use peer_message_policy::policy::PeerMessagePolicy;
 use peer_settings::config::PeerMessagePolicyConfig;
 use trace_lines::event::parse_event;
+use trace_lines::line::LINE_SIZE;
 use trace_lines::line::TraceLine;
 use trace_lines::line::bad_line;
 use trace_lines::line::refusal_line;
@@ -75,7 +76,7 @@ fn ended(scan: Scan) -> Handed
     Handed {
         done: true,
         line: TraceLine {
-            bytes: [0u8; 64],
+            bytes: [0u8; LINE_SIZE],
             length: 0,
         },
         scan,

@@ -17,7 +17,7 @@ use Rattle.peer_message_policy.specs.Policy.{rowsOf, sound}
 use Rattle.peer_message_policy.specs.Calls.{Memory, Outcome, Meets, refuse, changedRows}
 use Rattle.peer_laws.specs.SoundLaws.{RecordHolds, policy-holds, Kept}
 use Rattle.trace_lines.specs.declared.event.Event.{Event}
-use Rattle.trace_lines.specs.Lines.{largest64, eventOf, lineOf, badLineText}
+use Rattle.trace_lines.specs.Lines.{largest64, eventOf, lineSize, lineOf, badLineText}
 use Rattle.trace.specs.declared.step.Answered.{Answered}
 use Rattle.trace.specs.declared.step.Stepped.{Stepped}
 use Rattle.trace.specs.declared.scan.Scan.{Scan}
@@ -53,7 +53,7 @@ module _ (number : ℕ) (p : PeerMessagePolicy) (rs : Peers) where
 
 -- a text that is written as a line is the line's
 pub text-of-line : (text : List ℕ) → textOf (lineOf text) ≡ text
-text-of-line text = take-append-seam text (replicate (64 - length text) 0)
+text-of-line text = take-append-seam text (replicate (lineSize - length text) 0)
 
 -- a last line
 pub hands-last : (input t : List ℕ) (scan : Scan) (text : List ℕ) → ScanFits scan → Lent t → Handing input (text ∷ []) (last scan (lineOf text)) t

@@ -9,6 +9,7 @@ use lib.ListN.{length, getD}
 use Rattle.truths.specs.TruthLaws.{chosen}
 use Rattle.lent_bytes.specs.LentBytes.{Bytes}
 use Rattle.lent_bytes.specs.LentBytesLaws.{length-zeros, Bytes-nil, Bytes-cons, Bytes-zeros}
+use Rattle.decimal.specs.Ascii.{code, blank}
 use Rattle.peer_laws.specs.SoundLaws.{Key}
 use Rattle.trace_lines.specs.declared.event.Event.{Event}
 use Rattle.trace_lines.specs.declared.event.EventKind.{EventKind}
@@ -19,9 +20,13 @@ use Rattle.trace_lines.specs.Lines.{
   blankThenNumber,
   fieldOf,
   endsLine,
+  behindLetter,
+  keyPlace,
+  keySize,
   hexBytes,
   allSpelled,
   noKey,
+  keyBytes,
   keySpelled,
   stepOf,
   keyOf,
@@ -46,7 +51,7 @@ bytes-spelled (b ∷ more) h =
     Bytes-cons b more (ltb-true b 256 first) (bytes-spelled more rest)
 
 key-of-none : Key (noKey .bytes)
-key-of-none = (length-zeros 33, Bytes-zeros 33)
+key-of-none = (length-zeros keySize, Bytes-zeros keySize)
 
 -- the key of a field
 abbrev FieldKey : KeyField → Type 0
@@ -55,13 +60,13 @@ FieldKey field = Key (field .key .bytes)
 key-spelled : (line : List ℕ) (step : ℕ) → FieldKey (keySpelled line step)
 unfolding keySpelled
 key-spelled line step =
-    chosen FieldKey (allSpelled (hexBytes line 2 step 33))
-    (λ h. (length-spelled line 2 step 33, bytes-spelled (hexBytes line 2 step 33) h))
+    chosen FieldKey (allSpelled (keyBytes line step))
+    (λ h. (length-spelled line keyPlace step keySize, bytes-spelled (keyBytes line step) h))
     (λ h. key-of-none)
 
 key-of : (line : List ℕ) → FieldKey (keyOf line)
 unfolding keyOf
-key-of line = chosen FieldKey (eqb (getD line 1 0) 32) (λ h. key-spelled line (stepOf line)) (λ h. key-of-none)
+key-of line = chosen FieldKey (eqb (getD line behindLetter 0) blank) (λ h. key-spelled line (stepOf line)) (λ h. key-of-none)
 
 -- ════ An event's key ════
 
@@ -79,17 +84,17 @@ keyed-key k line = chosen EventKey (endsLine line (fieldOf line (keyOf line .end
 
 release-key : (line : List ℕ) → EventKey (releaseOf line)
 unfolding releaseOf
-release-key line = chosen EventKey (endsLine line (blankThenNumber line 1 largest64)) (λ h. key-of-none) (λ h. key-of-none)
+release-key line = chosen EventKey (endsLine line (blankThenNumber line behindLetter largest64)) (λ h. key-of-none) (λ h. key-of-none)
 
 pub event-key : (line : List ℕ) → EventKey (eventOf line)
 unfolding eventOf
 event-key line =
     let letter : ℕ = getD line 0 0 in
-    chosen EventKey (eqb letter 97) (λ h. admit-key line)
+    chosen EventKey (eqb letter (code "a")) (λ h. admit-key line)
     (λ h.
-    chosen EventKey (eqb letter 105) (λ h. keyed-key kind.Invalid line)
+    chosen EventKey (eqb letter (code "i")) (λ h. keyed-key kind.Invalid line)
     (λ h.
-    chosen EventKey (eqb letter 98) (λ h. keyed-key kind.BanQuery line)
+    chosen EventKey (eqb letter (code "b")) (λ h. keyed-key kind.BanQuery line)
     (λ h.
-    chosen EventKey (eqb letter 100) (λ h. keyed-key kind.Disconnected line)
-    (λ h. chosen EventKey (eqb letter 114) (λ h. release-key line) (λ h. key-of-none)))))
+    chosen EventKey (eqb letter (code "d")) (λ h. keyed-key kind.Disconnected line)
+    (λ h. chosen EventKey (eqb letter (code "r")) (λ h. release-key line) (λ h. key-of-none)))))

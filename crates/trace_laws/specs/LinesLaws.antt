@@ -9,6 +9,7 @@ use native.Mathlib.Omega.{arith}
 use lib.Dec.{eqb}
 use lib.ListN.{length, drop, length-drop, drop-of-length-le}
 use lib.Seq.{drop-drop}
+use Rattle.decimal.specs.Ascii.{newline}
 use Rattle.table.specs.LookLaws.{some-is-not-none}
 use Rattle.trace.specs.Scan.{joined, firstLine}
 use Rattle.trace.specs.ScanLaws.{Front, front}
@@ -27,12 +28,12 @@ before-joined b more (some line) = refl
 
 pub lines-by : (b : ℕ) (more : List ℕ) → linesOf (b ∷ more) ≡ linesBy (b ∷ more) (firstLine (b ∷ more))
 unfolding linesOf firstLine
-lines-by b [] = go (eqb b 10)
+lines-by b [] = go (eqb b newline)
   where
     go : (t : Bool) → cond t (whole [] ∷ linesOf []) (before b (linesOf [])) ≡ linesBy (b ∷ []) (cond t (some []) (joined b (firstLine [])))
     go true = refl
     go false = refl
-lines-by b (c ∷ more) = go (lines-by c more) (eqb b 10)
+lines-by b (c ∷ more) = go (lines-by c more) (eqb b newline)
   where
     go : linesOf (c ∷ more) ≡ linesBy (c ∷ more) (firstLine (c ∷ more)) → (t : Bool)
         → cond t (whole [] ∷ linesOf (c ∷ more)) (before b (linesOf (c ∷ more)))

@@ -13,7 +13,7 @@ use Rattle.trace.specs.declared.scan.Phase.the-variants as Phase
 use Rattle.trace.specs.declared.scan.Scan.{Scan}
 use Rattle.trace.specs.declared.scan.Handed.{Handed}
 use Rattle.trace.specs.Scan.{textOf, longestInput}
-use Rattle.trace_laws.specs.Trace.{linesOf, eventsOf, linesTrace}
+use Rattle.trace_laws.specs.Trace.{linesOf, eventsOf, blockSize, linesTrace}
 use Rattle.trace_laws.specs.Fits.{ScanFits}
 
 -- ════ The lines that are still to come ════
@@ -31,10 +31,10 @@ traceFrom scan input s = restIn (scan .phase) scan input s
 
 -- ════ What holds of a scan ════
 
--- the memory lent to it: bytes for 256 rows
+-- the memory lent to it: the block for the rows
 pub record Lent (s : List ℕ) : Type 0 where
   pub holds-bytes : Bytes s
-  pub block : length s ≡ 30976
+  pub block : length s ≡ blockSize
 
 -- before the settings line: it is the first one
 pub record Starting (scan : Scan) (input : List ℕ) : Type 0 where

@@ -42,7 +42,7 @@ use Rattle.trace.specs.Scan.{
   SettingsBy,
   SettingsMeets,
 }
-use Rattle.trace_laws.specs.Trace.{InputLine, linesOf, eventsOf, blockPlaces, settledOf, linesTrace}
+use Rattle.trace_laws.specs.Trace.{InputLine, linesOf, eventsOf, blockPlaces, blockSize, settledOf, linesTrace}
 use Rattle.trace_laws.specs.Running.{Lent, Starting, Reading, Handing}
 use Rattle.trace_laws.specs.Fits.{LoadFits, ScanFits}
 use Rattle.trace_laws.specs.FitsLaws.{SettingsFit, settings-fit}
@@ -66,15 +66,15 @@ fresh-rows : (c : PeerMessagePolicyConfig) (s : List ℕ) → rowsOf (fresh c) s
 unfolding rows
 fresh-rows c s = refl
 
--- memory of 30,976 bytes is long enough for 256 places, and for no more
-block-fits : (c : PeerMessagePolicyConfig) (s : List ℕ) → length s ≡ 30976 → longEnough c s ≡ leb (limit c) blockPlaces
+-- the block is long enough for its places, and for no more
+block-fits : (c : PeerMessagePolicyConfig) (s : List ℕ) → length s ≡ blockSize → longEnough c s ≡ leb (limit c) blockPlaces
 block-fits c s block =
     by-test (leb (limit c) blockPlaces)
     (λ e. le-leb (121 * limit c) (length s) (omega (arith, leb-true (limit c) blockPlaces e)) ∙ sym e)
     (λ e. lt-leb (121 * limit c) (length s) (omega (arith, leb-false (limit c) blockPlaces e)) ∙ sym e)
 
 -- what making it gives, over such memory
-new-in-block : (c : PeerMessagePolicyConfig) (s : List ℕ) → length s ≡ 30976
+new-in-block : (c : PeerMessagePolicyConfig) (s : List ℕ) → length s ≡ blockSize
     → newOutcome c s
     ≡ cond (ltb 1024 (c .«max_tracked_peers»)) (refuse (Made.Refused limitTooLarge))
     (cond (leb (limit c) blockPlaces) (record { answer = Made.Policy (fresh c); change = become [] }) (refuse (Made.Refused tooShort)))

@@ -5,6 +5,7 @@ use mathlib.Core.List.{List, [], _∷_}
 use Prim.Native.Nat.{ℕ, suc}
 use lib.Dec.{leb, ltb, eqb}
 use lib.ListN.{length}
+use Rattle.decimal.specs.Ascii.{newline}
 use Rattle.refusal.specs.Refusal.{tooShort, limitTooLarge}
 use Rattle.peer_settings.specs.Config.{limit}
 use Rattle.peer_rows.specs.Rows.{Peers}
@@ -33,7 +34,7 @@ before b (unended ∷ more) = unended ∷ more
 
 unfoldable pub linesOf : List ℕ → List InputLine
 linesOf [] = []
-linesOf (b ∷ more) = cond (eqb b 10) (whole [] ∷ linesOf more) (before b (linesOf more))
+linesOf (b ∷ more) = cond (eqb b newline) (whole [] ∷ linesOf more) (before b (linesOf more))
 
 -- ════ The output ════
 
@@ -49,9 +50,12 @@ eventsOf number p rs [] = []
 eventsOf number p rs (unended ∷ more) = badLineText number ∷ []
 eventsOf number p rs (whole line ∷ more) = told number p rs (eventOutcome p rs (eventOf line)) (λ q qs. eventsOf (suc number) q qs more)
 
--- the block lent for the rows has 256 places
+-- the block lent for the rows has 256 places of 121 bytes
 abbrev pub blockPlaces : ℕ
 blockPlaces = 256
+
+abbrev pub blockSize : ℕ
+blockSize = 30976
 
 -- behind good settings the events' lines, from a policy with no rows; a limit above 1,024 is refused, then one above the block's places
 abbrev pub settledOf : Settings → List InputLine → List (List ℕ)

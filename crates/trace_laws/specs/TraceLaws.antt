@@ -17,7 +17,7 @@ use Rattle.trace.specs.declared.scan.Phase.the-variants as Phase
 use Rattle.trace.specs.declared.scan.Scan.{Scan}
 use Rattle.trace.specs.declared.scan.Handed.{Handed}
 use Rattle.trace.specs.Scan.{textOf, longestInput, openOf, NextIn, NextMeets}
-use Rattle.trace_laws.specs.Trace.{linesOf, linesTrace, traceOf, HandsOut, ends, hands}
+use Rattle.trace_laws.specs.Trace.{linesOf, blockSize, linesTrace, traceOf, HandsOut, ends, hands}
 use Rattle.trace_laws.specs.Running.{restIn, traceFrom, Lent, RunningIn, Running, Handing, over, more}
 use Rattle.trace_laws.specs.Fits.{ScanFits}
 use Rattle.trace_laws.specs.EventsLaws.{hands-last, hands-event}
@@ -65,7 +65,7 @@ module _ (input s : List ℕ) where
             };
       }
 
-  opens : Bytes s → length s ≡ 30976 → Running (openOf input) input s
+  opens : Bytes s → length s ≡ blockSize → Running (openOf input) input s
   unfolding openOf
   opens bytes block =
       record {
@@ -109,7 +109,7 @@ module _ (input : List ℕ) where
   -- whatever answers every call as the contract says
   abbrev Answers : Type 0
   Answers =
-      (scan : Scan) (m : List ℕ) → ScanFits scan → Bytes m → length m ≡ 30976 → (r : Handed) × (t : List ℕ) × NextMeets scan input m r t
+      (scan : Scan) (m : List ℕ) → ScanFits scan → Bytes m → length m ≡ blockSize → (r : Handed) × (t : List ℕ) × NextMeets scan input m r t
 
   empty-is-not-more : {x : List ℕ} {xs : List (List ℕ)} → [] ≡ x ∷ xs → ⊥
   empty-is-not-more h = let z : _≡_ {A = ℕ} 0 1 = cc in omega arith
@@ -141,18 +141,18 @@ module _ (input : List ℕ) where
 -- ════ The theorems ════
 
 -- over any 30,976 bytes, what is handed out from the first scan on is what `traceOf` gives
-pub hands-out : (input s : List ℕ) (lines : List (List ℕ)) → Bytes s → length s ≡ 30976 → HandsOut input (openOf input) s lines
+pub hands-out : (input s : List ℕ) (lines : List (List ℕ)) → Bytes s → length s ≡ blockSize → HandsOut input (openOf input) s lines
     → lines ≡ traceOf input
 hands-out input s lines bytes block out = hands-from input out (opens input s bytes block) ∙ opens-trace input s
 
 -- over 30,976 zeroed ones too
-pub hands-out-zeroed : (input : List ℕ) (lines : List (List ℕ)) → HandsOut input (openOf input) (replicate 30976 0) lines → lines ≡ traceOf input
-hands-out-zeroed input lines out = hands-out input (replicate 30976 0) lines (Bytes-zeros 30976) (length-zeros 30976) out
+pub hands-out-zeroed : (input : List ℕ) (lines : List (List ℕ)) → HandsOut input (openOf input) (replicate blockSize 0) lines → lines ≡ traceOf input
+hands-out-zeroed input lines out = hands-out input (replicate blockSize 0) lines (Bytes-zeros blockSize) (length-zeros blockSize) out
 
 -- whatever answers every call on arguments that the machine can give as the contract says comes to an end, and has then handed out what
 -- `traceOf` gives
-pub comes-to-an-end : (input s : List ℕ) → Bytes s → length s ≡ 30976
-    → ((scan : Scan) (m : List ℕ) → ScanFits scan → Bytes m → length m ≡ 30976 → (r : Handed) × (t : List ℕ) × NextMeets scan input m r t)
+pub comes-to-an-end : (input s : List ℕ) → Bytes s → length s ≡ blockSize
+    → ((scan : Scan) (m : List ℕ) → ScanFits scan → Bytes m → length m ≡ blockSize → (r : Handed) × (t : List ℕ) × NextMeets scan input m r t)
     → HandsOut input (openOf input) s (traceOf input)
 comes-to-an-end input s bytes block answer =
     ends-from input answer (traceOf input) (openOf input) s (opens input s bytes block) (opens-trace input s)

@@ -8,61 +8,61 @@ use borrow.Author.Tests.{le-leb, lt-leb, lt-ltb, le-ltb}
 use lib.ListN.{length, set, replicate, length-replicate}
 use Rattle.lent_bytes.specs.LentBytes.{put}
 use Rattle.lent_bytes.specs.LentBytesLaws.{put-nil}
+use Rattle.decimal.specs.Ascii.{code}
+use Rattle.decimal.specs.DecimalLaws.{is-digit, below-digits, above-digits}
 use Rattle.decimal.specs.declared.Scanned.the-variants.{Number, Bad}
-use Rattle.trace_lines.specs.Lines.{hexDigit, hexByte, hexBytes, allSpelled, keySpelled, keyField, noKey}
+use Rattle.trace_lines.specs.Lines.{keyPlace, behindPair, keySize, hexDigit, hexByte, hexBytes, allSpelled, keyBytes, keySpelled, keyField, noKey}
 use Rattle.trace_lines.proofs.Written.{put-head, put-all}
 
 -- ════ A digit ════
 
 module _ (b : ℕ) where
-  pub hex-decimal : 48 ≤ b → b ≤ 57 → hexDigit b ≡ b - 48
-  hex-decimal low high = rw (le-leb 48 b low, le-leb b 57 high)
+  pub hex-decimal : code "0" ≤ b → b ≤ code "9" → hexDigit b ≡ b - code "0"
+  hex-decimal low high = rw (is-digit b low high)
 
-  pub hex-letter : 97 ≤ b → b ≤ 102 → hexDigit b ≡ b - 87
+  pub hex-letter : code "a" ≤ b → b ≤ code "f" → hexDigit b ≡ (b - code "a") + 10
   hex-letter low high =
-      let p : 48 ≤ b = omega arith in
-      let q : 57 < b = omega arith in
-      rw (le-leb 48 b p, lt-leb b 57 q, le-leb 97 b low, le-leb b 102 high)
+      let q : code "9" < b = omega arith in
+      rw (above-digits b q, le-leb (code "a") b low, le-leb b (code "f") high)
 
-  pub hex-below : b < 48 → hexDigit b ≡ 16
-  hex-below h = let p : b < 97 = omega arith in rw (lt-leb 48 b h, lt-leb 97 b p)
+  pub hex-below : b < code "0" → hexDigit b ≡ 16
+  hex-below h = let p : b < code "a" = omega arith in rw (below-digits b h, lt-leb (code "a") b p)
 
-  pub hex-between : 57 < b → b < 97 → hexDigit b ≡ 16
-  hex-between low high = let p : 48 ≤ b = omega arith in rw (le-leb 48 b p, lt-leb b 57 low, lt-leb 97 b high)
+  pub hex-between : code "9" < b → b < code "a" → hexDigit b ≡ 16
+  hex-between low high = rw (above-digits b low, lt-leb (code "a") b high)
 
-  pub hex-above : 102 < b → hexDigit b ≡ 16
+  pub hex-above : code "f" < b → hexDigit b ≡ 16
   hex-above h =
-      let p : 48 ≤ b = omega arith in
-      let q : 57 < b = omega arith in
-      let r : 97 ≤ b = omega arith in
-      rw (le-leb 48 b p, lt-leb b 57 q, le-leb 97 b r, lt-leb b 102 h)
+      let q : code "9" < b = omega arith in
+      let r : code "a" ≤ b = omega arith in
+      rw (above-digits b q, le-leb (code "a") b r, lt-leb b (code "f") h)
 
 -- ════ A key's bytes ════
 
 module _ (line : List ℕ) (step : ℕ) where
   -- the bytes from the i-th on
   abbrev pub rest : ℕ → List ℕ
-  rest i = hexBytes line (2 + step * i) step (33 - i)
+  rest i = hexBytes line (keyPlace + step * i) step (keySize - i)
 
-  pub rest-all : rest 0 ≡ hexBytes line 2 step 33
-  rest-all = let e : 2 + step * 0 ≡ 2 = omega arith in rw e
+  pub rest-all : rest 0 ≡ keyBytes line step
+  rest-all = let e : keyPlace + step * 0 ≡ keyPlace = omega arith in rw e
 
-  pub rest-turn : (i : ℕ) → i < 33 → rest i ≡ hexByte line (2 + step * i) ∷ rest (i + 1)
+  pub rest-turn : (i : ℕ) → i < keySize → rest i ≡ hexByte line (keyPlace + step * i) ∷ rest (i + 1)
   unfolding hexBytes
   rest-turn i h =
-      let e : 33 - i ≡ suc (33 - (i + 1)) = omega arith in
-      let f : 2 + step * i + step ≡ 2 + step * (i + 1) = omega arith in
+      let e : keySize - i ≡ suc (keySize - (i + 1)) = omega arith in
+      let f : keyPlace + step * i + step ≡ keyPlace + step * (i + 1) = omega arith in
       rw (e, f)
 
-  pub spelled-turn : (i : ℕ) → i < 33 → hexByte line (2 + step * i) < 256 → allSpelled (rest i) ≡ allSpelled (rest (i + 1))
+  pub spelled-turn : (i : ℕ) → i < keySize → hexByte line (keyPlace + step * i) < 256 → allSpelled (rest i) ≡ allSpelled (rest (i + 1))
   unfolding allSpelled
-  spelled-turn i h small = rw (rest-turn i h, lt-ltb (hexByte line (2 + step * i)) 256 small)
+  spelled-turn i h small = rw (rest-turn i h, lt-ltb (hexByte line (keyPlace + step * i)) 256 small)
 
-  pub spelled-stop : (i : ℕ) → i < 33 → 256 ≤ hexByte line (2 + step * i) → allSpelled (rest i) ≡ false
+  pub spelled-stop : (i : ℕ) → i < keySize → 256 ≤ hexByte line (keyPlace + step * i) → allSpelled (rest i) ≡ false
   unfolding allSpelled
-  spelled-stop i h large = rw (rest-turn i h, le-ltb (hexByte line (2 + step * i)) 256 large)
+  spelled-stop i h large = rw (rest-turn i h, le-ltb (hexByte line (keyPlace + step * i)) 256 large)
 
-  pub spelled-end : allSpelled (rest 33) ≡ true
+  pub spelled-end : allSpelled (rest keySize) ≡ true
   unfolding allSpelled hexBytes
   spelled-end = refl
 
@@ -71,26 +71,26 @@ module _ (line : List ℕ) (step : ℕ) where
   length-hex at zero = refl
   length-hex at (suc n) = ap suc (length-hex (at + step) n)
 
-  pub written-start : put (replicate 33 0) 0 (rest 0) ≡ hexBytes line 2 step 33
+  pub written-start : put (replicate keySize 0) 0 (rest 0) ≡ keyBytes line step
   written-start =
-      ap (λ (l : List ℕ). put (replicate 33 0) 0 l) rest-all
-      ∙ put-all (replicate 33 0) (hexBytes line 2 step 33) (length-replicate {A = ℕ} 33 0 ∙ sym (length-hex 2 33))
+      ap (λ (l : List ℕ). put (replicate keySize 0) 0 l) rest-all
+      ∙ put-all (replicate keySize 0) (keyBytes line step) (length-replicate {A = ℕ} keySize 0 ∙ sym (length-hex keyPlace keySize))
 
-  pub written-turn : (bytes : List ℕ) (i : ℕ) → length bytes ≡ 33 → i < 33
-      → put bytes i (rest i) ≡ put (set bytes i (hexByte line (2 + step * i))) (i + 1) (rest (i + 1))
+  pub written-turn : (bytes : List ℕ) (i : ℕ) → length bytes ≡ keySize → i < keySize
+      → put bytes i (rest i) ≡ put (set bytes i (hexByte line (keyPlace + step * i))) (i + 1) (rest (i + 1))
   written-turn bytes i l h =
       ap (λ (x : List ℕ). put bytes i x) (rest-turn i h)
-      ∙ put-head bytes i (hexByte line (2 + step * i)) (rest (i + 1)) (omega arith)
+      ∙ put-head bytes i (hexByte line (keyPlace + step * i)) (rest (i + 1)) (omega arith)
 
-  pub written-end : (bytes : List ℕ) → put bytes 33 (rest 33) ≡ bytes
+  pub written-end : (bytes : List ℕ) → put bytes keySize (rest keySize) ≡ bytes
   unfolding hexBytes
-  written-end bytes = put-nil bytes 33
+  written-end bytes = put-nil bytes keySize
 
-  pub key-bad : allSpelled (hexBytes line 2 step 33) ≡ false → keySpelled line step ≡ record { key = noKey; end = Bad }
+  pub key-bad : allSpelled (keyBytes line step) ≡ false → keySpelled line step ≡ record { key = noKey; end = Bad }
   unfolding keySpelled
   key-bad h = rw h
 
-  pub key-good : (bytes : List ℕ) → allSpelled (hexBytes line 2 step 33) ≡ true → bytes ≡ hexBytes line 2 step 33
-      → keySpelled line step ≡ keyField bytes (Number 0 (4 + 32 * step))
+  pub key-good : (bytes : List ℕ) → allSpelled (keyBytes line step) ≡ true → bytes ≡ keyBytes line step
+      → keySpelled line step ≡ keyField bytes (Number 0 (behindPair + (keySize - 1) * step))
   unfolding keySpelled
   key-good bytes h e = rw (h, e)

@@ -6,10 +6,11 @@ use native.Mathlib.Omega.{arith}
 use lib.ListN.{length, set, length-append, drop-of-length-le}
 use Rattle.lent_bytes.specs.LentBytes.{put, zeros}
 use Rattle.lent_bytes.specs.LentBytesLaws.{set-put, put-put-at}
+use Rattle.decimal.specs.Ascii.{newline}
 use Rattle.decimal.specs.DecimalLaws.{length-digits}
 use Rattle.text_pieces.specs.Private.{Wrote}
 use Rattle.text_pieces.specs.TextLaws.{byte-over, line-over}
-use Rattle.trace_lines.specs.Lines.{lineOf, wordText, numberText, answerText}
+use Rattle.trace_lines.specs.Lines.{lineSize, lineOf, wordText, numberText, answerText}
 use Rattle.trace_lines.specs.declared.line.TraceLine.{TraceLine}
 use Rattle.trace_lines.specs.declared.line.Word.{Word}
 use Rattle.trace_lines.specs.declared.line.Word.the-variants.{Allow, Disconnect, Ban, Banned, Noted, Free, Closed, Released}
@@ -24,20 +25,20 @@ pub put-all : (s b : List ℕ) → length s ≡ length b → put s 0 b ≡ b
 unfolding put
 put-all s b h = rw (drop-of-length-le s {i = 0 + length b} (omega arith)) (append-nil b)
 
--- what was written at the front of 64 zeros is the line
-pub line-is : {text bytes : List ℕ} {place : ℕ} → Wrote (zeros 64) 0 text place bytes → length text ≤ 64
+-- what was written at the front of a line of zeros is the line
+pub line-is : {text bytes : List ℕ} {place : ℕ} → Wrote (zeros lineSize) 0 text place bytes → length text ≤ lineSize
     → _≡_ {A = TraceLine} (record { bytes = bytes; length = place }) (lineOf text)
-line-is w h = let l = line-over 64 w h in (λ i. record { bytes = l .0 i; length = l .1 i })
+line-is w h = let l = line-over lineSize w h in (λ i. record { bytes = l .0 i; length = l .1 i })
 
 -- and so with a newline behind it
-pub line-ends : {text bytes : List ℕ} {place : ℕ} → Wrote (zeros 64) 0 text place bytes → length text + 1 ≤ 64
-    → _≡_ {A = TraceLine} (record { bytes = set bytes place 10; length = place + 1 }) (lineOf (text ++ (10 ∷ [])))
-line-ends {text} w h = line-is (byte-over 64 w 10 h) (omega (arith, length-append text (10 ∷ [])))
+pub line-ends : {text bytes : List ℕ} {place : ℕ} → Wrote (zeros lineSize) 0 text place bytes → length text + 1 ≤ lineSize
+    → _≡_ {A = TraceLine} (record { bytes = set bytes place newline; length = place + 1 }) (lineOf (text ++ (newline ∷ [])))
+line-ends {text} w h = line-is (byte-over lineSize w newline h) (omega (arith, length-append text (newline ∷ [])))
 
 -- ════ An answer ════
 
 -- no word is longer than `Disconnect`
-pub word-length : (w : Word) → length (wordText w) ≤ 10
+pub word-length : (w : Word) → length (wordText w) ≤ length (wordText Disconnect)
 word-length Allow = omega arith
 word-length Disconnect = omega arith
 word-length Ban = omega arith
@@ -70,6 +71,6 @@ length-two w m b h k = omega (arith, length-append (one w m) (numberText b), len
 pub length-three : (w : Word) (m b r : ℕ) → m < 10 ^ 10 → b < 10 ^ 20 → r < 10 ^ 20 → length (three w m b r) ≤ 63
 length-three w m b r h k l = omega (arith, length-append (two w m b) (numberText r), length-two w m b h k, length-digits 19 r l)
 
-pub answer-whole : (w : Word) (m b r : ℕ) → answerText w m b r ≡ three w m b r ++ (10 ∷ [])
+pub answer-whole : (w : Word) (m b r : ℕ) → answerText w m b r ≡ three w m b r ++ (newline ∷ [])
 unfolding answerText
 answer-whole w m b r = simp append-assoc

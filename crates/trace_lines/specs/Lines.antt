@@ -6,7 +6,8 @@ use Prim.Native.Nat.{ℕ, zero, suc, _+_, _-_, _*_}
 use lib.Dec.{leb, ltb, eqb}
 use lib.ListN.{length, getD, replicate}
 use Rattle.refusal.specs.Refusal.{Said, gives}
-use Rattle.decimal.specs.Decimal.{scanOf}
+use Rattle.decimal.specs.Ascii.{code, ascii, blank, newline}
+use Rattle.decimal.specs.Decimal.{isDigit, scanOf}
 use Rattle.decimal.specs.declared.Scanned.{Scanned}
 use Rattle.decimal.specs.declared.Scanned.the-variants.{Number, Bad}
 pub use Rattle.text_pieces.specs.Text.{numberText}
@@ -34,7 +35,7 @@ largest64 = 18446744073709551615
 
 -- the number behind a single blank at a place
 unfoldable pub blankThenNumber : List ℕ → ℕ → ℕ → Scanned
-blankThenNumber line at most = cond (eqb (getD line at 0) 32) (scanOf line (at + 1) most) Bad
+blankThenNumber line at most = cond (eqb (getD line at 0) blank) (scanOf line (at + 1) most) Bad
 
 -- the field behind one that ended at its place, a blank between them; behind a bad one there is none
 abbrev pub fieldOf : List ℕ → Scanned → ℕ → Scanned
@@ -104,9 +105,23 @@ settingsOf line =
 
 -- ════ A key: 66 hex digits, or 2 for 33 equal bytes, from the third byte of a line on ════
 
+-- places of a line: of the blank behind its letter, of its key, and behind the key's first two digits
+abbrev pub behindLetter : ℕ
+behindLetter = 1
+
+abbrev pub keyPlace : ℕ
+keyPlace = 2
+
+abbrev pub behindPair : ℕ
+behindPair = 4
+
+-- how many bytes a key has
+abbrev pub keySize : ℕ
+keySize = 33
+
 -- the value of a hex digit, lower case; 16 for any other byte
 abbrev pub hexDigit : ℕ → ℕ
-hexDigit b = cond (leb 48 b && leb b 57) (b - 48) (cond (leb 97 b && leb b 102) (b - 87) 16)
+hexDigit b = cond (isDigit b) (b - code "0") (cond (leb (code "a") b && leb b (code "f")) ((b - code "a") + 10) 16)
 
 -- the byte of two hex digits' values; 256 where one is none
 abbrev pub hexPair : ℕ → ℕ → ℕ
@@ -128,25 +143,29 @@ allSpelled (b ∷ more) = ltb b 256 && allSpelled more
 
 -- the zero key
 abbrev pub noKey : Pubkey
-noKey = record { bytes = replicate 33 0 }
+noKey = record { bytes = replicate keySize 0 }
 
 abbrev pub keyField : List ℕ → Scanned → KeyField
 keyField bytes end = record { key = record { bytes = bytes }; end = end }
 
+-- the bytes of a key that stand `step` places apart
+abbrev pub keyBytes : List ℕ → ℕ → List ℕ
+keyBytes line step = hexBytes line keyPlace step keySize
+
 -- a key whose bytes stand `step` places apart, and the place behind it: the one pair of digits serves all where the step is 0
 unfoldable pub keySpelled : List ℕ → ℕ → KeyField
 keySpelled line step =
-    cond (allSpelled (hexBytes line 2 step 33))
-    (keyField (hexBytes line 2 step 33) (Number 0 (4 + 32 * step)))
+    cond (allSpelled (keyBytes line step))
+    (keyField (keyBytes line step) (Number 0 (behindPair + (keySize - 1) * step)))
     (record { key = noKey; end = Bad })
 
 -- how far the bytes of the key stand apart: a blank behind two digits says that these are all
 abbrev pub stepOf : List ℕ → ℕ
-stepOf line = cond (eqb (getD line 4 0) 32) 0 2
+stepOf line = cond (eqb (getD line behindPair 0) blank) 0 2
 
 -- the key behind the letter and its blank, and the place behind it
 unfoldable pub keyOf : List ℕ → KeyField
-keyOf line = cond (eqb (getD line 1 0) 32) (keySpelled line (stepOf line)) (record { key = noKey; end = Bad })
+keyOf line = cond (eqb (getD line behindLetter 0) blank) (keySpelled line (stepOf line)) (record { key = noKey; end = Bad })
 
 -- ════ An event's line ════
 
@@ -174,18 +193,18 @@ keyedOf k line =
 -- `r BYTES`
 unfoldable pub releaseOf : List ℕ → Event
 releaseOf line =
-    cond (endsLine line (blankThenNumber line 1 largest64))
-    (event kind.Release noKey (valueOf (blankThenNumber line 1 largest64)) 0)
+    cond (endsLine line (blankThenNumber line behindLetter largest64))
+    (event kind.Release noKey (valueOf (blankThenNumber line behindLetter largest64)) 0)
     badEvent
 
 -- the event of a line that begins with a letter: a, i, b, d or r
 abbrev pub eventBy : ℕ → List ℕ → Event
 eventBy letter line =
-    cond (eqb letter 97) (admitOf line)
-    (cond (eqb letter 105) (keyedOf kind.Invalid line)
-    (cond (eqb letter 98) (keyedOf kind.BanQuery line)
-    (cond (eqb letter 100) (keyedOf kind.Disconnected line)
-    (cond (eqb letter 114) (releaseOf line) badEvent))))
+    cond (eqb letter (code "a")) (admitOf line)
+    (cond (eqb letter (code "i")) (keyedOf kind.Invalid line)
+    (cond (eqb letter (code "b")) (keyedOf kind.BanQuery line)
+    (cond (eqb letter (code "d")) (keyedOf kind.Disconnected line)
+    (cond (eqb letter (code "r")) (releaseOf line) badEvent))))
 
 -- the event that a line spells, or bad; an empty line has no first letter
 unfoldable pub eventOf : List ℕ → Event
@@ -193,29 +212,33 @@ eventOf line = eventBy (getD line 0 0) line
 
 -- ════ Lines that are written ════
 
--- a text as a line of 64 bytes, the unused ones zero
+-- how many bytes a line is written in
+abbrev pub lineSize : ℕ
+lineSize = 64
+
+-- a text as a line, the unused bytes zero
 abbrev pub lineOf : List ℕ → TraceLine
-lineOf text = record { bytes = text ++ replicate (64 - length text) 0; length = length text }
+lineOf text = record { bytes = text ++ replicate (lineSize - length text) 0; length = length text }
 
 -- the word of an answer
 abbrev pub wordText : Word → List ℕ
-wordText Allow = 65 ∷ 108 ∷ 108 ∷ 111 ∷ 119 ∷ []
-wordText Disconnect = 68 ∷ 105 ∷ 115 ∷ 99 ∷ 111 ∷ 110 ∷ 110 ∷ 101 ∷ 99 ∷ 116 ∷ []
-wordText Ban = 66 ∷ 97 ∷ 110 ∷ []
-wordText Banned = 66 ∷ 97 ∷ 110 ∷ 110 ∷ 101 ∷ 100 ∷ []
-wordText Noted = 78 ∷ 111 ∷ 116 ∷ 101 ∷ 100 ∷ []
-wordText Free = 70 ∷ 114 ∷ 101 ∷ 101 ∷ []
-wordText Closed = 67 ∷ 108 ∷ 111 ∷ 115 ∷ 101 ∷ 100 ∷ []
-wordText Released = 82 ∷ 101 ∷ 108 ∷ 101 ∷ 97 ∷ 115 ∷ 101 ∷ 100 ∷ []
+wordText Allow = ascii "Allow"
+wordText Disconnect = ascii "Disconnect"
+wordText Ban = ascii "Ban"
+wordText Banned = ascii "Banned"
+wordText Noted = ascii "Noted"
+wordText Free = ascii "Free"
+wordText Closed = ascii "Closed"
+wordText Released = ascii "Released"
 
 -- an answer, the messages and bytes in flight, the rows held
 unfoldable pub answerText : Word → ℕ → ℕ → ℕ → List ℕ
 answerText word messages bytes rows =
-    wordText word ++ (numberText messages ++ (numberText bytes ++ (numberText rows ++ (10 ∷ []))))
+    wordText word ++ (numberText messages ++ (numberText bytes ++ (numberText rows ++ (newline ∷ []))))
 
 -- `bad line K`
 unfoldable pub badLineText : ℕ → List ℕ
-badLineText k = (98 ∷ 97 ∷ 100 ∷ 32 ∷ 108 ∷ 105 ∷ 110 ∷ 101 ∷ []) ++ (numberText k ++ (10 ∷ []))
+badLineText k = ascii "bad line" ++ (numberText k ++ (newline ∷ []))
 
 -- ════ What the answers say ════
 
@@ -237,11 +260,11 @@ settingsSays settings.Bad = gives []
 
 -- the letter of an event's kind, then its bytes, its time and its key; a bad line gives nothing
 abbrev pub kindSays : EventKind → List ℕ → Said
-kindSays kind.Admit values = gives (97 ∷ values)
-kindSays kind.Invalid values = gives (105 ∷ values)
-kindSays kind.BanQuery values = gives (98 ∷ values)
-kindSays kind.Disconnected values = gives (100 ∷ values)
-kindSays kind.Release values = gives (114 ∷ values)
+kindSays kind.Admit values = gives (code "a" ∷ values)
+kindSays kind.Invalid values = gives (code "i" ∷ values)
+kindSays kind.BanQuery values = gives (code "b" ∷ values)
+kindSays kind.Disconnected values = gives (code "d" ∷ values)
+kindSays kind.Release values = gives (code "r" ∷ values)
 kindSays kind.Bad values = gives []
 
 abbrev pub eventSays : Event → Said

@@ -9,6 +9,7 @@ use native.Mathlib.Omega.{arith}
 use borrow.Author.Tests.{ne-eqb}
 use lib.Dec.{eqb}
 use lib.ListN.{getD}
+use Rattle.decimal.specs.Ascii.{code, blank}
 use Rattle.decimal.specs.Decimal.{scanOf}
 use Rattle.decimal.specs.DecimalLaws.{only-spelling}
 use Rattle.decimal.specs.declared.Scanned.{Scanned}
@@ -32,7 +33,7 @@ scan-bound line at most m = go (scanOf line at most) (λ n end h. only-spelling 
 
 pub field-bound : (line : List ℕ) (before : Scanned) (most : ℕ) → most < 10 ^ 20 → valueOf (fieldOf line before most) ≤ most
 unfolding blankThenNumber
-field-bound line (Number v at) most m = go (eqb (getD line at 0) 32)
+field-bound line (Number v at) most m = go (eqb (getD line at 0) blank)
   where
     go : (b : Bool) → valueOf (cond b (scanOf line (at + 1) most) Bad) ≤ most
     go true = scan-bound line (at + 1) most m
@@ -52,9 +53,9 @@ ends-told line e h k = ap (λ (s : Scanned). endsLine line s) (sym e) ∙ sym h 
 -- ════ Letters ════
 
 -- a line that begins with none of the five letters is bad
-pub other-letter : (k : ℕ) (line : List ℕ) → (k ≡ 97 → ⊥) → (k ≡ 105 → ⊥) → (k ≡ 98 → ⊥) → (k ≡ 100 → ⊥) → (k ≡ 114 → ⊥)
+pub other-letter : (k : ℕ) (line : List ℕ) → (k ≡ code "a" → ⊥) → (k ≡ code "i" → ⊥) → (k ≡ code "b" → ⊥) → (k ≡ code "d" → ⊥) → (k ≡ code "r" → ⊥)
     → eventBy k line ≡ badEvent
-other-letter k line a i b d r = rw (ne-eqb k 97 a, ne-eqb k 105 i, ne-eqb k 98 b, ne-eqb k 100 d, ne-eqb k 114 r)
+other-letter k line a i b d r = rw (ne-eqb k (code "a") a, ne-eqb k (code "i") i, ne-eqb k (code "b") b, ne-eqb k (code "d") d, ne-eqb k (code "r") r)
 
 -- ════ At most one outcome ════
 

@@ -4,11 +4,12 @@ use mathlib.Core.Path.{_≡_}
 use mathlib.Core.List.{List, [], _∷_, _++_}
 use Prim.Native.Nat.{ℕ}
 use lib.ListN.{getD, replicate}
+use Rattle.decimal.specs.Ascii.{code, blank}
 use Rattle.decimal.specs.Decimal.{digitsOf}
 use Rattle.peer_settings.specs.declared.config.PeerMessagePolicyConfig.{PeerMessagePolicyConfig}
 use Rattle.pubkey.specs.declared.Pubkey.{Pubkey}
 pub use Rattle.text_pieces.specs.Text.{hexChar, hexText}
-use Rattle.trace_lines.specs.Lines.{numberText}
+use Rattle.trace_lines.specs.Lines.{keySize, numberText}
 use Rattle.trace_lines.specs.declared.event.Event.{Event}
 use Rattle.trace_lines.specs.declared.event.EventKind.{EventKind}
 use Rattle.trace_lines.specs.declared.event.EventKind.the-variants as kind
@@ -29,26 +30,26 @@ settingsText c =
 
 -- the line `r BYTES`
 abbrev pub releaseText : ℕ → List ℕ
-releaseText bytes = 114 ∷ numberText bytes
+releaseText bytes = code "r" ∷ numberText bytes
 
 -- a text spells a key: all its bytes, or its first one where all are equal to that
 abbrev pub SpellsKey : List ℕ → Pubkey → Type 0
 SpellsKey text key =
     (text ≡ hexText (key .bytes))
-    ⊎ ((text ≡ hexText (getD (key .bytes) 0 0 ∷ [])) × (key .bytes ≡ replicate 33 (getD (key .bytes) 0 0)))
+    ⊎ ((text ≡ hexText (getD (key .bytes) 0 0 ∷ [])) × (key .bytes ≡ replicate keySize (getD (key .bytes) 0 0)))
 
 -- a line is a letter, a blank, a spelling of the key, and the numbers behind it
 pub record SpellsKeyed (line : List ℕ) (letter : ℕ) (key : Pubkey) (numbers : List ℕ) : Type 0 where
   pub key-text : List ℕ
   pub spells : SpellsKey key-text key
-  pub whole : line ≡ letter ∷ 32 ∷ (key-text ++ numbers)
+  pub whole : line ≡ letter ∷ blank ∷ (key-text ++ numbers)
 
 -- what a line of an event's kind has to be
 abbrev pub spellsAs : EventKind → List ℕ → Event → Type 0
-spellsAs kind.Admit line e = SpellsKeyed line 97 (e .key) (numberText (e .bytes) ++ numberText (e .«now_ms»))
-spellsAs kind.Invalid line e = SpellsKeyed line 105 (e .key) (numberText (e .«now_ms»))
-spellsAs kind.BanQuery line e = SpellsKeyed line 98 (e .key) (numberText (e .«now_ms»))
-spellsAs kind.Disconnected line e = SpellsKeyed line 100 (e .key) (numberText (e .«now_ms»))
+spellsAs kind.Admit line e = SpellsKeyed line (code "a") (e .key) (numberText (e .bytes) ++ numberText (e .«now_ms»))
+spellsAs kind.Invalid line e = SpellsKeyed line (code "i") (e .key) (numberText (e .«now_ms»))
+spellsAs kind.BanQuery line e = SpellsKeyed line (code "b") (e .key) (numberText (e .«now_ms»))
+spellsAs kind.Disconnected line e = SpellsKeyed line (code "d") (e .key) (numberText (e .«now_ms»))
 spellsAs kind.Release line e = line ≡ releaseText (e .bytes)
 spellsAs kind.Bad line e = Unit {0}
 

@@ -13,15 +13,16 @@ use lib.Dec.{leb, ltb, eqb}
 use lib.ListN.{length, drop, getD, replicate, take-append-drop, List·getD-eq-default}
 use lib.Seq.{drop-cons, drop-drop, drop-length}
 use Rattle.truths.specs.TruthLaws.{true-is-not-false, both-parts, chosen}
-use Rattle.decimal.specs.Decimal.{digitsOf, scanOf}
-use Rattle.decimal.specs.DecimalLaws.{only-spelling}
+use Rattle.decimal.specs.Ascii.{code, blank}
+use Rattle.decimal.specs.Decimal.{isDigit, digitsOf, scanOf}
+use Rattle.decimal.specs.DecimalLaws.{digit-range, only-spelling}
 use Rattle.decimal.specs.declared.Scanned.{Scanned}
 use Rattle.decimal.specs.declared.Scanned.the-variants.{Number, Bad}
 use Rattle.peer_settings.specs.declared.config.PeerMessagePolicyConfig.{PeerMessagePolicyConfig}
 use Rattle.pubkey.specs.declared.Pubkey.{Pubkey}
 use Rattle.trace_lines.specs.Lines.{largest32, largest64, blankThenNumber, fieldOf, valueOf, endsLine, numberText, event, noKey, admitOf, keyedOf, releaseOf, eventOf}
 use Rattle.trace_lines.specs.Lines.{interval, burst, rate, burstBytes, threshold, banDuration, maxTracked, maxMessages, maxBytes, configOf, settingsOf}
-use Rattle.trace_lines.specs.Lines.{hexDigit, hexPair, hexByte, hexBytes, allSpelled, keySpelled, keyOf, keyField}
+use Rattle.trace_lines.specs.Lines.{behindLetter, keyPlace, behindPair, keySize, hexDigit, hexPair, hexByte, hexBytes, allSpelled, keyBytes, keySpelled, keyOf, keyField}
 use Rattle.trace_lines.specs.Spelling.{settingsText, hexChar, hexText, SpellsKeyed, SpellsEvent}
 use Rattle.trace_lines.specs.declared.event.Event.{Event}
 use Rattle.trace_lines.specs.declared.event.EventKind.{EventKind}
@@ -68,13 +69,13 @@ scan-spelling line at most m h = scan-front line at most m (scanOf line at most)
 pub blank-spelling : (line : List ℕ) (at most : ℕ) → most < 10 ^ 20 → isNumber (blankThenNumber line at most) ≡ true
     → drop at line ≡ numberText (valueOf (blankThenNumber line at most)) ++ behind line (blankThenNumber line at most)
 unfolding blankThenNumber
-blank-spelling line at most m h = go (eqb (getD line at 0) 32) refl h
+blank-spelling line at most m h = go (eqb (getD line at 0) blank) refl h
   where
-    go : (b : Bool) → eqb (getD line at 0) 32 ≡ b → isNumber (cond b (scanOf line (at + 1) most) Bad) ≡ true
+    go : (b : Bool) → eqb (getD line at 0) blank ≡ b → isNumber (cond b (scanOf line (at + 1) most) Bad) ≡ true
         → drop at line ≡ numberText (valueOf (cond b (scanOf line (at + 1) most) Bad)) ++ behind line (cond b (scanOf line (at + 1) most) Bad)
     go true p k =
-        byte-within line at 32 (eqb-true (getD line at 0) 32 p) (omega arith)
-        ∙ ap (λ (l : List ℕ). 32 ∷ l) (scan-spelling line (at + 1) most m k)
+        byte-within line at blank (eqb-true (getD line at 0) blank p) (omega arith)
+        ∙ ap (λ (l : List ℕ). blank ∷ l) (scan-spelling line (at + 1) most m k)
     go false p k = absurd (true-is-not-false k refl)
 
 -- behind a field stand a blank, the digits of the next one, and what is behind that
@@ -135,25 +136,26 @@ range-told low high b h = go (leb low b) (leb b high) refl refl h
 
 -- a byte that is a hex digit is the digit of its value
 hex-digit-back : (b : ℕ) → hexDigit b < 16 → b ≡ hexChar (hexDigit b)
-hex-digit-back b h = go (leb 48 b && leb b 57) (leb 97 b && leb b 102) refl refl h
+hex-digit-back b h = go (isDigit b) (leb (code "a") b && leb b (code "f")) refl refl h
   where
-    go : (d a : Bool) → leb 48 b && leb b 57 ≡ d → leb 97 b && leb b 102 ≡ a
-        → cond d (b - 48) (cond a (b - 87) 16) < 16 → b ≡ hexChar (cond d (b - 48) (cond a (b - 87) 16))
+    go : (d a : Bool) → isDigit b ≡ d → leb (code "a") b && leb b (code "f") ≡ a
+        → cond d (b - code "0") (cond a ((b - code "a") + 10) 16) < 16
+        → b ≡ hexChar (cond d (b - code "0") (cond a ((b - code "a") + 10) 16))
     go true a p q k =
-        let r = range-told 48 57 b p in
-        let small : b - 48 < 10 = omega (arith, r) in
-        rw (lt-ltb (b - 48) 10 small) (omega (arith, r))
+        let r = digit-range b p in
+        let small : b - code "0" < 10 = omega (arith, r) in
+        rw (lt-ltb (b - code "0") 10 small) (omega (arith, r))
     go false true p q k =
-        let r = range-told 97 102 b q in
-        let large : 10 ≤ b - 87 = omega (arith, r) in
-        rw (le-ltb (b - 87) 10 large) (omega (arith, r))
+        let r = range-told (code "a") (code "f") b q in
+        let large : 10 ≤ (b - code "a") + 10 = omega arith in
+        rw (le-ltb ((b - code "a") + 10) 10 large) (omega (arith, r))
     go false false p q k = absurd (omega arith)
 
 -- a hex digit is no zero byte
 char-above : (h : ℕ) → 0 < hexChar h
 char-above h = go (ltb h 10)
   where
-    go : (b : Bool) → 0 < cond b (48 + h) (87 + h)
+    go : (b : Bool) → 0 < cond b (code "0" + h) ((code "a" - 10) + h)
     go true = omega arith
     go false = omega arith
 
@@ -215,59 +217,59 @@ first-spelled line at step n h =
 
 module _ (line : List ℕ) (letter : ℕ) (first : getD line 0 0 ≡ letter) (above : 0 < letter) where
   -- the line by what stands behind the blank
-  letter-blank : (more : List ℕ) → getD line 1 0 ≡ 32 → drop 2 line ≡ more → line ≡ letter ∷ 32 ∷ more
+  letter-blank : (more : List ℕ) → getD line behindLetter 0 ≡ blank → drop keyPlace line ≡ more → line ≡ letter ∷ blank ∷ more
   letter-blank more second e =
       byte-within line 0 letter first above
-      ∙ ap (λ (l : List ℕ). letter ∷ l) (byte-within line 1 32 second (omega arith) ∙ ap (λ (l : List ℕ). 32 ∷ l) e)
+      ∙ ap (λ (l : List ℕ). letter ∷ l) (byte-within line behindLetter blank second (omega arith) ∙ ap (λ (l : List ℕ). blank ∷ l) e)
 
-  long-key : getD line 1 0 ≡ 32 → isNumber (keySpelled line 2 .end) ≡ true
+  long-key : getD line behindLetter 0 ≡ blank → isNumber (keySpelled line 2 .end) ≡ true
       → SpellsKeyed line letter (keySpelled line 2 .key) (behind line (keySpelled line 2 .end))
   unfolding keySpelled
-  long-key second h = go (allSpelled (hexBytes line 2 2 33)) refl h
+  long-key second h = go (allSpelled (keyBytes line 2)) refl h
     where
-      go : (b : Bool) → allSpelled (hexBytes line 2 2 33) ≡ b
-          → isNumber (cond b (keyField (hexBytes line 2 2 33) (Number 0 68)) (record { key = noKey; end = Bad }) .end) ≡ true
-          → SpellsKeyed line letter (cond b (keyField (hexBytes line 2 2 33) (Number 0 68)) (record { key = noKey; end = Bad }) .key)
-          (behind line (cond b (keyField (hexBytes line 2 2 33) (Number 0 68)) (record { key = noKey; end = Bad }) .end))
+      go : (b : Bool) → allSpelled (keyBytes line 2) ≡ b
+          → isNumber (cond b (keyField (keyBytes line 2) (Number 0 68)) (record { key = noKey; end = Bad }) .end) ≡ true
+          → SpellsKeyed line letter (cond b (keyField (keyBytes line 2) (Number 0 68)) (record { key = noKey; end = Bad }) .key)
+          (behind line (cond b (keyField (keyBytes line 2) (Number 0 68)) (record { key = noKey; end = Bad }) .end))
       go true p k = record {
-        key-text = hexText (hexBytes line 2 2 33);
+        key-text = hexText (keyBytes line 2);
         spells = inl refl;
-        whole = letter-blank (hexText (hexBytes line 2 2 33) ++ drop 68 line) second (bytes-spelling line 33 2 p);
+        whole = letter-blank (hexText (keyBytes line 2) ++ drop 68 line) second (bytes-spelling line keySize keyPlace p);
       }
       go false p k = absurd (true-is-not-false k refl)
 
-  short-key : getD line 1 0 ≡ 32 → isNumber (keySpelled line 0 .end) ≡ true
+  short-key : getD line behindLetter 0 ≡ blank → isNumber (keySpelled line 0 .end) ≡ true
       → SpellsKeyed line letter (keySpelled line 0 .key) (behind line (keySpelled line 0 .end))
   unfolding keySpelled
-  short-key second h = go (allSpelled (hexBytes line 2 0 33)) refl h
+  short-key second h = go (allSpelled (keyBytes line 0)) refl h
     where
-      go : (b : Bool) → allSpelled (hexBytes line 2 0 33) ≡ b
-          → isNumber (cond b (keyField (hexBytes line 2 0 33) (Number 0 4)) (record { key = noKey; end = Bad }) .end) ≡ true
-          → SpellsKeyed line letter (cond b (keyField (hexBytes line 2 0 33) (Number 0 4)) (record { key = noKey; end = Bad }) .key)
-          (behind line (cond b (keyField (hexBytes line 2 0 33) (Number 0 4)) (record { key = noKey; end = Bad }) .end))
+      go : (b : Bool) → allSpelled (keyBytes line 0) ≡ b
+          → isNumber (cond b (keyField (keyBytes line 0) (Number 0 behindPair)) (record { key = noKey; end = Bad }) .end) ≡ true
+          → SpellsKeyed line letter (cond b (keyField (keyBytes line 0) (Number 0 behindPair)) (record { key = noKey; end = Bad }) .key)
+          (behind line (cond b (keyField (keyBytes line 0) (Number 0 behindPair)) (record { key = noKey; end = Bad }) .end))
       go true p k =
-          let v : ℕ = hexByte line 2 in
-          let bytes : List ℕ = hexBytes line 2 0 33 in
-          let same : bytes ≡ replicate 33 v = equal-bytes line 33 2 in
+          let v : ℕ = hexByte line keyPlace in
+          let bytes : List ℕ = keyBytes line 0 in
+          let same : bytes ≡ replicate keySize v = equal-bytes line keySize keyPlace in
           let f : v ≡ getD bytes 0 0 = sym (ap (λ (l : List ℕ). getD l 0 0) same) in
           record {
             key-text = hexText (v ∷ []);
-            spells = inr (ap (λ (x : ℕ). hexText (x ∷ [])) f, same ∙ ap (λ (x : ℕ). replicate 33 x) f);
-            whole = letter-blank (hexText (v ∷ []) ++ drop 4 line) second (pair-spelling line 2 (first-spelled line 2 0 32 p));
+            spells = inr (ap (λ (x : ℕ). hexText (x ∷ [])) f, same ∙ ap (λ (x : ℕ). replicate keySize x) f);
+            whole = letter-blank (hexText (v ∷ []) ++ drop behindPair line) second (pair-spelling line keyPlace (first-spelled line keyPlace 0 (keySize - 1) p));
           }
       go false p k = absurd (true-is-not-false k refl)
 
   -- a line with a good key, by what stands behind the key
   keyed-front : isNumber (keyOf line .end) ≡ true → SpellsKeyed line letter (keyOf line .key) (behind line (keyOf line .end))
   unfolding keyOf
-  keyed-front h = go (eqb (getD line 1 0) 32) (eqb (getD line 4 0) 32) refl h
+  keyed-front h = go (eqb (getD line behindLetter 0) blank) (eqb (getD line behindPair 0) blank) refl h
     where
-      go : (b s : Bool) → eqb (getD line 1 0) 32 ≡ b
+      go : (b s : Bool) → eqb (getD line behindLetter 0) blank ≡ b
           → isNumber (cond b (keySpelled line (cond s 0 2)) (record { key = noKey; end = Bad }) .end) ≡ true
           → SpellsKeyed line letter (cond b (keySpelled line (cond s 0 2)) (record { key = noKey; end = Bad }) .key)
           (behind line (cond b (keySpelled line (cond s 0 2)) (record { key = noKey; end = Bad }) .end))
-      go true true p k = short-key (eqb-true (getD line 1 0) 32 p) k
-      go true false p k = long-key (eqb-true (getD line 1 0) 32 p) k
+      go true true p k = short-key (eqb-true (getD line behindLetter 0) blank p) k
+      go true false p k = long-key (eqb-true (getD line behindLetter 0) blank p) k
       go false s p k = absurd (true-is-not-false k refl)
 
   -- the same where it is known what stands behind the key
@@ -278,12 +280,12 @@ module _ (line : List ℕ) (letter : ℕ) (first : getD line 0 0 ≡ letter) (ab
       record {
         key-text = s .key-text;
         spells = s .spells;
-        whole = s .whole ∙ ap (λ (l : List ℕ). letter ∷ 32 ∷ (s .key-text ++ l)) e;
+        whole = s .whole ∙ ap (λ (l : List ℕ). letter ∷ blank ∷ (s .key-text ++ l)) e;
       }
 
 -- ════ Events ════
 
-admit-spelling : (line : List ℕ) → getD line 0 0 ≡ 97 → SpellsEvent line (admitOf line)
+admit-spelling : (line : List ℕ) → getD line 0 0 ≡ code "a" → SpellsEvent line (admitOf line)
 unfolding admitOf
 admit-spelling line first =
     let key : Scanned = keyOf line .end in
@@ -293,7 +295,7 @@ admit-spelling line first =
     (λ p. let e = ends-spelling line now p in
     let g = field-spelling line bytes largest64 (omega arith) (e .0) in
     let f = field-spelling line key largest64 (omega arith) (g .0) in
-    keyed-numbers line 97 first (omega arith) (numberText (valueOf bytes) ++ numberText (valueOf now)) (f .0)
+    keyed-numbers line (code "a") first (omega arith) (numberText (valueOf bytes) ++ numberText (valueOf now)) (f .0)
     (f .1 ∙ ap (λ (l : List ℕ). numberText (valueOf bytes) ++ l)
     (g .1 ∙ ap (λ (l : List ℕ). numberText (valueOf now) ++ l) (e .1) ∙ append-nil (numberText (valueOf now)))))
     (λ _. tt)
@@ -313,14 +315,14 @@ keyed-spelling line k letter first above spells =
     (f .1 ∙ ap (λ (l : List ℕ). numberText (valueOf now) ++ l) (e .1) ∙ append-nil (numberText (valueOf now)))))
     (λ _. tt)
 
-release-spelling : (line : List ℕ) → getD line 0 0 ≡ 114 → SpellsEvent line (releaseOf line)
+release-spelling : (line : List ℕ) → getD line 0 0 ≡ code "r" → SpellsEvent line (releaseOf line)
 unfolding releaseOf
 release-spelling line first =
-    let bytes : Scanned = blankThenNumber line 1 largest64 in
+    let bytes : Scanned = blankThenNumber line behindLetter largest64 in
     chosen (SpellsEvent line) (endsLine line bytes)
     (λ p. let e = ends-spelling line bytes p in
-    byte-within line 0 114 first (omega arith)
-    ∙ ap (λ (l : List ℕ). 114 ∷ l) (blank-spelling line 1 largest64 (omega arith) (e .0)
+    byte-within line 0 (code "r") first (omega arith)
+    ∙ ap (λ (l : List ℕ). code "r" ∷ l) (blank-spelling line behindLetter largest64 (omega arith) (e .0)
     ∙ ap (λ (l : List ℕ). numberText (valueOf bytes) ++ l) (e .1) ∙ append-nil (numberText (valueOf bytes))))
     (λ _. tt)
 
@@ -330,8 +332,8 @@ unfolding eventOf
 event-spelling line =
     let k : ℕ = getD line 0 0 in
     let P : Event → Type 0 = SpellsEvent line in
-    chosen P (eqb k 97) (λ p. admit-spelling line (eqb-true k 97 p))
-    (λ _. chosen P (eqb k 105) (λ p. keyed-spelling line kind.Invalid 105 (eqb-true k 105 p) (omega arith) (λ key now s. s))
-    (λ _. chosen P (eqb k 98) (λ p. keyed-spelling line kind.BanQuery 98 (eqb-true k 98 p) (omega arith) (λ key now s. s))
-    (λ _. chosen P (eqb k 100) (λ p. keyed-spelling line kind.Disconnected 100 (eqb-true k 100 p) (omega arith) (λ key now s. s))
-    (λ _. chosen P (eqb k 114) (λ p. release-spelling line (eqb-true k 114 p)) (λ _. tt)))))
+    chosen P (eqb k (code "a")) (λ p. admit-spelling line (eqb-true k (code "a") p))
+    (λ _. chosen P (eqb k (code "i")) (λ p. keyed-spelling line kind.Invalid (code "i") (eqb-true k (code "i") p) (omega arith) (λ key now s. s))
+    (λ _. chosen P (eqb k (code "b")) (λ p. keyed-spelling line kind.BanQuery (code "b") (eqb-true k (code "b") p) (omega arith) (λ key now s. s))
+    (λ _. chosen P (eqb k (code "d")) (λ p. keyed-spelling line kind.Disconnected (code "d") (eqb-true k (code "d") p) (omega arith) (λ key now s. s))
+    (λ _. chosen P (eqb k (code "r")) (λ p. release-spelling line (eqb-true k (code "r") p)) (λ _. tt)))))

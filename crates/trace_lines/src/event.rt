@@ -11,6 +11,16 @@ use super::field::value;
 use decimal::Scanned;
 use pubkey::Pubkey;
 
+// Places of a line: of the blank behind its letter, of its key, and behind the key's first two digits.
+const BEHIND_LETTER: usize = 1;
+
+const KEY_PLACE: usize = 2;
+
+const BEHIND_PAIR: usize = 4;
+
+// How many bytes a key has.
+const KEY_SIZE: usize = 33;
+
 // What an event asks of the policy, by the letters a, i, b, d and r.
 pub enum EventKind {
     Admit,
@@ -83,7 +93,9 @@ fn no_key() -> KeyField
     ensures { λ r. ⌜ r ≡ record { key = noKey; end = Scanned.Bad } ⌝ }
 {
     KeyField {
-        key: Pubkey { bytes: [0u8; 33] },
+        key: Pubkey {
+            bytes: [0u8; KEY_SIZE],
+        },
         end: Scanned::Bad,
     }
 }
@@ -93,10 +105,10 @@ fn key_spelled(line: &[u8], step: usize) -> KeyField
     requires { ⌜ step ≤ 2 ⌝ }
     ensures { λ r. ⌜ r ≡ keySpelled (now (line .entry)) step ⌝ }
 {
-    let mut bytes = [0u8; 33];
+    let mut bytes = [0u8; KEY_SIZE];
     let mut i: usize = 0;
-    while i < 33 {
-        let byte = hex_byte(line, 2 + step * i);
+    while i < KEY_SIZE {
+        let byte = hex_byte(line, KEY_PLACE + step * i);
         if byte >= 256 {
             return no_key();
         }
@@ -105,7 +117,7 @@ fn key_spelled(line: &[u8], step: usize) -> KeyField
     }
     KeyField {
         key: Pubkey { bytes },
-        end: Scanned::Number(0, 4 + 32 * step),
+        end: Scanned::Number(0, BEHIND_PAIR + (KEY_SIZE - 1) * step),
     }
 }
 
@@ -113,10 +125,10 @@ fn key_spelled(line: &[u8], step: usize) -> KeyField
 fn key_of(line: &[u8]) -> KeyField
     ensures { λ r. ⌜ r ≡ keyOf (now (line .entry)) ⌝ }
 {
-    if byte_at(line, 1) != b' ' {
+    if byte_at(line, BEHIND_LETTER) != b' ' {
         return no_key();
     }
-    if byte_at(line, 4) == b' ' {
+    if byte_at(line, BEHIND_PAIR) == b' ' {
         return key_spelled(line, 0);
     }
     key_spelled(line, 2)
@@ -127,7 +139,9 @@ fn bad_event() -> Event
 {
     Event {
         kind: EventKind::Bad,
-        key: Pubkey { bytes: [0u8; 33] },
+        key: Pubkey {
+            bytes: [0u8; KEY_SIZE],
+        },
         bytes: 0,
         now_ms: 0,
     }
@@ -176,13 +190,15 @@ fn parse_keyed(kind: EventKind, line: &[u8]) -> Event
 fn parse_release(line: &[u8]) -> Event
     ensures { λ r. ⌜ r ≡ releaseOf (now (line .entry)) ⌝ }
 {
-    let bytes = blank_then_number(line, 1, LARGEST_64);
+    let bytes = blank_then_number(line, BEHIND_LETTER, LARGEST_64);
     if !ends(line, bytes) {
         return bad_event();
     }
     Event {
         kind: EventKind::Release,
-        key: Pubkey { bytes: [0u8; 33] },
+        key: Pubkey {
+            bytes: [0u8; KEY_SIZE],
+        },
         bytes: value(bytes),
         now_ms: 0,
     }

@@ -8,9 +8,12 @@ use text_pieces::piece::put_number;
 use text_pieces::piece::put_refusal;
 use text_pieces::piece::put_text;
 
+// How many bytes a line is written in.
+pub const LINE_SIZE: usize = 64;
+
 // A line with its newline; the bytes behind its length are zero.
 pub struct TraceLine {
-    pub bytes: [u8; 64],
+    pub bytes: [u8; LINE_SIZE],
     pub length: usize,
 }
 
@@ -26,9 +29,9 @@ pub enum Word {
     Released,
 }
 
-// Writes the word at the front, and answers the place behind it.
+// Writes the word at the front, and answers the place behind it. None is longer than `Disconnect`.
 fn put_word(out: &mut [u8], word: Word) -> usize
-    requires { ⌜ 10 ≤ length (now out) ⌝ }
+    requires { ⌜ length (wordText Word.Disconnect) ≤ length (now out) ⌝ }
     ensures { λ r. ⌜ Wrote (now (out .entry)) 0 (wordText word) r (now (out .exit)) ⌝ }
 {
     match word {
@@ -43,11 +46,11 @@ fn put_word(out: &mut [u8], word: Word) -> usize
     }
 }
 
-// An answer, the messages and bytes in flight, the rows held: at most 64 bytes.
+// An answer, the messages and bytes in flight, the rows held.
 pub fn answer_line(word: Word, messages: u32, bytes: u64, rows: u64) -> TraceLine
     ensures { λ r. ⌜ r ≡ lineOf (answerText word messages bytes rows) ⌝ }
 {
-    let mut out = [0u8; 64];
+    let mut out = [0u8; LINE_SIZE];
     let after_word = put_word(&mut out, word);
     let after_messages = put_number(&mut out, after_word, messages as u64);
     let after_bytes = put_number(&mut out, after_messages, bytes);
@@ -63,7 +66,7 @@ pub fn answer_line(word: Word, messages: u32, bytes: u64, rows: u64) -> TraceLin
 pub fn bad_line(number: u64) -> TraceLine
     ensures { λ r. ⌜ r ≡ lineOf (badLineText number) ⌝ }
 {
-    let mut out = [0u8; 64];
+    let mut out = [0u8; LINE_SIZE];
     let after_words = put_text(&mut out, 0, b"bad line");
     let after_number = put_number(&mut out, after_words, number);
     out[after_number] = b'\n';
@@ -77,7 +80,7 @@ pub fn bad_line(number: u64) -> TraceLine
 pub fn refusal_line(number: u32) -> TraceLine
     ensures { λ r. ⌜ r ≡ lineOf (refusalText number) ⌝ }
 {
-    let mut out = [0u8; 64];
+    let mut out = [0u8; LINE_SIZE];
     let end = put_refusal(&mut out, number as u64);
     TraceLine {
         bytes: out,

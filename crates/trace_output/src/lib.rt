@@ -1,6 +1,7 @@
 // What the programs over crate `trace` write: the lines that a scan hands out, on standard output.
 use trace::scan::next;
 use trace::scan::open;
+use trace_lines::line::LINE_SIZE;
 use trace_lines::line::TraceLine;
 
 // Writes what the scan of an input hands out, and answers whether that went well; behind a line that could not be written comes no
@@ -30,7 +31,7 @@ pub fn write_answers(input: &[u8], table: &mut [u8]) -> bool {
 fn write_line(line: TraceLine) -> bool {
     let bytes = line.bytes;
     let length = line.length;
-    if length > 64 {
+    if length > LINE_SIZE {
         return standard::write(&bytes);
     }
     standard::write(&bytes[..length])

@@ -8,7 +8,8 @@ use lib.ListN.{length, length-set}
 use denote.Ref.{now}
 use Rattle.lent_bytes.specs.LentBytes.{put}
 use Rattle.lent_bytes.specs.LentBytesLaws.{put-nil}
-use Rattle.decimal.specs.Decimal.{digitsOf}
+use Rattle.decimal.specs.Ascii.{code}
+use Rattle.decimal.specs.Decimal.{mostDigits, digitsOf}
 use Rattle.decimal.specs.DecimalLaws.{lowDigits, low-within}
 use Rattle.decimal.proofs.Loops.{digit-written}
 use Rattle.decimal.proofs.put_decimal.Statement.{statement}
@@ -29,11 +30,11 @@ loop-holds c = (refl, (refl, omega arith))
 sub-left : tie.Need-sub-left Inv-loop μ-loop
 sub-left c = omega arith
 
-add-out : tie.Need-add-out Inv-loop μ-loop
-add-out c = omega arith
-
 cast-out : tie.Need-cast-out Inv-loop μ-loop
 cast-out c = omega arith
+
+add-out : tie.Need-add-out Inv-loop μ-loop
+add-out c = omega arith
 
 add-out-2 : tie.Need-add-out-2 Inv-loop μ-loop
 add-out-2 c = omega (arith, c .before .before .width .ensures)
@@ -49,7 +50,7 @@ loop-again c = let a = c .before .before .before .before .args in let l = c .bef
     let e : l .left ≡ suc (l .left - 1) = omega arith in (
       l .inv .0 ∙ ap (λ (k : ℕ). put (l .out) (a .at) (lowDigits k (l .rest))) e
           ∙ digit-written (l .out) (a .at) (l .left - 1) (l .rest) (omega (arith, c .before .before .width .ensures)),
-      (length-set (l .out) (a .at + (l .left - 1)) (48 + l .rest % 10) ∙ l .inv .1 .0, omega arith),
+      (length-set (l .out) (a .at + (l .left - 1)) (code "0" + l .rest % 10) ∙ l .inv .1 .0, omega arith),
     )
 
 add-result : tie.Need-add-result Inv-loop μ-loop
@@ -62,7 +63,7 @@ returns : tie.Need-returns Inv-loop μ-loop
 unfolding digitsOf
 returns c = let a = c .before .before .before .before .args in let l = c .before .loop in
     let none : l .left ≡ 0 = omega arith in
-    let whole : put (now (a .out)) (a .at) (lowDigits (c .before .before .width .result) (a .n)) ≡ put (now (a .out)) (a .at) (digitsOf (a .n)) = rw (c .before .before .width .ensures, low-within 20 (a .n)) in (
+    let whole : put (now (a .out)) (a .at) (lowDigits (c .before .before .width .result) (a .n)) ≡ put (now (a .out)) (a .at) (digitsOf (a .n)) = rw (c .before .before .width .ensures, low-within mostDigits (a .n)) in (
       ap (λ (k : ℕ). a .at + k) (c .before .before .width .ensures),
       sym (put-nil (l .out) (a .at)) ∙ ap (λ (k : ℕ). put (l .out) (a .at) (lowDigits k (l .rest))) (sym none) ∙ sym (l .inv .0) ∙ whole,
     )
@@ -76,8 +77,8 @@ put-decimal-spec =
     width-requires
     loop-holds
     sub-left
-    add-out
     cast-out
+    add-out
     add-out-2
     slice-write-out
     loop-less

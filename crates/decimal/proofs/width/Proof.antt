@@ -4,13 +4,13 @@ use mathlib.Core.Path.{_≡_}
 use Prim.Native.Nat.{suc, _+_, _-_, _/_, _≤_}
 use native.Mathlib.Omega.{arith}
 use lib.ListN.{length}
-use Rattle.decimal.specs.Decimal.{digitsWithin, digitsOf}
+use Rattle.decimal.specs.Decimal.{digitsWithin, mostDigits, digitsOf}
 use Rattle.decimal.proofs.Loops.{one-digit, one-digit-more, last-digit}
 use Rattle.decimal.proofs.width.Statement.{statement}
 use Rattle.decimal.proofs.width.Tie as tie
 
 abbrev Inv-loop : tie.InvT-loop
-Inv-loop n rest₀ width₀ rest width = (length (digitsWithin 20 n) + 1 ≡ width + length (digitsWithin (21 - width) rest)) × ((1 ≤ width) × (width ≤ 20))
+Inv-loop n rest₀ width₀ rest width = (length (digitsWithin mostDigits n) + 1 ≡ width + length (digitsWithin (21 - width) rest)) × ((1 ≤ width) × (width ≤ 20))
 
 abbrev μ-loop : tie.MeasureT-loop
 μ-loop n rest₀ width₀ rest width = 20 - width

@@ -7,10 +7,10 @@ use Rattle.replay_gossip.proofs.run.Statement.{statement}
 use Rattle.replay_gossip.proofs.run.Tie as tie
 
 abbrev Inv-loop : tie.InvT-loop
-Inv-loop first₀ second₀ held₀ turns₀ first second held turns = (length first ≡ length first₀) × (length second ≡ length second₀)
+Inv-loop first₀ second₀ held₀ rounds₀ first second held rounds = (length first ≡ length first₀) × (length second ≡ length second₀)
 
 abbrev μ-loop : tie.MeasureT-loop
-μ-loop first₀ second₀ held₀ turns₀ first second held turns = turns
+μ-loop first₀ second₀ held₀ rounds₀ first second held rounds = rounds
 
 lending-requires : tie.Need-lending-requires Inv-loop μ-loop
 lending-requires c κs = tt
@@ -30,8 +30,8 @@ same-length-2 c = search needs
 returns : tie.Need-returns Inv-loop μ-loop
 returns c = tt
 
-sub-turns : tie.Need-sub-turns Inv-loop μ-loop
-sub-turns c = omega arith
+sub-rounds : tie.Need-sub-rounds Inv-loop μ-loop
+sub-rounds c = omega arith
 
 loop-less : tie.Need-loop-less Inv-loop μ-loop
 loop-less c = omega arith
@@ -60,7 +60,7 @@ run-spec =
     same-length
     same-length-2
     returns
-    sub-turns
+    sub-rounds
     loop-less
     loop-again
     same-length-3

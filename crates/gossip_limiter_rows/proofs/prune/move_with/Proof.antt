@@ -3,7 +3,7 @@ use native.Mathlib.Omega.{arith}
 use Rattle.table.specs.Memory.{wordBytes}
 use Rattle.table.specs.MemoryLaws.{length-wordBytes}
 use Rattle.table_laws.specs.MapLaws.{moved-with}
-use Rattle.gossip_limiter_rows.specs.Rows.{entryWords}
+use Rattle.gossip_limiter_rows.specs.Rows.{keyWidth, rowWidth, entryWords}
 use borrow.Author.Needs.{needs}
 use Rattle.gossip_limiter_rows.proofs.prune.move_with.Statement.{statement}
 use Rattle.gossip_limiter_rows.proofs.prune.move_with.Tie as tie
@@ -36,7 +36,7 @@ returns c =
     let at-words-of = at-keep-row .before .before in
     let begin = at-words-of .before .before in
     let a = begin .args in
-    moved-with 94 70 (a .from) (a .to) (a .table .now) _ _ (wordBytes (entryWords (a .e))) (omega arith) (omega arith) (omega (arith, begin .pre)) (length-wordBytes (entryWords (a .e))) (at-keep-row .keep-row .ensures) (rw (at-words-of .words-of .ensures) at (at-put-words .put-words .ensures))
+    moved-with rowWidth keyWidth (a .from) (a .to) (a .table .now) _ _ (wordBytes (entryWords (a .e))) (omega arith) (omega arith) (omega (arith, begin .pre)) (length-wordBytes (entryWords (a .e))) (at-keep-row .keep-row .ensures) (rw (at-words-of .words-of .ensures) at (at-put-words .put-words .ensures))
 
 pub move-with-spec : {M : Type 1} → statement M
 move-with-spec =

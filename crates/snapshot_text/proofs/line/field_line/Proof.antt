@@ -8,16 +8,20 @@ use Rattle.lent_bytes.specs.LentBytes.{zeros}
 use Rattle.text_pieces.specs.Text.{columnText}
 use Rattle.text_pieces.specs.Private.{Wrote}
 use Rattle.text_pieces.specs.TextLaws.{room-over, more-over}
-use Rattle.snapshot_text.specs.Shown.{lineOf}
+use Rattle.snapshot_text.specs.Shown.{numbersEnd, lineSize, lineOf}
 use Rattle.snapshot_text.specs.LineLaws.{field-fits, field-whole, line-ends}
 use borrow.Author.Needs.{needs}
 use Rattle.snapshot_text.proofs.line.field_line.Statement.{statement}
 use Rattle.snapshot_text.proofs.line.field_line.Tie as tie
 
+abbrev begin : tie.After-out4 → tie.Start
+begin c = c .before .before .before .before .before .before .before
+
 -- the name and its number
 field-written : (c : tie.After-out4)
-    → Wrote (zeros 300) 0 (c .before .before .before .before .before .before .before .args .name .now ++ columnText (51 - length (c .before .before .before .before .before .before .before .args .name .now)) (c .before .before .before .before .before .before .before .args .number)) (c .before .put-column .result) (c .before .put-column .last .0)
-field-written c = more-over 300 (c .before .before .before .before .put-text .ensures) (c .before .put-column .ensures)
+    → Wrote (zeros lineSize) 0 (begin c .args .name .now ++ columnText (numbersEnd - length (begin c .args .name .now)) (begin c .args .number))
+    (c .before .put-column .result) (c .before .put-column .last .0)
+field-written c = more-over lineSize (c .before .before .before .before .put-text .ensures) (c .before .put-column .ensures)
 
 slice-aggregate-put-text : tie.Need-slice-aggregate-put-text
 slice-aggregate-put-text c = search needs
@@ -33,17 +37,17 @@ slice-aggregate-put-column c = search needs
 
 put-column-requires : tie.Need-put-column-requires
 put-column-requires c κs = let a = c .before .before .before .before .before .args in let name = a .name .now in
-    room-over 300 (c .before .before .put-text .ensures) (length (columnText (51 - length name) (a .number)))
-    (omega (arith, field-fits name (a .number) (omega arith), length-append name (columnText (51 - length name) (a .number))))
+    room-over lineSize (c .before .before .put-text .ensures) (length (columnText (numbersEnd - length name) (a .number)))
+    (omega (arith, field-fits name (a .number) (omega arith), length-append name (columnText (numbersEnd - length name) (a .number))))
 
 array-write-out : tie.Need-array-write-out
-array-write-out c = let a = c .before .before .before .before .before .before .before .args in omega (arith, field-written c .behind, field-fits (a .name .now) (a .number) (omega arith))
+array-write-out c = let a = begin c .args in omega (arith, field-written c .behind, field-fits (a .name .now) (a .number) (omega arith))
 
 add-t9 : tie.Need-add-t9
-add-t9 c = let a = c .before .before .before .before .before .before .before .args in omega (arith, field-written c .behind, field-fits (a .name .now) (a .number) (omega arith))
+add-t9 c = let a = begin c .args in omega (arith, field-written c .behind, field-fits (a .name .now) (a .number) (omega arith))
 
 returns : tie.Need-returns
-returns c = let a = c .before .before .before .before .before .before .before .args in
+returns c = let a = begin c .args in
     line-ends (field-written c) (omega (arith, field-fits (a .name .now) (a .number) (omega arith))) ∙ ap lineOf (field-whole (a .name .now) (a .number))
 
 pub field-line-spec : {M : Type 1} → statement M

@@ -4,6 +4,7 @@ use mathlib.Core.List.{_++_}
 use Prim.Native.Nat.{ℕ, _-_}
 use native.Mathlib.Omega.{arith}
 use lib.ListN.{length, length-replicate}
+use Rattle.decimal.specs.Ascii.{blank}
 use Rattle.decimal.specs.Decimal.{digitsOf}
 use Rattle.text_pieces.specs.Text.{blanks, numberText, columnText}
 use Rattle.text_pieces.specs.TextLaws.{length-column, wrote-length, wrote-more, wrote-as}
@@ -27,7 +28,7 @@ put-number-requires c κs =
     let at-width = at-left-of .before in
     let begin = at-width .before .before in
     let a = begin .args in let w = at-put-blanks .put-blanks .ensures in
-    let size = length-replicate {A = ℕ} (at-left-of .left-of .result) 32 in
+    let size = length-replicate {A = ℕ} (at-left-of .left-of .result) blank in
     let column = length-column (a .width) (a .n) in
     let digits = at-width .width .ensures in
     let left = at-left-of .left-of .ensures in

@@ -1,18 +1,18 @@
--- `text_pieces::column::put_columns` meets its contract. The invariant of its loop: the first i numbers are written, each in at
--- most 21 places. The measure is how many are left. Assumes nothing.
+-- `text_pieces::column::put_columns` meets its contract. The invariant of its loop: the first i numbers are written, each in no
+-- more places than a number takes at most. The measure is how many are left. Assumes nothing.
 use mathlib.Core.Path.{_≡_, refl, sym, ap, _∙_}
 use Prim.Native.Nat.{_+_, _-_, _*_, _≤_}
 use native.Mathlib.Omega.{arith}
 use lib.Seq.{take-all}
 use lib.ListN.{length, take, getD}
-use Rattle.text_pieces.specs.Text.{columnsText}
+use Rattle.text_pieces.specs.Text.{numberRoom, columnsText}
 use Rattle.text_pieces.specs.Private.{Wrote}
 use Rattle.text_pieces.specs.TextLaws.{column-fits, columns-more, wrote-nothing, wrote-more, wrote-as}
 use Rattle.text_pieces.proofs.column.put_columns.Statement.{statement}
 use Rattle.text_pieces.proofs.column.put_columns.Tie as tie
 
 abbrev Inv-loop : tie.InvT-loop
-Inv-loop out₀ at width numbers place₀ i₀ out place i = (i ≤ length numbers) × ((place ≤ at + 21 * i) × (Wrote out₀ at (columnsText width (take i numbers)) place out × (length out ≡ length out₀)))
+Inv-loop out₀ at width numbers place₀ i₀ out place i = (i ≤ length numbers) × ((place ≤ at + numberRoom * i) × (Wrote out₀ at (columnsText width (take i numbers)) place out × (length out ≡ length out₀)))
 
 abbrev μ-loop : tie.MeasureT-loop
 μ-loop out₀ at width numbers place₀ i₀ out place i = length numbers - i

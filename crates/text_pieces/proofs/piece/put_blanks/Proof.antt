@@ -8,6 +8,7 @@ use native.Mathlib.Omega.{arith}
 use lib.ListN.{length, set, length-set, length-replicate}
 use Rattle.lent_bytes.specs.LentBytes.{put}
 use Rattle.lent_bytes.specs.LentBytesLaws.{put-nil}
+use Rattle.decimal.specs.Ascii.{blank}
 use Rattle.text_pieces.specs.Text.{blanks}
 use Rattle.text_pieces.specs.TextLaws.{blank-written}
 use Rattle.text_pieces.proofs.piece.put_blanks.Statement.{statement}
@@ -38,8 +39,8 @@ loop-again : tie.Need-loop-again Inv-loop μ-loop
 loop-again c = let a = c .before .before .args in let turn = c .before .loop in (
   omega arith,
   (
-    ap (λ (l : List ℕ). set l (a .at + turn .written) 32) (turn .inv .1 .0) ∙ blank-written (a .out .now) (a .at) (turn .written) (omega arith),
-    length-set (turn .out) (a .at + turn .written) 32 ∙ turn .inv .1 .1,
+    ap (λ (l : List ℕ). set l (a .at + turn .written) blank) (turn .inv .1 .0) ∙ blank-written (a .out .now) (a .at) (turn .written) (omega arith),
+    length-set (turn .out) (a .at + turn .written) blank ∙ turn .inv .1 .1,
   ),
 )
 
@@ -52,7 +53,7 @@ same-length c = c .before .loop .inv .1 .1
 returns : tie.Need-returns Inv-loop μ-loop
 returns c = let a = c .before .before .args in let last = c .before .loop in
     record {
-      behind = ap (λ (n : ℕ). a .at + n) (sym (length-replicate {A = ℕ} (a .count) 32));
+      behind = ap (λ (n : ℕ). a .at + n) (sym (length-replicate {A = ℕ} (a .count) blank));
       leaves = last .inv .1 .0 ∙ ap (λ (n : ℕ). put (a .out .now) (a .at) (blanks n)) (le-antisymm (last .inv .0) (c .loop-test .left));
     }
 

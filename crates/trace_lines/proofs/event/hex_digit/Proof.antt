@@ -13,7 +13,7 @@ returns : tie.Need-returns
 returns c = sym (hex-decimal (c .before .before .args .b) (omega arith) (omega arith))
 
 returns-2 : tie.Need-returns-2
-returns-2 c = omega (arith, hex-letter (c .before .before .before .before .args .b) (omega arith) (omega arith))
+returns-2 c = sym (hex-letter (c .before .before .before .before .args .b) (omega arith) (omega arith))
 
 returns-3 : tie.Need-returns-3
 returns-3 c = sym (hex-below (c .before .args .b) (omega arith))

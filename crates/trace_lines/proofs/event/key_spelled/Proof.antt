@@ -8,20 +8,20 @@ use native.Mathlib.Omega.{arith}
 use lib.ListN.{length, length-set, length-replicate}
 use denote.Ref.{now}
 use Rattle.lent_bytes.specs.LentBytes.{put}
-use Rattle.trace_lines.specs.Lines.{hexBytes, allSpelled}
+use Rattle.trace_lines.specs.Lines.{keySize, keyBytes, allSpelled}
 use Rattle.trace_lines.proofs.Hex.{rest, rest-all, spelled-turn, spelled-stop, spelled-end, written-start, written-turn, written-end, key-bad, key-good}
 use Rattle.trace_lines.proofs.event.key_spelled.Statement.{statement}
 use Rattle.trace_lines.proofs.event.key_spelled.Tie as tie
 
 abbrev Inv-loop : tie.InvT-loop
-Inv-loop line step bytes₀ i₀ bytes i = (allSpelled (hexBytes line 2 step 33) ≡ allSpelled (rest line step i)) × ((put bytes i (rest line step i) ≡ hexBytes line 2 step 33) × ((i ≤ 33) × (length bytes ≡ 33)))
+Inv-loop line step bytes₀ i₀ bytes i = (allSpelled (keyBytes line step) ≡ allSpelled (rest line step i)) × ((put bytes i (rest line step i) ≡ keyBytes line step) × ((i ≤ keySize) × (length bytes ≡ keySize)))
 
 abbrev μ-loop : tie.MeasureT-loop
-μ-loop line step bytes₀ i₀ bytes i = 33 - i
+μ-loop line step bytes₀ i₀ bytes i = keySize - i
 
 loop-holds : tie.Need-loop-holds Inv-loop μ-loop
 loop-holds c = let a = c .before .args in let t = now (a .line) in
-    (ap allSpelled (sym (rest-all t (a .step))), (written-start t (a .step), (omega arith, length-replicate {A = ℕ} 33 0)))
+    (ap allSpelled (sym (rest-all t (a .step))), (written-start t (a .step), (omega arith, length-replicate {A = ℕ} keySize 0)))
 
 mul-hex-byte : tie.Need-mul-hex-byte Inv-loop μ-loop
 mul-hex-byte c = omega (arith, mul-le-mul-right (c .before .loop .i) (c .before .before .before .pre))
@@ -60,15 +60,18 @@ loop-again c = let a = c .before .before .before .before .before .args in let t 
   ),
 )
 
-mul-t14 : tie.Need-mul-t14 Inv-loop μ-loop
-mul-t14 c = omega arith
+sub-t14 : tie.Need-sub-t14 Inv-loop μ-loop
+sub-t14 c = omega arith
 
-add-t15 : tie.Need-add-t15 Inv-loop μ-loop
-add-t15 c = omega arith
+mul-t15 : tie.Need-mul-t15 Inv-loop μ-loop
+mul-t15 c = omega arith
+
+add-t16 : tie.Need-add-t16 Inv-loop μ-loop
+add-t16 c = omega arith
 
 returns-2 : tie.Need-returns-2 Inv-loop μ-loop
 returns-2 c = let a = c .before .before .before .args in let t = now (a .line) in let l = c .before .loop in
-    let e : l .i ≡ 33 = omega arith in
+    let e : l .i ≡ keySize = omega arith in
     sym (key-good t (a .step) (l .bytes) (l .inv .0 ∙ ap (λ (i : ℕ). allSpelled (rest t (a .step) i)) e ∙ spelled-end t (a .step))
     (sym (written-end t (a .step) (l .bytes)) ∙ ap (λ (i : ℕ). put (l .bytes) i (rest t (a .step) i)) (sym e) ∙ l .inv .1 .0))
 
@@ -89,6 +92,7 @@ key-spelled-spec =
     add-i
     loop-less
     loop-again
-    mul-t14
-    add-t15
+    sub-t14
+    mul-t15
+    add-t16
     returns-2)

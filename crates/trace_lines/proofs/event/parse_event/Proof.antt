@@ -4,6 +4,7 @@ use Prim.Native.Nat.{ℕ}
 use native.Mathlib.Omega.{arith}
 use denote.Ref.{now}
 use lib.ListN.{getD}
+use Rattle.decimal.specs.Ascii.{code}
 use Rattle.trace_lines.specs.Lines.{eventBy, eventOf}
 use Rattle.trace_lines.specs.LinesLaws.{other-letter}
 use borrow.Author.Needs.{needs}
@@ -34,31 +35,31 @@ bad-event-requires c κs = search needs
 returns : tie.Need-returns
 unfolding eventOf
 returns c = let line = now (c .before .before .before .before .args .line) in
-    let e : 97 ≡ getD line 0 0 = omega (arith, c .before .before .byte-at .ensures) in
+    let e : code "a" ≡ getD line 0 0 = omega (arith, c .before .before .byte-at .ensures) in
     c .parse-admit .ensures ∙ ap (λ (k : ℕ). eventBy k line) e
 
 returns-2 : tie.Need-returns-2
 unfolding eventOf
 returns-2 c = let line = now (c .before .before .before .before .args .line) in
-    let e : 105 ≡ getD line 0 0 = omega (arith, c .before .before .byte-at .ensures) in
+    let e : code "i" ≡ getD line 0 0 = omega (arith, c .before .before .byte-at .ensures) in
     c .parse-keyed .ensures ∙ ap (λ (k : ℕ). eventBy k line) e
 
 returns-3 : tie.Need-returns-3
 unfolding eventOf
 returns-3 c = let line = now (c .before .before .before .before .args .line) in
-    let e : 98 ≡ getD line 0 0 = omega (arith, c .before .before .byte-at .ensures) in
+    let e : code "b" ≡ getD line 0 0 = omega (arith, c .before .before .byte-at .ensures) in
     c .parse-keyed2 .ensures ∙ ap (λ (k : ℕ). eventBy k line) e
 
 returns-4 : tie.Need-returns-4
 unfolding eventOf
 returns-4 c = let line = now (c .before .before .before .before .args .line) in
-    let e : 100 ≡ getD line 0 0 = omega (arith, c .before .before .byte-at .ensures) in
+    let e : code "d" ≡ getD line 0 0 = omega (arith, c .before .before .byte-at .ensures) in
     c .parse-keyed3 .ensures ∙ ap (λ (k : ℕ). eventBy k line) e
 
 returns-5 : tie.Need-returns-5
 unfolding eventOf
 returns-5 c = let line = now (c .before .before .before .before .args .line) in
-    let e : 114 ≡ getD line 0 0 = omega (arith, c .before .before .byte-at .ensures) in
+    let e : code "r" ≡ getD line 0 0 = omega (arith, c .before .before .byte-at .ensures) in
     c .parse-release .ensures ∙ ap (λ (k : ℕ). eventBy k line) e
 
 returns-6 : tie.Need-returns-6

@@ -1,5 +1,6 @@
 -- `Line::then` adds a space and a number. Assumes nothing.
 use mathlib.Core.Path.{_∙_, ap}
+use Rattle.decimal.specs.Ascii.{blank}
 use Rattle.decimal.specs.Decimal.{digitsOf}
 use Rattle.replay.specs.Line.{written, extended}
 use Rattle.replay.specs.LineLaws.{extended-twice}
@@ -16,7 +17,7 @@ decimal-requires : tie.Need-decimal-requires
 decimal-requires c κs = search needs
 
 returns : tie.Need-returns
-returns c = c .decimal .ensures ∙ ap (λ (w : List ℕ). extended w (digitsOf (c .before .before .args .n))) (c .before .byte .ensures) ∙ extended-twice (written (c .before .before .args .self)) (32 ∷ []) (digitsOf (c .before .before .args .n))
+returns c = c .decimal .ensures ∙ ap (λ (w : List ℕ). extended w (digitsOf (c .before .before .args .n))) (c .before .byte .ensures) ∙ extended-twice (written (c .before .before .args .self)) (blank ∷ []) (digitsOf (c .before .before .args .n))
 
 pub then-spec : {M : Type 1} → statement M
 then-spec = tie.close (tie.spec byte-requires decimal-requires returns)
