@@ -2,11 +2,10 @@
 ghost use Prim.Native.Nat.{_+_, _*_, _≤_};
 ghost use lib.ListN.{length};
 ghost use Rattle.table.specs.Memory.{rows};
-ghost use Rattle.table_laws.specs.StoreLaws.{Counted};
+ghost use Rattle.table_laws.specs.Private.{Counted, Gathered, PlainStep};
 ghost use Rattle.peer_rows.specs.Rows.{rowWidth, peerLayout};
-ghost use Rattle.peer_table.specs.Room.{pruneExpiredBans, makeRoom};
+ghost use Rattle.peer_table.specs.Room.{unspent, pruneExpiredBans, makeRoom};
 ghost use Rattle.peer_table.specs.Room.{evict as evicted};
-ghost use Rattle.peer_table.specs.Private.{KeptUnspent, GatheredUnspent};
 use super::first::First;
 use super::first::find_first;
 use super::places::remove_at;
@@ -19,7 +18,7 @@ use peer_settings::config::PeerMessagePolicyConfig;
 fn keep_unspent(table: &mut [u8], from: usize, to: usize, now_ms: u64) -> usize
     requires { ⌜ to ≤ from ⌝ }
     requires { ⌜ rowWidth * (from + 1) ≤ length (now table) ⌝ }
-    ensures { λ r. ⌜ KeptUnspent «now_ms» (now (table .entry)) from to (now (table .exit)) r ⌝ }
+    ensures { λ r. ⌜ PlainStep peerLayout (unspent «now_ms») (now (table .entry)) (now (table .exit)) from to r ⌝ }
 {
     if row_spent(table, ROW_WIDTH * from, now_ms) {
         return to;
@@ -31,7 +30,7 @@ fn keep_unspent(table: &mut [u8], from: usize, to: usize, now_ms: u64) -> usize
 // The rows whose ban is not over, one after another at the front. What stands behind them is left.
 fn gather_unspent(table: &mut [u8], count: usize, now_ms: u64) -> usize
     requires { ⌜ rowWidth * count ≤ length (now table) ⌝ }
-    ensures { λ r. ⌜ GatheredUnspent «now_ms» (now (table .entry)) count (now (table .exit)) r ⌝ }
+    ensures { λ r. ⌜ Gathered peerLayout (now (table .entry)) (now (table .exit)) r (pruneExpiredBans «now_ms» (rows peerLayout (now (table .entry)) count)) ⌝ }
 {
     let mut kept: usize = 0;
     let mut i: usize = 0;

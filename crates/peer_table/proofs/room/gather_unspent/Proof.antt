@@ -39,7 +39,7 @@ loop-again c = let a = c .before .before .before .before .before .before .before
       omega arith,
       (
         plain-step peer-faithful (unspent (a .now-ms)) (a .table .now) (a .count) (λ i. c .before .before .before .before .before .before .slice-known .given i .fits) (omega arith)
-            (omega arith) (turn .inv .1 .0) _ (step .result) (step .ensures .memory) (step .ensures .count),
+            (omega arith) (turn .inv .1 .0) _ (step .result) (step .ensures .0) (step .ensures .1),
         step .kept .0 ∙ turn .inv .1 .1,
       ),
     )
@@ -50,8 +50,7 @@ same-length c = c .before .loop .inv .1 .1
 returns : tie.Need-returns Inv-loop μ-loop
 returns c = let a = c .before .before .before .args in
     let last = c .before .loop in
-    let ended = plain-ends peer-faithful (unspent (a .now-ms)) (a .table .now) (a .count) (λ i. c .before .before .slice-known .given i .fits) (omega arith) (omega arith) (last .inv .1 .0) in
-    record { memory = ended .0; count = ended .1 }
+    plain-ends peer-faithful (unspent (a .now-ms)) (a .table .now) (a .count) (λ i. c .before .before .slice-known .given i .fits) (omega arith) (omega arith) (last .inv .1 .0)
 
 pub gather-unspent-spec : {M : Type 1} → statement M
 gather-unspent-spec =

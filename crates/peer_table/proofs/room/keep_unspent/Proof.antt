@@ -15,7 +15,7 @@ same-length c = search needs
 
 returns : tie.Need-returns
 returns c = let h = sym (c .before .row-spent .ensures) ∙ c .if1 .taken in
-    record { memory = rw h; count = rw h }
+    (rw h, rw h)
 
 keep-row-requires : tie.Need-keep-row-requires
 keep-row-requires c κs = search needs
@@ -28,7 +28,7 @@ same-length-2 c = search needs
 
 returns-2 : tie.Need-returns-2
 returns-2 c = let h = sym (c .before .before .before .before .before .row-spent .ensures) ∙ c .before .before .before .before .if1 .left in
-    record { memory = rw h (c .before .before .keep-row .ensures); count = rw h }
+    (rw h (c .before .before .keep-row .ensures), rw h)
 
 pub keep-unspent-spec : {M : Type 1} → statement M
 keep-unspent-spec =

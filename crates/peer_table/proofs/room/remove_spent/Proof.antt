@@ -16,11 +16,11 @@ gather-unspent-requires c κs = search needs
 
 sub-zero-rows : tie.Need-sub-zero-rows
 sub-zero-rows c = let a = c .before .before .before .before .before .before .args in
-    omega (arith, c .before .before .before .gather-unspent .ensures .count, length-prune (a .now-ms) (rows peerLayout (a .table .now) (a .count)), length-rows peerLayout (a .table .now) (a .count))
+    omega (arith, c .before .before .before .gather-unspent .ensures .1, length-prune (a .now-ms) (rows peerLayout (a .table .now) (a .count)), length-rows peerLayout (a .table .now) (a .count))
 
 zero-rows-requires : tie.Need-zero-rows-requires
 zero-rows-requires c κs = let a = c .before .before .before .before .before .before .args in
-    omega (arith, c .before .before .before .before .before .before .pre, c .before .before .before .gather-unspent .ensures .count, length-prune (a .now-ms) (rows peerLayout (a .table .now) (a .count)), length-rows peerLayout (a .table .now) (a .count))
+    omega (arith, c .before .before .before .before .before .before .pre, c .before .before .before .gather-unspent .ensures .1, length-prune (a .now-ms) (rows peerLayout (a .table .now) (a .count)), length-rows peerLayout (a .table .now) (a .count))
 
 same-length : tie.Need-same-length
 same-length c = search needs
@@ -33,8 +33,8 @@ returns c =
     let begin = at-slice-known .before in
     let a = begin .args in (
       plain-removed peer-faithful (unspent (a .now-ms)) (a .table .now) (a .count) (λ i. at-slice-known .slice-known .given i .fits) (omega (arith, begin .pre))
-          _ _ (at-gather-unspent .gather-unspent .result) (at-gather-unspent .gather-unspent .ensures .memory) (at-gather-unspent .gather-unspent .ensures .count) (at-zero-rows .zero-rows .ensures),
-      at-gather-unspent .gather-unspent .ensures .count,
+          _ _ (at-gather-unspent .gather-unspent .result) (at-gather-unspent .gather-unspent .ensures .0) (at-gather-unspent .gather-unspent .ensures .1) (at-zero-rows .zero-rows .ensures),
+      at-gather-unspent .gather-unspent .ensures .1,
     )
 
 pub remove-spent-spec : {M : Type 1} → statement M
