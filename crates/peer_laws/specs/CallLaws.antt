@@ -14,6 +14,7 @@ use Rattle.lent_bytes.specs.LentBytes.{Bytes}
 use Rattle.pubkey.specs.declared.Pubkey.{Pubkey}
 use Rattle.refusal.specs.Refusal.{limitTooLarge, tooShort}
 use Rattle.table_laws.specs.KeptLaws.{numbers-encode, length-laid-keyed, bytes-laid-keyed}
+use Rattle.peer_rows.specs.Rows.{rowWidth}
 use Rattle.peer_rows.specs.RowsLaws.{peer-numbers}
 use Rattle.table.specs.Table.{every, ascending, look}
 use Rattle.table.specs.Memory.{rows}
@@ -306,7 +307,7 @@ pub record Fresh (c : PeerMessagePolicyConfig) (s : List ℕ) (p : PeerMessagePo
   pub holds-bytes : Bytes s → Bytes t
 
 -- a limit within 1,024 and memory that is long enough for it, every place of the limit zeroed
-fresh-by : (c : PeerMessagePolicyConfig) (s t : List ℕ) → c .«max_tracked_peers» ≤ 1024 → 121 * limit c ≤ length s
+fresh-by : (c : PeerMessagePolicyConfig) (s t : List ℕ) → c .«max_tracked_peers» ≤ 1024 → rowWidth * limit c ≤ length s
     → Memory s t (limit c) (become []) → Fresh c s (fresh c) t
 unfolding every ascending rows
 fresh-by c s t tracked long m =
@@ -347,5 +348,5 @@ new-fresh c s t p m =
     let answer : Made.Policy p ≡ Made.Policy (fresh c) = m .answers ∙ ap (λ o. o .answer) e in
     let memory : Memory s t (limit c) (become []) = subst (λ o. Memory s t (limit c) (o .change)) e (m .leaves) in
     let same-policy : p ≡ fresh c = cc in
-    rw same-policy (fresh-by c s t (ltb-false 1024 (c .«max_tracked_peers») few) (leb-true (121 * limit c) (length s) long) memory))
+    rw same-policy (fresh-by c s t (ltb-false 1024 (c .«max_tracked_peers») few) (leb-true (rowWidth * limit c) (length s) long) memory))
     (λ short. absurd (made-is-not-refused (m .answers ∙ ap (λ o. o .answer) (made-short c s few short)))))

@@ -31,7 +31,7 @@ use Rattle.peer_state.specs.EntryLaws.{new-sound, expire-sound}
 use Rattle.peer_state.specs.Ingress.{ingressSound}
 use Rattle.peer_verdict.specs.Verdict.{decision, invalidDecision, overflows}
 use Rattle.peer_verdict.specs.VerdictLaws.{decision-sound, invalid-decision-sound, decision-load}
-use Rattle.peer_rows.specs.Rows.{Peers, peerLayout, peerSound}
+use Rattle.peer_rows.specs.Rows.{rowWidth, Peers, peerLayout, peerSound}
 use Rattle.peer_rows.specs.RowsLaws.{peer-numbers}
 use Rattle.peer_table.specs.Room.{makeRoom}
 use Rattle.peer_table.specs.RoomLaws.{sub-makeRoom, room-for-one, look-makeRoom-none}
@@ -89,7 +89,7 @@ RowsHold c rs = kept.RowsHold peerLayout (peerSound c) (limit c) rs
 -- a sound policy, with the memory that is lent to it
 pub record PolicyHolds (p : PeerMessagePolicy) (s : List ℕ) : Type 0 where
   pub own : RecordHolds p
-  pub long : 121 * limit (p .config) ≤ length s
+  pub long : rowWidth * limit (p .config) ≤ length s
   pub rules : every (peerSound (p .config)) (rowsOf p s) ≡ true
   pub order : ascending (rowsOf p s) ≡ true
 

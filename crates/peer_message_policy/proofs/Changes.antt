@@ -10,7 +10,7 @@ use lib.ListN.{length}
 use Rattle.truths.specs.TruthLaws.{both-parts}
 use Rattle.lent_bytes.specs.LentBytes.{put, zeros, Bytes}
 use Rattle.refusal.specs.Refusal.{tooShort, limitTooLarge}
-use Rattle.table.specs.Table.{store, erase, removeAt}
+use Rattle.table.specs.Table.{rowUnder, store, erase, removeAt}
 use Rattle.table.specs.Private.{insertAt}
 use Rattle.table.specs.Memory.{rows, Holds}
 use Rattle.table.specs.MemoryLaws.{AllFit, sub-fit, length-rows, fit-rows, holds, put-clear}
@@ -24,8 +24,8 @@ use Rattle.peer_state.specs.declared.ingress.FiberIngressBudget.{FiberIngressBu
 use Rattle.peer_settings.specs.Config.{limit}
 use Rattle.peer_state.specs.Entry.{window, windowExpire, entryExpireWindows}
 use Rattle.peer_state.specs.Private.{sameCounts}
-use Rattle.peer_rows.specs.Rows.{Peers, peerLayout}
-use Rattle.peer_rows.specs.Private.{peerRow}
+use Rattle.peer_rows.specs.Rows.{rowWidth, Peers, peerLayout}
+use Rattle.peer_rows.specs.Private.{entryAt}
 use Rattle.peer_table.specs.Room.{makeRoom}
 use Rattle.peer_rows.specs.RowsLaws.{EntryFits, peer-faithful}
 use Rattle.peer_table.specs.RoomLaws.{room-free, room-for-one, length-makeRoom, sub-makeRoom}
@@ -34,7 +34,7 @@ use Rattle.peer_message_policy.specs.declared.answer.Made.the-variants a
 use Rattle.peer_message_policy.specs.Policy.{rowsOf}
 use Rattle.peer_message_policy.specs.Calls.{policyWith, fresh, newOutcome, NewMeets}
 use Rattle.peer_message_policy.specs.Private.{Known, Unknown, Left}
-use Rattle.peer_message_policy.proofs.Judged.{entryAt, rows-fit, few-rows, limit-fits}
+use Rattle.peer_message_policy.proofs.Judged.{rows-fit, few-rows, limit-fits}
 
 -- the rows with an entry written over that of the i-th, whose key stays
 abbrev pub over : List ℕ → ℕ → ℕ → PeerMessagePolicyEntry → Peers
@@ -99,7 +99,7 @@ module _ (p : PeerMessagePolicy) (s k : List ℕ) (i : ℕ) (h : Unknown p s k i
   roomed = makeRoom (p .config) now (rowsOf p s)
 
   -- after room was made there is room for one row more
-  pub one-more-fits : (n : ℕ) → n ≡ length roomed → 121 * (n + 1) ≤ length s
+  pub one-more-fits : (n : ℕ) → n ≡ length roomed → rowWidth * (n + 1) ≤ length s
   one-more-fits n e =
       omega (arith, room-for-one (p .config) now (rowsOf p s) (omega (arith, few-rows p s (h .is-sound), length-rows peerLayout s (p .rows))), limit-fits p s (h .is-sound))
 
@@ -107,11 +107,11 @@ module _ (p : PeerMessagePolicy) (s k : List ℕ) (i : ℕ) (h : Unknown p s k i
   pub gap-fits : i ≤ p .rows
   gap-fits = gap-within peerLayout s (p .rows) k i (h .place)
 
-  pub row-fits : p .rows < limit (p .config) → 121 * (p .rows + 1) ≤ length s
+  pub row-fits : p .rows < limit (p .config) → rowWidth * (p .rows + 1) ≤ length s
   row-fits free = omega (arith, free, limit-fits p s (h .is-sound))
 
   -- an entry put in at the gap, where nothing had to go
-  pub left-gap : (load : FiberIngressBudget) (t : List ℕ) (e : PeerMessagePolicyEntry) → p .rows < limit (p .config) → Holds peerLayout s t (p .rows) (insertAt i (peerRow k e) (rowsOf p s)) → Left p load s (store k e roomed) (policyWith p load (p .rows + 1)) t
+  pub left-gap : (load : FiberIngressBudget) (t : List ℕ) (e : PeerMessagePolicyEntry) → p .rows < limit (p .config) → Holds peerLayout s t (p .rows) (insertAt i (rowUnder k e) (rowsOf p s)) → Left p load s (store k e roomed) (policyWith p load (p .rows + 1)) t
   left-gap load t e free held =
       let all : roomed ≡ rowsOf p s = room-free (p .config) now (rowsOf p s) (omega (arith, free, length-rows peerLayout s (p .rows))) in
       let stored = stored-gap peer-faithful s t (p .rows) k i e (h .place) held in
@@ -135,11 +135,11 @@ module _ (c : PeerMessagePolicyConfig) (s : List ℕ) where
   new-large h = rw (lt-ltb 1024 (c .«max_tracked_peers») h) (record { answers = refl; leaves = refl })
 
   module _ (h : c .«max_tracked_peers» ≤ 1024) where
-    pub new-short : length s / 121 < limit c → NewMeets c s (Made.Refused tooShort) s
+    pub new-short : length s / rowWidth < limit c → NewMeets c s (Made.Refused tooShort) s
     unfolding NewMeets newOutcome
     new-short l = rw (le-ltb 1024 (c .«max_tracked_peers») h, too-short peerLayout (limit c) s (omega arith) l) (record { answers = refl; leaves = refl })
 
-    pub new-made : limit c ≤ length s / 121 → (t : List ℕ) → t ≡ put s 0 (zeros (121 * limit c)) → NewMeets c s (Made.Policy (fresh c)) t
+    pub new-made : limit c ≤ length s / rowWidth → (t : List ℕ) → t ≡ put s 0 (zeros (rowWidth * limit c)) → NewMeets c s (Made.Policy (fresh c)) t
     unfolding NewMeets newOutcome
     new-made l t e =
         rw (le-ltb 1024 (c .«max_tracked_peers») h, long-enough peerLayout (limit c) s (omega arith) l)

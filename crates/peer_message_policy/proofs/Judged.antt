@@ -10,10 +10,8 @@ use borrow.Author.Tests.{leb-true}
 use lib.Dec.{leb}
 use lib.ListN.{length}
 use Rattle.truths.specs.TruthLaws.{both-parts, chosen}
-use Rattle.lent_bytes.specs.LentBytes.{part}
 use Rattle.table.specs.declared.seek.Seek.the-variants.{Unsound, At, Gap}
 use Rattle.table.specs.Table.{ascending, look}
-use Rattle.table.specs.Memory.{rowOf}
 use Rattle.table.specs.PlaceLaws.{gap-look}
 use Rattle.table.specs.MemoryLaws.{length-rows}
 use Rattle.table_laws.specs.Lent.{lentSound}
@@ -25,7 +23,8 @@ use Rattle.peer_settings.specs.Config.{limit}
 use Rattle.peer_state.specs.Entry.{entrySound, entryNew, entryIsSpent}
 use Rattle.peer_state.specs.Private.{entryToUpdate}
 use Rattle.peer_state.specs.EntryLaws.{new-sound}
-use Rattle.peer_rows.specs.Rows.{peerLayout, peerSound}
+use Rattle.peer_rows.specs.Rows.{rowWidth, peerLayout, peerSound}
+use Rattle.peer_rows.specs.Private.{entryAt}
 use Rattle.peer_message_policy.specs.declared.policy.PeerMessagePolicy.{PeerMessagePolicy}
 use Rattle.peer_message_policy.specs.Policy.{rowsOf, policySound, sound}
 use Rattle.peer_message_policy.specs.Private.{soughtIn}
@@ -80,11 +79,11 @@ module _ (p : PeerMessagePolicy) (s : List ℕ) (h : sound p s ≡ true) where
       within-limit p (laws.own-sound peerLayout (peerSound (p .config)) (policySound p) (limit (p .config)) s (p .rows) as-lent)
 
   -- the memory has room for the limit
-  pub limit-fits : 121 * limit (p .config) ≤ length s
+  pub limit-fits : rowWidth * limit (p .config) ≤ length s
   limit-fits = laws.limit-fits peerLayout (peerSound (p .config)) (policySound p) (limit (p .config)) s (p .rows) as-lent
 
   -- so it has for the rows
-  pub rows-fit : 121 * p .rows ≤ length s
+  pub rows-fit : rowWidth * p .rows ≤ length s
   rows-fit = omega (arith, few-rows, limit-fits)
 
   -- no more rows than the limit, as a list
@@ -97,10 +96,6 @@ module _ (p : PeerMessagePolicy) (s : List ℕ) (h : sound p s ≡ true) where
 
 -- ════ A peer that has a row ════
 
--- the entry of the row at an index
-abbrev pub entryAt : List ℕ → ℕ → PeerMessagePolicyEntry
-entryAt s i = rowOf peerLayout (part s (121 * i) 121) .entry
-
 module _ (p : PeerMessagePolicy) (s k : List ℕ) (i : ℕ) (h : Known p s k i) where
   known-lent : lent.Known peerLayout (peerSound (p .config)) (policySound p) (limit (p .config)) s (p .rows) k i
   known-lent = record { is-sound = as-lent p s (h .is-sound); place = h .place }
@@ -110,7 +105,7 @@ module _ (p : PeerMessagePolicy) (s k : List ℕ) (i : ℕ) (h : Known p s k i) 
   known-inside = laws.known-inside peerLayout (peerSound (p .config)) (policySound p) (limit (p .config)) s (p .rows) k i known-lent
 
   -- and stands within the memory
-  pub known-fits : 121 * (i + 1) ≤ length s
+  pub known-fits : rowWidth * (i + 1) ≤ length s
   known-fits = omega (arith, known-inside, rows-fit p s (h .is-sound))
 
   module _ (e : PeerMessagePolicyEntry) (read : e ≡ entryAt s i) where

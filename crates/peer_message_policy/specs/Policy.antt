@@ -22,7 +22,7 @@ use Rattle.peer_settings.specs.Config.{limit}
 use Rattle.peer_state.specs.Entry.{entryNew, entryIsBanned, entryIsSpent, entryExpireWindows}
 use Rattle.peer_state.specs.Ingress.{ingressSound}
 use Rattle.peer_verdict.specs.Verdict.{decision, invalidDecision, overflows}
-use Rattle.peer_rows.specs.Rows.{Peers, peerLayout, peerSound}
+use Rattle.peer_rows.specs.Rows.{rowWidth, Peers, peerLayout, peerSound}
 use Rattle.peer_table.specs.Room.{makeRoom}
 use Rattle.peer_message_policy.specs.declared.policy.PeerMessagePolicy.{PeerMessagePolicy}
 
@@ -40,7 +40,7 @@ policySound p =
 
 -- lent memory has room for as many rows as the limit says
 abbrev pub longEnough : PeerMessagePolicyConfig → List ℕ → Bool
-longEnough c s = leb (121 * limit c) (length s)
+longEnough c s = leb (rowWidth * limit c) (length s)
 
 -- every row keeps its rule, and the keys ascend
 abbrev pub rowsSound : PeerMessagePolicy → List ℕ → Bool

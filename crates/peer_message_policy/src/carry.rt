@@ -3,11 +3,8 @@ ghost use mathlib.Core.Path.{_≡_};
 ghost use Rattle.peer_message_policy.specs.Calls.{admissionOf, invalidOf};
 ghost use Rattle.table.specs.Table.{store, erase};
 ghost use Rattle.peer_message_policy.specs.Private.{Known, Unknown, Left};
-ghost use Prim.Native.Nat.{_*_};
-ghost use Rattle.lent_bytes.specs.LentBytes.{part};
-ghost use Rattle.table.specs.Memory.{rowOf};
 ghost use Rattle.peer_state.specs.Entry.{entryExpireWindows};
-ghost use Rattle.peer_rows.specs.Rows.{peerLayout};
+ghost use Rattle.peer_rows.specs.Private.{entryAt};
 ghost use Rattle.peer_table.specs.Room.{makeRoom};
 ghost use Rattle.peer_message_policy.specs.Policy.{rowsOf};
 use super::answer::Invalid;
@@ -112,7 +109,7 @@ pub(crate) fn expire_known(
     now_ms: u64,
 ) -> PeerMessagePolicy
     requires { ⌜ Known p (now table) (peer .bytes) index ⌝ }
-    requires { ⌜ entry ≡ rowOf peerLayout (part (now table) (121 * index) 121) .entry ⌝ }
+    requires { ⌜ entry ≡ entryAt (now table) index ⌝ }
     ensures { λ r. ⌜ Left p (p .ingress) (now (table .entry)) (store (peer .bytes) (entryExpireWindows entry «now_ms» (p .config .«ban_duration_ms»)) (rowsOf p (now (table .entry)))) r (now (table .exit)) ⌝ }
 {
     let config = p.config;

@@ -3,12 +3,11 @@ ghost use mathlib.Core.Path.{_≡_};
 ghost use Rattle.peer_message_policy.specs.Policy.{policySound, sound};
 ghost use Rattle.peer_message_policy.specs.Private.{soughtIn};
 use super::policy::PeerMessagePolicy;
+use peer_rows::row::ROW_WIDTH;
 use peer_settings::config::PeerMessagePolicyConfig;
+use pubkey::PUBKEY_SIZE;
 use pubkey::Pubkey;
 use table::seek::Seek;
-
-// The bytes of a row.
-pub(crate) const ROW_WIDTH: usize = 121;
 
 // The record's own rules.
 pub(crate) fn is_sound(p: PeerMessagePolicy) -> bool
@@ -49,7 +48,9 @@ pub(crate) fn sought(p: PeerMessagePolicy, table: &[u8], peer: Pubkey) -> Seek
 pub(crate) fn is_sound_in(p: PeerMessagePolicy, table: &[u8]) -> bool
     ensures { λ r. ⌜ r ≡ sound p (now (table .entry)) ⌝ }
 {
-    let any = Pubkey { bytes: [0; 33] };
+    let any = Pubkey {
+        bytes: [0; PUBKEY_SIZE],
+    };
     let found = sought(p, table, any);
     match found {
         Seek::Unsound => false,

@@ -12,6 +12,7 @@ use super::answer::PeerMessageAdmission;
 use super::answer::Standing;
 use super::calls;
 use super::judge;
+use peer_rows::row::ROW_WIDTH;
 use peer_settings::config::PeerMessagePolicyConfig;
 use peer_state::ingress::FiberIngressBudget;
 use pubkey::Pubkey;
@@ -34,10 +35,10 @@ impl PeerMessagePolicy {
             return Made::Refused(refusal::LIMIT_TOO_LARGE);
         }
         let limit = config.limit();
-        if ((table.len() / judge::ROW_WIDTH) as u64) < limit {
+        if ((table.len() / ROW_WIDTH) as u64) < limit {
             return Made::Refused(refusal::TOO_SHORT);
         }
-        table::rows::zero_rows(table, judge::ROW_WIDTH, 0, limit as usize);
+        table::rows::zero_rows(table, ROW_WIDTH, 0, limit as usize);
         Made::Policy(PeerMessagePolicy::fresh(config))
     }
 

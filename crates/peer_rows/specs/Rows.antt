@@ -2,11 +2,24 @@
 use mathlib.Core.Bool.{Bool}
 use mathlib.Core.List.{List, [], _∷_}
 use Prim.Native.Nat.{ℕ}
+use Rattle.lent_bytes.specs.LentBytes.{part}
 use Rattle.table.specs.Table.{Row}
-use Rattle.table.specs.Memory.{Layout, wordBytes, wordOf}
+use Rattle.table.specs.Memory.{Layout, wordBytes, wordOf, rowOf}
 use Rattle.peer_settings.specs.declared.config.PeerMessagePolicyConfig.{PeerMessagePolicyConfig}
 use Rattle.peer_state.specs.declared.entry.PeerMessagePolicyEntry.{PeerMessagePolicyEntry}
-use Rattle.peer_state.specs.Entry.{level, window, entrySound}
+use Rattle.peer_state.specs.Entry.{level, window, ban, entrySound}
+
+-- ════ Widths, in bytes ════
+
+-- of a key
+abbrev pub keyWidth : ℕ
+keyWidth = 33
+
+-- of a row: its key, and eleven numbers of eight bytes behind it
+abbrev pub rowWidth : ℕ
+rowWidth = 121
+
+-- ════ A row ════
 
 -- the eleven numbers of an entry, in the order of the row
 unfoldable pub entryWords : PeerMessagePolicyEntry → List ℕ
@@ -32,13 +45,17 @@ entryOf s =
       bytes = level (wordOf s 2) (wordOf s 3);
       «rate_limit_violations» = window (wordOf s 4) (wordOf s 5);
       «invalid_messages» = window (wordOf s 6) (wordOf s 7);
-      ban = record { mark = wordOf s 8; «until_ms» = wordOf s 9 };
+      ban = ban (wordOf s 8) (wordOf s 9);
       «last_used_ms» = wordOf s 10;
     }
 
--- a peer's row: a key of 33 bytes and eleven numbers, 121 bytes
+-- how a row stands in bytes
 abbrev pub peerLayout : Layout PeerMessagePolicyEntry
-peerLayout = record { keyWidth = 33; width = 121; encode = λ e. wordBytes (entryWords e); decode = entryOf }
+peerLayout = record { keyWidth = keyWidth; width = rowWidth; encode = λ e. wordBytes (entryWords e); decode = entryOf }
+
+-- the row whose bytes begin at a place
+abbrev pub rowFrom : List ℕ → ℕ → Row PeerMessagePolicyEntry
+rowFrom s at = rowOf peerLayout (part s at rowWidth)
 
 -- the rows of a policy, each peer's by its key
 abbrev pub Peers : Type 0

@@ -1,22 +1,22 @@
 -- Laws of the peers' rows, which callers' proofs cite: entries and their bytes are read back from one another, and the numbers of a
 -- row by their places. Assumes nothing.
 use mathlib.Core.Path.{_≡_, refl, ap}
-use mathlib.Core.Bool.{_&&_, _||_}
+use mathlib.Core.Bool.{_&&_}
 use mathlib.Core.List.{List}
 use Prim.Native.Nat.{ℕ, _+_, _^_, _<_}
 use native.Mathlib.Omega.{arith}
 use lib.Dec.{leb, eqb}
 use lib.ListN.{length, getD}
 use Rattle.lent_bytes.specs.LentBytes.{part, le}
+use Rattle.table.specs.Table.{rowUnder}
 use Rattle.table.specs.Memory.{rowOf}
 use Rattle.table.specs.MemoryLaws.{Faithful}
 use Rattle.table_laws.specs.Words.{Numbers, NumbersFit}
 use Rattle.table_laws.specs.WordsLaws.{OfNumbers, numbers-faithful, word-place}
 use Rattle.peer_settings.specs.declared.config.PeerMessagePolicyConfig.{PeerMessagePolicyConfig}
 use Rattle.peer_state.specs.declared.entry.PeerMessagePolicyEntry.{PeerMessagePolicyEntry}
-use Rattle.peer_state.specs.Entry.{level, window, entrySound, entryIsSpent}
-use Rattle.peer_rows.specs.Rows.{entryWords, entryOf, peerLayout, peerSound}
-use Rattle.peer_rows.specs.Private.{peerRow, ban}
+use Rattle.peer_state.specs.Entry.{level, window, ban, banSound, entrySound, entryIsSpent}
+use Rattle.peer_rows.specs.Rows.{keyWidth, rowWidth, entryWords, entryOf, peerLayout, rowFrom, peerSound}
 
 -- ════ Entries and their bytes ════
 
@@ -85,51 +85,70 @@ peer-faithful = numbers-faithful peer-numbers EntryFits numbers-fit entry-fits
 
 -- ════ The numbers of a row by their places ════
 
+-- where a row's levels, windows, ban and last use stand in it
+abbrev pub messagesPlace : ℕ
+messagesPlace = keyWidth
+
+abbrev pub bytesPlace : ℕ
+bytesPlace = keyWidth + 16
+
+abbrev pub violationsPlace : ℕ
+violationsPlace = keyWidth + 32
+
+abbrev pub invalidPlace : ℕ
+invalidPlace = keyWidth + 48
+
+abbrev pub banPlace : ℕ
+banPlace = keyWidth + 64
+
+abbrev pub lastUsedPlace : ℕ
+lastUsedPlace = keyWidth + 80
+
 -- the entry whose numbers stand behind the key of the row at a place
 abbrev pub entryPlaces : List ℕ → ℕ → PeerMessagePolicyEntry
 entryPlaces s at =
     record {
-      messages = level (le (part s (at + 33) 8)) (le (part s (at + 33 + 8) 8));
-      bytes = level (le (part s (at + 49) 8)) (le (part s (at + 49 + 8) 8));
-      «rate_limit_violations» = window (le (part s (at + 65) 8)) (le (part s (at + 65 + 8) 8));
-      «invalid_messages» = window (le (part s (at + 81) 8)) (le (part s (at + 81 + 8) 8));
-      ban = ban (le (part s (at + 97) 8)) (le (part s (at + 97 + 8) 8));
-      «last_used_ms» = le (part s (at + 113) 8);
+      messages = level (le (part s (at + messagesPlace) 8)) (le (part s (at + messagesPlace + 8) 8));
+      bytes = level (le (part s (at + bytesPlace) 8)) (le (part s (at + bytesPlace + 8) 8));
+      «rate_limit_violations» = window (le (part s (at + violationsPlace) 8)) (le (part s (at + violationsPlace + 8) 8));
+      «invalid_messages» = window (le (part s (at + invalidPlace) 8)) (le (part s (at + invalidPlace + 8) 8));
+      ban = ban (le (part s (at + banPlace) 8)) (le (part s (at + banPlace + 8) 8));
+      «last_used_ms» = le (part s (at + lastUsedPlace) 8);
     }
 
 -- the entry of the row at a place
-pub entry-places : (s : List ℕ) (at : ℕ) → rowOf peerLayout (part s at 121) .entry ≡ entryPlaces s at
+pub entry-places : (s : List ℕ) (at : ℕ) → rowFrom s at .entry ≡ entryPlaces s at
 unfolding rowOf entryOf
 entry-places s at =
     rw (
-      word-place s at 33 121 0 (at + 33) (omega arith) (omega arith),
-      word-place s at 33 121 1 (at + 33 + 8) (omega arith) (omega arith),
-      word-place s at 33 121 2 (at + 49) (omega arith) (omega arith),
-      word-place s at 33 121 3 (at + 49 + 8) (omega arith) (omega arith),
-      word-place s at 33 121 4 (at + 65) (omega arith) (omega arith),
-      word-place s at 33 121 5 (at + 65 + 8) (omega arith) (omega arith),
-      word-place s at 33 121 6 (at + 81) (omega arith) (omega arith),
-      word-place s at 33 121 7 (at + 81 + 8) (omega arith) (omega arith),
-      word-place s at 33 121 8 (at + 97) (omega arith) (omega arith),
-      word-place s at 33 121 9 (at + 97 + 8) (omega arith) (omega arith),
-      word-place s at 33 121 10 (at + 113) (omega arith) (omega arith),
+      word-place s at keyWidth rowWidth 0 (at + messagesPlace) (omega arith) (omega arith),
+      word-place s at keyWidth rowWidth 1 (at + messagesPlace + 8) (omega arith) (omega arith),
+      word-place s at keyWidth rowWidth 2 (at + bytesPlace) (omega arith) (omega arith),
+      word-place s at keyWidth rowWidth 3 (at + bytesPlace + 8) (omega arith) (omega arith),
+      word-place s at keyWidth rowWidth 4 (at + violationsPlace) (omega arith) (omega arith),
+      word-place s at keyWidth rowWidth 5 (at + violationsPlace + 8) (omega arith) (omega arith),
+      word-place s at keyWidth rowWidth 6 (at + invalidPlace) (omega arith) (omega arith),
+      word-place s at keyWidth rowWidth 7 (at + invalidPlace + 8) (omega arith) (omega arith),
+      word-place s at keyWidth rowWidth 8 (at + banPlace) (omega arith) (omega arith),
+      word-place s at keyWidth rowWidth 9 (at + banPlace + 8) (omega arith) (omega arith),
+      word-place s at keyWidth rowWidth 10 (at + lastUsedPlace) (omega arith) (omega arith),
     )
 
 -- the row at a place
-pub row-places : (s : List ℕ) (at : ℕ) → rowOf peerLayout (part s at 121) ≡ peerRow (rowOf peerLayout (part s at 121) .key) (entryPlaces s at)
-row-places s at = ap (peerRow (rowOf peerLayout (part s at 121) .key)) (entry-places s at)
+pub row-places : (s : List ℕ) (at : ℕ) → rowFrom s at ≡ rowUnder (rowFrom s at .key) (entryPlaces s at)
+row-places s at = ap (rowUnder (rowFrom s at .key)) (entry-places s at)
 
 -- whether the row at a place keeps its rule
-pub sound-places : (c : PeerMessagePolicyConfig) (s : List ℕ) (at : ℕ) → peerSound c (rowOf peerLayout (part s at 121))
-    ≡ (leb (le (part s (at + 33) 8)) (c .«peer_message_burst»)
-    && (leb (le (part s (at + 49) 8)) (c .«peer_message_burst_bytes»)
-    && (leb (le (part s (at + 65) 8)) 4294967295
-    && (leb (le (part s (at + 81) 8)) 4294967295
-    && (eqb (le (part s (at + 97) 8)) 1 || (eqb (le (part s (at + 97) 8)) 0 && eqb (le (part s (at + 97 + 8) 8)) 0))))))
+pub sound-places : (c : PeerMessagePolicyConfig) (s : List ℕ) (at : ℕ) → peerSound c (rowFrom s at)
+    ≡ (leb (le (part s (at + messagesPlace) 8)) (c .«peer_message_burst»)
+    && (leb (le (part s (at + bytesPlace) 8)) (c .«peer_message_burst_bytes»)
+    && (leb (le (part s (at + violationsPlace) 8)) 4294967295
+    && (leb (le (part s (at + invalidPlace) 8)) 4294967295
+    && banSound (ban (le (part s (at + banPlace) 8)) (le (part s (at + banPlace + 8) 8)))))))
 unfolding entrySound
 sound-places c s at = rw (entry-places s at)
 
 -- whether the ban of the row at a place is over
-pub spent-places : (s : List ℕ) (at now : ℕ) → entryIsSpent (rowOf peerLayout (part s at 121) .entry) now
-    ≡ (eqb (le (part s (at + 97) 8)) 1 && leb (le (part s (at + 97 + 8) 8)) now)
+pub spent-places : (s : List ℕ) (at now : ℕ) → entryIsSpent (rowFrom s at .entry) now
+    ≡ (eqb (le (part s (at + banPlace) 8)) 1 && leb (le (part s (at + banPlace + 8) 8)) now)
 spent-places s at now = ap (λ (e : PeerMessagePolicyEntry). entryIsSpent e now) (entry-places s at)

@@ -5,7 +5,9 @@ ghost use lib.ListN.{length};
 ghost use Rattle.table.specs.Private.{seek};
 ghost use Rattle.table.specs.Memory.{rows};
 ghost use Rattle.table_laws.specs.Lent.{rowsSound};
-ghost use Rattle.peer_rows.specs.Rows.{peerLayout, peerSound};
+ghost use Rattle.peer_rows.specs.Rows.{keyWidth, rowWidth, peerLayout, peerSound};
+use super::row::KEY_WIDTH;
+use super::row::ROW_WIDTH;
 use super::row::row_sound;
 use keyed_rows::find::in_order;
 use keyed_rows::find::place_after;
@@ -18,8 +20,8 @@ use table::seek::Seek;
 // Judges each row and whether it comes after the one before it, and passes those whose fronts are below the key's: the key is then
 // compared in full from the first row that was not passed. One loop, since the rows are judged on every call.
 fn walked(config: PeerMessagePolicyConfig, table: &[u8], count: usize, key: &[u8]) -> Seek
-    requires { ⌜ length (now key) ≡ 33 ⌝ }
-    requires { ⌜ 121 * count ≤ length (now table) ⌝ }
+    requires { ⌜ length (now key) ≡ keyWidth ⌝ }
+    requires { ⌜ rowWidth * count ≤ length (now table) ⌝ }
     ensures { λ r. ⌜ r ≡ seek (peerSound config) (now (key .entry)) (rows peerLayout (now (table .entry)) count) ⌝ }
 {
     let key_front = front_at(key, 0);
@@ -27,24 +29,24 @@ fn walked(config: PeerMessagePolicyConfig, table: &[u8], count: usize, key: &[u8
     let mut place: usize = 0;
     let mut i: usize = 0;
     while i < count {
-        let at = 121 * i;
+        let at = ROW_WIDTH * i;
         if !row_sound(config, table, at) {
             return Seek::Unsound;
         }
         let own = front_at(table, at);
-        if !in_order(table, 121, 33, i, last, own) {
+        if !in_order(table, ROW_WIDTH, KEY_WIDTH, i, last, own) {
             return Seek::Unsound;
         }
         place = place_after(own, key_front, i + 1, place);
         last = own;
         i += 1;
     }
-    place_from(table, 121, count, key, place)
+    place_from(table, ROW_WIDTH, count, key, place)
 }
 
 // Whether the rows are sound, and where the key stands or would stand: one walk, which judges each row once.
 pub fn sought(config: PeerMessagePolicyConfig, table: &[u8], count: usize, key: Pubkey) -> Seek
-    requires { ⌜ 121 * count ≤ length (now table) ⌝ }
+    requires { ⌜ rowWidth * count ≤ length (now table) ⌝ }
     ensures { λ r. ⌜ r ≡ seek (peerSound config) (key .bytes) (rows peerLayout (now (table .entry)) count) ⌝ }
 {
     let bytes = key.bytes;
@@ -53,10 +55,12 @@ pub fn sought(config: PeerMessagePolicyConfig, table: &[u8], count: usize, key: 
 
 // Whether the rows are sound, whoever they are of: the same walk, with any key.
 pub fn rows_sound(config: PeerMessagePolicyConfig, table: &[u8], count: usize) -> bool
-    requires { ⌜ 121 * count ≤ length (now table) ⌝ }
+    requires { ⌜ rowWidth * count ≤ length (now table) ⌝ }
     ensures { λ r. ⌜ r ≡ rowsSound peerLayout (peerSound config) (now (table .entry)) count ⌝ }
 {
-    let any = Pubkey { bytes: [0; 33] };
+    let any = Pubkey {
+        bytes: [0; KEY_WIDTH],
+    };
     let found = sought(config, table, count, any);
     match found {
         Seek::Unsound => false,

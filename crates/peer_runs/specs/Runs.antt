@@ -21,7 +21,7 @@ use Rattle.peer_message_policy.specs.declared.answer.Changed.{Changed}
 use Rattle.peer_message_policy.specs.declared.answer.Changed.the-variants as Changed
 use Rattle.peer_message_policy.specs.declared.answer.InFlight.{InFlight}
 use Rattle.peer_message_policy.specs.declared.answer.HeldTime.{HeldTime}
-use Rattle.peer_rows.specs.Rows.{Peers}
+use Rattle.peer_rows.specs.Rows.{keyWidth, Peers}
 use Rattle.peer_message_policy.specs.Policy.{rowsOf}
 use Rattle.peer_message_policy.specs.Calls.{admissionSays, invalidSays, standingSays, changedSays, inFlightSays, heldTimeSays}
 use Rattle.peer_message_policy.specs.Calls.{NewMeets, AdmitMeets, RecordInvalidMeets, IsBannedMeets, OnDisconnectedMeets, ReleaseIngressMeets, InFlightMeets, HeldTimeMeets}
@@ -99,7 +99,7 @@ Step s (heldTime k given) said t =
 
 -- a key of 33 bytes
 abbrev pub KeyFits : Pubkey → Type 0
-KeyFits k = (length (k .bytes) ≡ 33) × Bytes (k .bytes)
+KeyFits k = (length (k .bytes) ≡ keyWidth) × Bytes (k .bytes)
 
 -- what the machine gives of any arguments: u64 numbers and keys of 33 bytes
 abbrev pub Fits : Call → Type 0

@@ -5,6 +5,7 @@ use lib.Dec.{ltb, leb, eqb}
 use Rattle.peer_settings.specs.declared.config.PeerMessagePolicyConfig.{PeerMessagePolicyConfig}
 use Rattle.peer_state.specs.declared.entry.Level.{Level}
 use Rattle.peer_state.specs.declared.entry.ViolationWindow.{ViolationWindow}
+use Rattle.peer_state.specs.declared.entry.Ban.{Ban}
 use Rattle.peer_state.specs.declared.entry.PeerMessagePolicyEntry.{PeerMessagePolicyEntry}
 
 -- ════ ViolationWindow ════
@@ -31,6 +32,9 @@ windowRecord w now duration = windowCounted (windowExpire w now duration) now
 abbrev pub level : ℕ → ℕ → Level
 level available last = record { available = available; «last_refill_ms» = last }
 
+abbrev pub ban : ℕ → ℕ → Ban
+ban mark until = record { mark = mark; «until_ms» = until }
+
 -- new: both buckets full and last refilled at 0, no violation, no ban; the windows' starts and the last use are now
 unfoldable pub entryNew : PeerMessagePolicyConfig → ℕ → PeerMessagePolicyEntry
 entryNew c now =
@@ -39,7 +43,7 @@ entryNew c now =
       bytes = level (c .«peer_message_burst_bytes») 0;
       «rate_limit_violations» = window 0 now;
       «invalid_messages» = window 0 now;
-      ban = record { mark = 0; «until_ms» = 0 };
+      ban = ban 0 0;
       «last_used_ms» = now;
     }
 
@@ -59,7 +63,7 @@ entryBan e now duration =
       bytes = e .bytes;
       «rate_limit_violations» = e .«rate_limit_violations»;
       «invalid_messages» = e .«invalid_messages»;
-      ban = record { mark = 1; «until_ms» = min (now + duration) 18446744073709551615 };
+      ban = ban 1 (min (now + duration) 18446744073709551615);
       «last_used_ms» = now;
     }
 
@@ -87,11 +91,14 @@ entryUsed e now duration =
       «last_used_ms» = now;
     }
 
--- an entry's own rules: no bucket above its capacity, counts within u32, a mark of 0 or 1, and no end without a ban
+-- a ban's own rules: a mark of 0 or 1, and no end without a ban
+abbrev pub banSound : Ban → Bool
+banSound b = eqb (b .mark) 1 || (eqb (b .mark) 0 && eqb (b .«until_ms») 0)
+
+-- an entry's own rules: no bucket above its capacity, counts within u32, and the ban's rules
 unfoldable pub entrySound : PeerMessagePolicyConfig → PeerMessagePolicyEntry → Bool
 entrySound c e =
     leb (e .messages .available) (c .«peer_message_burst»)
     && (leb (e .bytes .available) (c .«peer_message_burst_bytes»)
     && (leb (e .«rate_limit_violations» .count) 4294967295
-    && (leb (e .«invalid_messages» .count) 4294967295
-    && (eqb (e .ban .mark) 1 || (eqb (e .ban .mark) 0 && eqb (e .ban .«until_ms») 0)))))
+    && (leb (e .«invalid_messages» .count) 4294967295 && banSound (e .ban))))

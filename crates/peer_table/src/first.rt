@@ -3,13 +3,14 @@
 ghost use mathlib.Core.Path.{_≡_};
 ghost use Prim.Native.Nat.{_+_, _*_, _≤_};
 ghost use lib.ListN.{length};
-ghost use Rattle.lent_bytes.specs.LentBytes.{part};
-ghost use Rattle.table.specs.Table.{better, leastFrom};
-ghost use Rattle.table.specs.Table.{nothing};
-ghost use Rattle.table.specs.Memory.{rowOf, rows};
-ghost use Rattle.peer_rows.specs.Rows.{peerLayout};
+ghost use Rattle.table.specs.Table.{nothing, better, leastFrom};
+ghost use Rattle.table.specs.Memory.{rows};
+ghost use Rattle.peer_rows.specs.Rows.{rowWidth, peerLayout, rowFrom};
 ghost use Rattle.peer_table.specs.Private.{bestOf, measureOf, measureBy};
 use lent_bytes::number::get_u64;
+use peer_rows::row::BAN_PLACE;
+use peer_rows::row::LAST_USED_PLACE;
+use peer_rows::row::ROW_WIDTH;
 
 // Nothing, or the row's index and the time that it was chosen by.
 pub enum First {
@@ -26,10 +27,10 @@ pub enum Measure {
 // The measure of the row at the place: of a banned peer the ban's end, of another its last use, and only the kind that is asked
 // for takes part.
 fn measure_at(table: &[u8], at: usize, banned: bool) -> Measure
-    requires { ⌜ at + 121 ≤ length (now table) ⌝ }
-    ensures { λ r. ⌜ measureOf r ≡ measureBy banned (rowOf peerLayout (part (now (table .entry)) at 121)) ⌝ }
+    requires { ⌜ at + rowWidth ≤ length (now table) ⌝ }
+    ensures { λ r. ⌜ measureOf r ≡ measureBy banned (rowFrom (now (table .entry)) at) ⌝ }
 {
-    let ban = at + 97;
+    let ban = at + BAN_PLACE;
     let mark = get_u64(table, ban);
     if banned {
         if mark != 1 {
@@ -40,7 +41,7 @@ fn measure_at(table: &[u8], at: usize, banned: bool) -> Measure
     if mark == 1 {
         return Measure::Absent;
     }
-    Measure::Present(get_u64(table, at + 113))
+    Measure::Present(get_u64(table, at + LAST_USED_PLACE))
 }
 
 // The better of what was found and the row at the index; the earlier row, that of the smaller key, where they are equal.
@@ -61,13 +62,13 @@ fn better_of(found: First, index: usize, measure: Measure) -> First
 
 // The first of the banned peers, or of the others.
 pub fn find_first(table: &[u8], count: usize, banned: bool) -> First
-    requires { ⌜ 121 * count ≤ length (now table) ⌝ }
+    requires { ⌜ rowWidth * count ≤ length (now table) ⌝ }
     ensures { λ r. ⌜ bestOf r ≡ leastFrom (measureBy banned) nothing 0 (rows peerLayout (now (table .entry)) count) ⌝ }
 {
     let mut found = First::Nothing;
     let mut i: usize = 0;
     while i < count {
-        found = better_of(found, i, measure_at(table, 121 * i, banned));
+        found = better_of(found, i, measure_at(table, ROW_WIDTH * i, banned));
         i += 1;
     }
     found

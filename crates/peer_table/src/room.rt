@@ -1,16 +1,15 @@
 // Room for one peer more, as the Rust makes it: the bans that are over go, and if the table is still full, one row more.
-ghost use mathlib.Core.Path.{_≡_};
-ghost use mathlib.Core.Bool.{cond};
-ghost use Prim.Native.Nat.{_+_, _*_, _<_, _≤_};
+ghost use Prim.Native.Nat.{_+_, _*_, _≤_};
 ghost use lib.ListN.{length};
-ghost use Rattle.lent_bytes.specs.LentBytes.{part, put};
-ghost use Rattle.table.specs.Memory.{rowOf, rows, tableBytes, Holds};
-ghost use Rattle.peer_rows.specs.Rows.{peerLayout};
+ghost use Rattle.table.specs.Memory.{rows};
+ghost use Rattle.table_laws.specs.Private.{Counted, Gathered, PlainStep};
+ghost use Rattle.peer_rows.specs.Rows.{rowWidth, peerLayout};
 ghost use Rattle.peer_table.specs.Room.{unspent, pruneExpiredBans, makeRoom};
 ghost use Rattle.peer_table.specs.Room.{evict as evicted};
 use super::first::First;
 use super::first::find_first;
 use super::places::remove_at;
+use peer_rows::row::ROW_WIDTH;
 use peer_rows::row::row_spent;
 use peer_settings::config::PeerMessagePolicyConfig;
 
@@ -18,20 +17,20 @@ use peer_settings::config::PeerMessagePolicyConfig;
 // next one goes.
 fn keep_unspent(table: &mut [u8], from: usize, to: usize, now_ms: u64) -> usize
     requires { ⌜ to ≤ from ⌝ }
-    requires { ⌜ 121 * (from + 1) ≤ length (now table) ⌝ }
-    ensures { λ r. ⌜ (now (table .exit) ≡ cond (unspent «now_ms» (rowOf peerLayout (part (now (table .entry)) (121 * from) 121))) (put (now (table .entry)) (121 * to) (part (now (table .entry)) (121 * from) 121)) (now (table .entry))) × (r ≡ cond (unspent «now_ms» (rowOf peerLayout (part (now (table .entry)) (121 * from) 121))) (to + 1) to) ⌝ }
+    requires { ⌜ rowWidth * (from + 1) ≤ length (now table) ⌝ }
+    ensures { λ r. ⌜ PlainStep peerLayout (unspent «now_ms») (now (table .entry)) (now (table .exit)) from to r ⌝ }
 {
-    if row_spent(table, 121 * from, now_ms) {
+    if row_spent(table, ROW_WIDTH * from, now_ms) {
         return to;
     }
-    table::rows::keep_row(table, 121, from, to);
+    table::rows::keep_row(table, ROW_WIDTH, from, to);
     to + 1
 }
 
 // The rows whose ban is not over, one after another at the front. What stands behind them is left.
 fn gather_unspent(table: &mut [u8], count: usize, now_ms: u64) -> usize
-    requires { ⌜ 121 * count ≤ length (now table) ⌝ }
-    ensures { λ r. ⌜ (now (table .exit) ≡ put (now (table .entry)) 0 (tableBytes peerLayout (pruneExpiredBans «now_ms» (rows peerLayout (now (table .entry)) count)))) × (r ≡ length (pruneExpiredBans «now_ms» (rows peerLayout (now (table .entry)) count))) ⌝ }
+    requires { ⌜ rowWidth * count ≤ length (now table) ⌝ }
+    ensures { λ r. ⌜ Gathered peerLayout (now (table .entry)) (now (table .exit)) r (pruneExpiredBans «now_ms» (rows peerLayout (now (table .entry)) count)) ⌝ }
 {
     let mut kept: usize = 0;
     let mut i: usize = 0;
@@ -44,19 +43,19 @@ fn gather_unspent(table: &mut [u8], count: usize, now_ms: u64) -> usize
 
 // prune_expired_bans: takes out the rows whose ban is over, and answers how many are left.
 pub fn remove_spent(table: &mut [u8], count: usize, now_ms: u64) -> usize
-    requires { ⌜ 121 * count ≤ length (now table) ⌝ }
-    ensures { λ r. ⌜ Holds peerLayout (now (table .entry)) (now (table .exit)) count (pruneExpiredBans «now_ms» (rows peerLayout (now (table .entry)) count)) × (r ≡ length (pruneExpiredBans «now_ms» (rows peerLayout (now (table .entry)) count))) ⌝ }
+    requires { ⌜ rowWidth * count ≤ length (now table) ⌝ }
+    ensures { λ r. ⌜ Counted peerLayout (now (table .entry)) (now (table .exit)) count r (pruneExpiredBans «now_ms» (rows peerLayout (now (table .entry)) count)) ⌝ }
 {
     let kept = gather_unspent(table, count, now_ms);
-    table::rows::zero_rows(table, 121, kept, count - kept);
+    table::rows::zero_rows(table, ROW_WIDTH, kept, count - kept);
     kept
 }
 
 // Takes out the peer without a ban that was used last before all others, or if there is none the peer whose ban ends first, and
 // answers how many rows are left.
 pub fn evict(table: &mut [u8], count: usize) -> usize
-    requires { ⌜ 121 * count ≤ length (now table) ⌝ }
-    ensures { λ r. ⌜ Holds peerLayout (now (table .entry)) (now (table .exit)) count (evicted (rows peerLayout (now (table .entry)) count)) × (r ≡ length (evicted (rows peerLayout (now (table .entry)) count))) ⌝ }
+    requires { ⌜ rowWidth * count ≤ length (now table) ⌝ }
+    ensures { λ r. ⌜ Counted peerLayout (now (table .entry)) (now (table .exit)) count r (evicted (rows peerLayout (now (table .entry)) count)) ⌝ }
 {
     if let First::At(index, _) = find_first(table, count, false) {
         remove_at(table, count, index);
@@ -76,8 +75,8 @@ pub fn make_room(
     count: usize,
     now_ms: u64,
 ) -> usize
-    requires { ⌜ 121 * count ≤ length (now table) ⌝ }
-    ensures { λ r. ⌜ Holds peerLayout (now (table .entry)) (now (table .exit)) count (makeRoom config «now_ms» (rows peerLayout (now (table .entry)) count)) × (r ≡ length (makeRoom config «now_ms» (rows peerLayout (now (table .entry)) count))) ⌝ }
+    requires { ⌜ rowWidth * count ≤ length (now table) ⌝ }
+    ensures { λ r. ⌜ Counted peerLayout (now (table .entry)) (now (table .exit)) count r (makeRoom config «now_ms» (rows peerLayout (now (table .entry)) count)) ⌝ }
 {
     let limit = config.limit();
     if (count as u64) < limit {

@@ -14,7 +14,8 @@ pub enum Ordering {
     Greater,
 }
 
-const PUBKEY_SIZE: usize = 33;
+// How many bytes a Pubkey has.
+pub const PUBKEY_SIZE: usize = 33;
 
 // A peer's public key in its compressed form.
 pub struct Pubkey {
@@ -124,7 +125,7 @@ impl ChannelUpdateLimiterKey {
         let outpoint = self.channel_outpoint.bytes;
         let mut bytes: [u8; 70] = [0; 70];
         lent_bytes::run::put_slice(&mut bytes, 0, &peer);
-        lent_bytes::run::put_slice(&mut bytes, 33, &outpoint);
+        lent_bytes::run::put_slice(&mut bytes, PUBKEY_SIZE, &outpoint);
         bytes[69] = side_byte(self.is_node1);
         bytes
     }

@@ -5,13 +5,10 @@ use mathlib.Core.List.{List, [], _∷_, _++_}
 use Prim.Native.Nat.{ℕ, _+_, _-_, _*_, _/_}
 use lib.ListN.{length}
 use Rattle.lent_bytes.specs.LentBytes.{part}
+use Rattle.peer_rows.specs.Rows.{rowWidth}
 use Rattle.snapshot_layout.specs.Layout.{contentsSize, Part, Slot, slots, snapshotSize, SlotsFit}
 use Rattle.snapshot_settings.specs.Settings.{settingsSize}
 use Rattle.snapshot_settings.specs.Load.{loadSize}
-
--- the size of a row, in bytes
-abbrev pub rowSize : ℕ
-rowSize = 121
 
 -- a form: the kinds of its parts, and the lengths of those behind the rows
 pub record Form : Type 0 where
@@ -51,7 +48,7 @@ total (n ∷ ns) = n + total ns
 module _ (f : Form) where
   -- the lengths of the parts, with n rows
   abbrev pub lengthsOf : ℕ → List ℕ
-  lengthsOf n = settingsSize ∷ loadSize ∷ rowSize * n ∷ f .behind
+  lengthsOf n = settingsSize ∷ loadSize ∷ rowWidth * n ∷ f .behind
 
   -- what the contents tell of a snapshot with n rows
   abbrev pub formSlots : ℕ → List Slot
@@ -71,7 +68,7 @@ module _ (f : Form) where
 
   -- how many rows bytes of this length have, if they are a snapshot
   abbrev pub rowsIn : List ℕ → ℕ
-  rowsIn z = (length z - snapshotSize (formSlots 0)) / rowSize
+  rowsIn z = (length z - snapshotSize (formSlots 0)) / rowWidth
 
 -- a form that can be used: it has a kind for each part, and all that its contents tell is within its field, up to the most rows that
 -- a policy can have

@@ -10,7 +10,8 @@ use lib.ListN.{length, take, drop}
 use Rattle.lent_bytes.specs.LentBytes.{part}
 use Rattle.snapshot_layout.specs.Layout.{Part, Slot, slots, slotsOf, bodiesSize, snapshotSize, bodies, cutFrom, KindsFit, SlotsFit}
 use Rattle.snapshot_layout.specs.SlotLaws.{length-slots}
-use Rattle.snapshot.specs.Form.{rowSize, Form, first, parts, sizes, joined, pieces, total, lengthsOf, formSlots, rowsPlace, FormFits}
+use Rattle.peer_rows.specs.Rows.{rowWidth}
+use Rattle.snapshot.specs.Form.{Form, first, parts, sizes, joined, pieces, total, lengthsOf, formSlots, rowsPlace, FormFits}
 
 -- ════ Kinds and lengths ════
 
@@ -37,7 +38,7 @@ module _ (f : Form) (fits : FormFits f) where
   form-count n = length-slots (f .kinds) (lengthsOf f n) (lengths-count n)
 
   -- how long a snapshot with n rows is
-  pub form-size : (n : ℕ) → snapshotSize (formSlots f n) ≡ rowsPlace f + rowSize * n + total (f .behind)
+  pub form-size : (n : ℕ) → snapshotSize (formSlots f n) ≡ rowsPlace f + rowWidth * n + total (f .behind)
   form-size n = omega (arith, form-count n, size-slots (f .kinds) (lengthsOf f n) (lengths-count n))
 
   -- all that the contents tell of a policy's rows is within its field
@@ -45,7 +46,7 @@ module _ (f : Form) (fits : FormFits f) where
   form-slots-fit n h =
       record {
         count = omega (arith, form-count n, form-count 1024, fits .numbers .count);
-        kinds = kinds-still 72 16 (rowSize * 1024) (rowSize * n) (f .kinds) (f .behind) (fits .numbers .kinds);
+        kinds = kinds-still 72 16 (rowWidth * 1024) (rowWidth * n) (f .kinds) (f .behind) (fits .numbers .kinds);
         size = omega (arith, form-size n, form-size 1024, fits .numbers .size);
       }
 

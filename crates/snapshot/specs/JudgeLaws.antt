@@ -26,7 +26,8 @@ use Rattle.snapshot_settings.specs.declared.load.ReadLoad.{ReadLoad}
 use Rattle.snapshot_settings.specs.declared.load.ReadLoad.the-variants as ReadLoad
 use Rattle.snapshot_settings.specs.Settings.{settingsSize, settingsOf}
 use Rattle.snapshot_settings.specs.Load.{loadSize, loadOf}
-use Rattle.snapshot.specs.Form.{rowSize, Form, total, lengthsOf, formSlots, settingsPlace, loadPlace, rowsPlace, rowsIn, FormFits}
+use Rattle.peer_rows.specs.Rows.{rowWidth}
+use Rattle.snapshot.specs.Form.{Form, total, lengthsOf, formSlots, settingsPlace, loadPlace, rowsPlace, rowsIn, FormFits}
 use Rattle.snapshot.specs.FormLaws.{form-size}
 use Rattle.snapshot.specs.Snapshot.{settingsIn}
 use Rattle.snapshot.specs.Snapshot.{recordIn, loadIn, configIn, policyIn}
@@ -60,7 +61,7 @@ module _ (f : Form) where
 
   -- bytes that are laid out end with what stands behind the last row
   pub laid-length : FormFits f → (z : List ℕ) → laidOut z (formSlots f (rowsIn f z)) ≡ true
-      → length z ≡ rowsPlace f + rowSize * rowsIn f z + total (f .behind)
+      → length z ≡ rowsPlace f + rowWidth * rowsIn f z + total (f .behind)
   laid-length fits z h = length-laid z (formSlots f (rowsIn f z)) h ∙ form-size f fits (rowsIn f z)
 
   -- ════ Settings that were read ════
@@ -88,7 +89,7 @@ module _ (f : Form) where
     read-settings = read-is (laidOut z (formSlots f (rowsIn f z))) (settingsOf (part z (settingsPlace f) settingsSize)) h .1
 
     -- the bytes end with what stands behind the last row
-    pub read-length : FormFits f → length z ≡ rowsPlace f + rowSize * rowsIn f z + total (f .behind)
+    pub read-length : FormFits f → length z ≡ rowsPlace f + rowWidth * rowsIn f z + total (f .behind)
     read-length fits = laid-length fits z read-laid
 
   -- ════ A policy that was judged ════
@@ -189,6 +190,6 @@ module _ (f : Form) where
 
   -- the snapshot ends with what stands behind the policy's rows
   pub describes-length : FormFits f → (z : List ℕ) (p : PeerMessagePolicy) → Describes z p
-      → length z ≡ rowsPlace f + rowSize * p .rows + total (f .behind)
+      → length z ≡ rowsPlace f + rowWidth * p .rows + total (f .behind)
   describes-length fits z p d =
-      read-length z (p .config) (d .settings) fits ∙ ap (λ (n : ℕ). rowsPlace f + rowSize * n + total (f .behind)) (sym (d .count))
+      read-length z (p .config) (d .settings) fits ∙ ap (λ (n : ℕ). rowsPlace f + rowWidth * n + total (f .behind)) (sym (d .count))

@@ -28,7 +28,8 @@ use Rattle.snapshot.specs.declared.answer.Written.{Written}
 use Rattle.snapshot.specs.declared.answer.Written.the-variants as Written
 use Rattle.snapshot.specs.declared.answer.PartPlace.{PartPlace}
 use Rattle.snapshot.specs.declared.answer.PartPlace.the-variants as PartPlace
-use Rattle.snapshot.specs.Form.{rowSize, Form, first, parts, formSlots, settingsPlace, loadPlace, rowsPlace, rowsIn}
+use Rattle.peer_rows.specs.Rows.{rowWidth}
+use Rattle.snapshot.specs.Form.{Form, first, parts, formSlots, settingsPlace, loadPlace, rowsPlace, rowsIn}
 
 -- ════ What the answers say ════
 
@@ -48,7 +49,7 @@ placeSays (PartPlace.Refused n) = refused n
 -- form has behind them
 unfoldable pub policyParts : Form → PeerMessagePolicy → List ℕ → List (List ℕ) → List Part
 policyParts f p s behind =
-    parts (f .kinds) (settingsBytes (p .config) ∷ loadBytes (p .ingress) ∷ take (rowSize * p .rows) s ∷ behind)
+    parts (f .kinds) (settingsBytes (p .config) ∷ loadBytes (p .ingress) ∷ take (rowWidth * p .rows) s ∷ behind)
 
 -- the snapshot of a policy and the memory lent to it, with these bodies behind the rows
 unfoldable pub snapshotBytes : Form → PeerMessagePolicy → List ℕ → List (List ℕ) → List ℕ

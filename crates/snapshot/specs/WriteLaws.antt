@@ -20,14 +20,15 @@ use Rattle.snapshot_settings.specs.Load.{loadSize, loadBytes}
 use Rattle.snapshot_settings.specs.LoadLaws.{length-loadBytes}
 use Rattle.snapshot.specs.declared.answer.Written.{Written}
 use Rattle.snapshot.specs.declared.answer.Written.the-variants as Written
-use Rattle.snapshot.specs.Form.{rowSize, Form, first, sizes, formSlots, settingsPlace, loadPlace, rowsPlace, FormFits}
+use Rattle.peer_rows.specs.Rows.{rowWidth}
+use Rattle.snapshot.specs.Form.{Form, first, sizes, formSlots, settingsPlace, loadPlace, rowsPlace, FormFits}
 use Rattle.snapshot.specs.FormLaws.{form-count, slots-of-parts}
 use Rattle.snapshot.specs.Snapshot.{policyParts, snapshotBytes, snapshotLength, writeOutcome, WriteMeets}
 
 -- ════ What writing leaves ════
 
 -- a sound policy has at most 1,024 rows, and they stand in its memory
-pub sound-rows : (p : PeerMessagePolicy) (s : List ℕ) → sound p s ≡ true → (p .rows ≤ 1024) × (rowSize * p .rows ≤ length s)
+pub sound-rows : (p : PeerMessagePolicy) (s : List ℕ) → sound p s ≡ true → (p .rows ≤ 1024) × (rowWidth * p .rows ≤ length s)
 sound-rows p s h =
     let holds = policy-holds p s h in
     (omega (arith, holds .own .tracked, holds .own .few), omega (arith, holds .own .few, holds .long))
@@ -54,16 +55,16 @@ module _ (p : PeerMessagePolicy) (s out : List ℕ) where
 
 -- ════ Written ════
 
-module _ (p : PeerMessagePolicy) (s : List ℕ) (inside : rowSize * p .rows ≤ length s) where
+module _ (p : PeerMessagePolicy) (s : List ℕ) (inside : rowWidth * p .rows ≤ length s) where
   -- the rows take their bytes
-  pub rows-length : length (take (rowSize * p .rows) s) ≡ rowSize * p .rows
+  pub rows-length : length (take (rowWidth * p .rows) s) ≡ rowWidth * p .rows
   rows-length = simp length-take (omega arith)
 
   -- the parts have the form's kinds and lengths
   pub slots-parts : (f : Form) (behind : List (List ℕ)) → sizes behind ≡ f .behind → slotsOf (policyParts f p s behind) ≡ formSlots f (p .rows)
   unfolding policyParts
   slots-parts f behind e =
-      slots-of-parts (f .kinds) (settingsBytes (p .config) ∷ loadBytes (p .ingress) ∷ take (rowSize * p .rows) s ∷ behind)
+      slots-of-parts (f .kinds) (settingsBytes (p .config) ∷ loadBytes (p .ingress) ∷ take (rowWidth * p .rows) s ∷ behind)
       ∙ (λ d. slots (f .kinds) (length-settingsBytes (p .config) d ∷ length-loadBytes (p .ingress) d ∷ rows-length d ∷ e d))
 
   front-length : length (settingsBytes (p .config) ++ loadBytes (p .ingress)) ≡ settingsSize + loadSize
@@ -73,12 +74,12 @@ module _ (p : PeerMessagePolicy) (s : List ℕ) (inside : rowSize * p .rows ≤ 
 
   -- settings, load and rows, written one behind the other
   put-front : (f : Form) (out : List ℕ) → settingsPlace f ≤ length out
-      → put (put (put out (settingsPlace f) (settingsBytes (p .config))) (loadPlace f) (loadBytes (p .ingress))) (rowsPlace f) (take (rowSize * p .rows) s)
-      ≡ put out (settingsPlace f) (settingsBytes (p .config) ++ (loadBytes (p .ingress) ++ take (rowSize * p .rows) s))
+      → put (put (put out (settingsPlace f) (settingsBytes (p .config))) (loadPlace f) (loadBytes (p .ingress))) (rowsPlace f) (take (rowWidth * p .rows) s)
+      ≡ put out (settingsPlace f) (settingsBytes (p .config) ++ (loadBytes (p .ingress) ++ take (rowWidth * p .rows) s))
   put-front f out h =
       let a : List ℕ = settingsBytes (p .config) in
       let b : List ℕ = loadBytes (p .ingress) in
-      let c : List ℕ = take (rowSize * p .rows) s in
+      let c : List ℕ = take (rowWidth * p .rows) s in
       let place : rowsPlace f ≡ settingsPlace f + (settingsSize + loadSize) = omega arith in
       ap (λ (l : List ℕ). put l (rowsPlace f) c) (put-put-at out (settingsPlace f) a b settingsSize (length-settingsBytes (p .config)) h)
       ∙ ap (λ (at : ℕ). put (put out (settingsPlace f) (a ++ b)) at c) place
@@ -87,12 +88,12 @@ module _ (p : PeerMessagePolicy) (s : List ℕ) (inside : rowSize * p .rows ≤ 
 
   -- in the first form they are all the bodies
   pub put-parts : (out : List ℕ) → settingsPlace first ≤ length out
-      → put (put (put out (settingsPlace first) (settingsBytes (p .config))) (loadPlace first) (loadBytes (p .ingress))) (rowsPlace first) (take (rowSize * p .rows) s)
+      → put (put (put out (settingsPlace first) (settingsBytes (p .config))) (loadPlace first) (loadBytes (p .ingress))) (rowsPlace first) (take (rowWidth * p .rows) s)
       ≡ put out (settingsPlace first) (bodies (policyParts first p s []))
   unfolding policyParts bodies
   put-parts out h =
       put-front first out h
-      ∙ ap (λ (l : List ℕ). put out (settingsPlace first) (settingsBytes (p .config) ++ (loadBytes (p .ingress) ++ l))) (sym (append-nil (take (rowSize * p .rows) s)))
+      ∙ ap (λ (l : List ℕ). put out (settingsPlace first) (settingsBytes (p .config) ++ (loadBytes (p .ingress) ++ l))) (sym (append-nil (take (rowWidth * p .rows) s)))
 
   -- contents and bodies are the snapshot
   pub put-whole : (f : Form) → FormFits f → (behind : List (List ℕ)) → sizes behind ≡ f .behind → (out : List ℕ)

@@ -3,11 +3,13 @@ ghost use mathlib.Core.Path.{_≡_};
 ghost use Prim.Native.Nat.{_+_, _*_, _≤_};
 ghost use lib.ListN.{length};
 ghost use Rattle.snapshot_settings.specs.declared.settings.ReadSettings.the-variants as ReadSettings;
-ghost use Rattle.snapshot.specs.Form.{rowSize, first, rowsPlace, rowsIn};
+ghost use Rattle.peer_rows.specs.Rows.{rowWidth};
+ghost use Rattle.snapshot.specs.Form.{first, rowsPlace, rowsIn};
 ghost use Rattle.snapshot.specs.Snapshot.{settingsIn, recordIn, configIn, policyIn};
 use super::form;
 use peer_message_policy::answer::Made;
 use peer_message_policy::policy::PeerMessagePolicy;
+use peer_rows::row::ROW_WIDTH;
 use peer_settings::config::PeerMessagePolicyConfig;
 use snapshot_settings::load::ReadLoad;
 use snapshot_settings::settings::ReadSettings;
@@ -19,7 +21,7 @@ pub(crate) fn rows_in(snapshot: &[u8]) -> usize
     if snapshot.len() < form::ROWS_PLACE {
         return 0;
     }
-    (snapshot.len() - form::ROWS_PLACE) / form::ROW_SIZE
+    (snapshot.len() - form::ROWS_PLACE) / ROW_WIDTH
 }
 
 // The settings of bytes that are laid out as a snapshot. Settings out of their range count as a wrong layout, and the other way round.
@@ -36,7 +38,7 @@ pub(crate) fn settings_in(snapshot: &[u8]) -> ReadSettings
 
 // The record is judged, then the rows.
 fn record_in(snapshot: &[u8], policy: PeerMessagePolicy) -> Made
-    requires { ⌜ rowsPlace first + rowSize * policy .rows ≤ length (now snapshot) ⌝ }
+    requires { ⌜ rowsPlace first + rowWidth * policy .rows ≤ length (now snapshot) ⌝ }
     ensures { λ r. ⌜ r ≡ recordIn first (now (snapshot .entry)) policy ⌝ }
 {
     if !policy.is_sound() {
@@ -53,7 +55,7 @@ fn record_in(snapshot: &[u8], policy: PeerMessagePolicy) -> Made
 
 // The settings' limit is judged, then the load, then the record and its rows.
 fn policy_with(snapshot: &[u8], config: PeerMessagePolicyConfig) -> Made
-    requires { ⌜ rowsPlace first + rowSize * rowsIn first (now snapshot) ≤ length (now snapshot) ⌝ }
+    requires { ⌜ rowsPlace first + rowWidth * rowsIn first (now snapshot) ≤ length (now snapshot) ⌝ }
     ensures { λ r. ⌜ r ≡ configIn first (now (snapshot .entry)) (ReadSettings.Read config) ⌝ }
 {
     if config.max_tracked_peers > PeerMessagePolicyConfig::MAX_ROWS {

@@ -8,6 +8,7 @@ use super::judge;
 use super::put;
 use peer_message_policy::answer::Made;
 use peer_message_policy::policy::PeerMessagePolicy;
+use peer_rows::row::ROW_WIDTH;
 
 // Writes a snapshot to the beginning of the output: 120 bytes and 121 for each row. Every further byte stays. Refused with 3 where
 // policy or table are unsound, then with 1 where the output is too short.
@@ -17,7 +18,7 @@ pub fn write(policy: PeerMessagePolicy, table: &[u8], output: &mut [u8]) -> Writ
     if !policy.is_sound_in(table) {
         return Written::Refused(refusal::UNSOUND);
     }
-    let size = form::ROWS_PLACE + form::ROW_SIZE * (policy.rows as usize);
+    let size = form::ROWS_PLACE + ROW_WIDTH * (policy.rows as usize);
     if output.len() < size {
         return Written::Refused(refusal::TOO_SHORT);
     }

@@ -17,7 +17,7 @@ use Rattle.table.specs.MemoryLaws.{AllFit, length-rows, length-tableBytes, tabl
 use Rattle.table.specs.MemoryLaws as memory
 use Rattle.refusal.specs.Refusal.{tooShort}
 use Rattle.peer_settings.specs.Config.{limit}
-use Rattle.peer_rows.specs.Rows.{Peers, peerLayout, peerSound}
+use Rattle.peer_rows.specs.Rows.{rowWidth, Peers, peerLayout, peerSound}
 use Rattle.peer_rows.specs.RowsLaws.{EntryFits, peer-faithful}
 use Rattle.peer_message_policy.specs.declared.policy.PeerMessagePolicy.{PeerMessagePolicy}
 use Rattle.peer_message_policy.specs.declared.answer.Made.{Made}
@@ -31,7 +31,7 @@ use Rattle.snapshot_settings.specs.Settings.{settingsSize, settingsBytes}
 use Rattle.snapshot_settings.specs.SettingsLaws.{settings-write-back}
 use Rattle.snapshot_settings.specs.Load.{loadSize, loadBytes}
 use Rattle.snapshot_settings.specs.LoadLaws.{load-write-back}
-use Rattle.snapshot.specs.Form.{rowSize, Form, parts, pieces, total, lengthsOf, formSlots, settingsPlace, loadPlace, rowsPlace, FormFits}
+use Rattle.snapshot.specs.Form.{Form, parts, pieces, total, lengthsOf, formSlots, settingsPlace, loadPlace, rowsPlace, FormFits}
 use Rattle.snapshot.specs.FormLaws.{form-count, cut-slots}
 use Rattle.snapshot.specs.Snapshot.{policyParts, snapshotBytes, limitOf, policyIn, restored, readOutcome, ReadMeets}
 use Rattle.snapshot.specs.JudgeLaws.{read-laid, read-settings, Describes, policy-describes, describes-length}
@@ -42,7 +42,7 @@ module _ (f : Form) where
   -- the snapshot describes the policy, and the table that had room for its limit holds its rows
   pub record Restored (z before : List ℕ) (q : PeerMessagePolicy) (after : List ℕ) : Type 0 where
     pub described : Describes f z q
-    pub long : rowSize * limit (q .config) ≤ length before
+    pub long : rowWidth * limit (q .config) ≤ length before
     pub held : Holds peerLayout before after (limit (q .config)) (rowsOf q (drop (rowsPlace f) z))
 
   module _ (z before : List ℕ) (q : PeerMessagePolicy) (after : List ℕ) where
@@ -56,7 +56,7 @@ module _ (f : Form) where
         let same : Made.Policy q ≡ Made.Policy p = m .answers in
         let is : p ≡ q = cc in
         subst (λ (x : PeerMessagePolicy). Restored z before x after) is
-        (record { described = policy-describes f z p h; long = leb-true (rowSize * limit (p .config)) (length before) l; held = m .leaves })
+        (record { described = policy-describes f z p h; long = leb-true (rowWidth * limit (p .config)) (length before) l; held = m .leaves })
 
     -- by what the snapshot holds
     restored-is : (x : Made) → policyIn f z ≡ x → Meets (Made.Policy q) before after (limitOf x) (restored f z before x) → Restored z before q after
@@ -77,33 +77,33 @@ module _ (f : Form) where
 module _ (f : Form) (fits : FormFits f) where
   -- ════ Bytes that describe a policy ════
 
-  module _ (z : List ℕ) (q : PeerMessagePolicy) (s : List ℕ) (b : Bytes z) (d : Describes f z q) (front : take (rowSize * q .rows) s ≡ part z (rowsPlace f) (rowSize * q .rows)) where
+  module _ (z : List ℕ) (q : PeerMessagePolicy) (s : List ℕ) (b : Bytes z) (d : Describes f z q) (front : take (rowWidth * q .rows) s ≡ part z (rowsPlace f) (rowWidth * q .rows)) where
     laid-here : laidOut z (formSlots f (q .rows)) ≡ true
     laid-here = ap (λ (n : ℕ). laidOut z (formSlots f n)) (d .count) ∙ read-laid f z (q .config) (d .settings)
 
-    parts-again : policyParts f q s (pieces z (rowsPlace f + rowSize * q .rows) (f .behind)) ≡ cut z (formSlots f (q .rows))
+    parts-again : policyParts f q s (pieces z (rowsPlace f + rowWidth * q .rows) (f .behind)) ≡ cut z (formSlots f (q .rows))
     unfolding policyParts cut
     parts-again =
-        let whole : length z ≡ rowsPlace f + rowSize * q .rows + total (f .behind) = describes-length f fits z q d in
+        let whole : length z ≡ rowsPlace f + rowWidth * q .rows + total (f .behind) = describes-length f fits z q d in
         let settings : settingsBytes (q .config) ≡ part z (settingsPlace f) settingsSize =
         settings-write-back (part z (settingsPlace f) settingsSize) (q .config) (Bytes-part z (settingsPlace f) settingsSize b)
         (length-part z (settingsPlace f) settingsSize (omega arith)) (read-settings f z (q .config) (d .settings)) in
         let load : loadBytes (q .ingress) ≡ part z (loadPlace f) loadSize =
         load-write-back (part z (loadPlace f) loadSize) (q .ingress) (Bytes-part z (loadPlace f) loadSize b)
         (length-part z (loadPlace f) loadSize (omega arith)) (d .load) in
-        (λ i. parts (f .kinds) (settings i ∷ load i ∷ front i ∷ pieces z (rowsPlace f + rowSize * q .rows) (f .behind)))
+        (λ i. parts (f .kinds) (settings i ∷ load i ∷ front i ∷ pieces z (rowsPlace f + rowWidth * q .rows) (f .behind)))
         ∙ sym (cut-slots z (settingsPlace f) (f .kinds) (lengthsOf f (q .rows)))
         ∙ ap (λ (n : ℕ). cutFrom z (contentsSize n) (formSlots f (q .rows))) (sym (form-count f fits (q .rows)))
 
     -- bytes that describe a policy are its snapshot, with the bodies that stand behind the rows
-    pub describes-bytes : snapshotBytes f q s (pieces z (rowsPlace f + rowSize * q .rows) (f .behind)) ≡ z
+    pub describes-bytes : snapshotBytes f q s (pieces z (rowsPlace f + rowWidth * q .rows) (f .behind)) ≡ z
     unfolding snapshotBytes
     describes-bytes = ap snapshotOf parts-again ∙ sym (accepted-is z (formSlots f (q .rows)) b laid-here)
 
   -- ════ What a read leaves ════
 
   module _ (z before : List ℕ) (q : PeerMessagePolicy) (after : List ℕ) (r : Restored f z before q after) where
-    rows-inside : rowSize * q .rows ≤ length (drop (rowsPlace f) z)
+    rows-inside : rowWidth * q .rows ≤ length (drop (rowsPlace f) z)
     rows-inside = simp length-drop (omega (arith, describes-length f fits z q (r .described)))
 
     module _ (b : Bytes (drop (rowsPlace f) z)) where
@@ -138,18 +138,18 @@ module _ (f : Form) (fits : FormFits f) where
           })
 
       -- the table begins with the snapshot's rows
-      pub restored-front : take (rowSize * q .rows) after ≡ part z (rowsPlace f) (rowSize * q .rows)
+      pub restored-front : take (rowWidth * q .rows) after ≡ part z (rowsPlace f) (rowWidth * q .rows)
       unfolding laid part
       restored-front =
           let w : List ℕ = drop (rowsPlace f) z in
           let rs : Peers = rowsOf q w in
           let n : length rs ≡ q .rows = length-rows peerLayout w (q .rows) in
-          ap (take (rowSize * q .rows)) (r .held .memory)
+          ap (take (rowWidth * q .rows)) (r .held .memory)
           ∙ take-at (tableBytes peerLayout rs)
-          (zeros (rowSize * (limit (q .config) - length rs)) ++ drop (rowSize * max (limit (q .config)) (length rs)) before)
-          (rowSize * q .rows) (length-tableBytes peer-faithful rs rows-fit ∙ ap (λ (k : ℕ). rowSize * k) n)
+          (zeros (rowWidth * (limit (q .config) - length rs)) ++ drop (rowWidth * max (limit (q .config)) (length rs)) before)
+          (rowWidth * q .rows) (length-tableBytes peer-faithful rs rows-fit ∙ ap (λ (k : ℕ). rowWidth * k) n)
           ∙ tableBytes-rows peer-faithful w (q .rows) b rows-inside
 
     -- the snapshot of the policy that was read, with the bodies that stood behind its rows, is the snapshot that it was read from
-    pub bytes-again : Bytes z → snapshotBytes f q after (pieces z (rowsPlace f + rowSize * q .rows) (f .behind)) ≡ z
+    pub bytes-again : Bytes z → snapshotBytes f q after (pieces z (rowsPlace f + rowWidth * q .rows) (f .behind)) ≡ z
     bytes-again b = describes-bytes z q after b (r .described) (restored-front (Bytes-drop (rowsPlace f) z b))

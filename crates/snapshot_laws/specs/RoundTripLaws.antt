@@ -20,7 +20,8 @@ use Rattle.peer_message_policy.specs.Calls.{refuse}
 use Rattle.peer_laws.specs.Fits.{PolicyFits}
 use Rattle.snapshot.specs.declared.answer.Written.{Written}
 use Rattle.snapshot.specs.declared.answer.Written.the-variants as Written
-use Rattle.snapshot.specs.Form.{rowSize, Form, first, sizes, joined, rowsPlace, FormFits}
+use Rattle.peer_rows.specs.Rows.{rowWidth}
+use Rattle.snapshot.specs.Form.{Form, first, sizes, joined, rowsPlace, FormFits}
 use Rattle.snapshot.specs.FormLaws.{first-fits}
 use Rattle.snapshot.specs.Snapshot.{snapshotBytes, snapshotLength, WriteOutcome, writeOutcome, WriteMeets, restored, readOutcome, ReadMeets}
 use Rattle.snapshot.specs.JudgeLaws.{describes-policy, describes-length}
@@ -48,7 +49,7 @@ module _ (f : Form) (fits : FormFits f) (p : PeerMessagePolicy) (s : List ℕ) (
       let both : Made.Policy q ≡ Made.Policy p = sym (describes-policy f z q (r .described)) ∙ written-policy f fits p s h behind e numbers in
       let is : q ≡ p = cc in
       let bytes : Bytes (drop (rowsPlace f) z) =
-      subst Bytes (sym (written-tail f fits p s h behind e)) (Bytes-append (take (rowSize * p .rows) s) (joined behind) (Bytes-take (rowSize * p .rows) s b) more) in
+      subst Bytes (sym (written-tail f fits p s h behind e)) (Bytes-append (take (rowWidth * p .rows) s) (joined behind) (Bytes-take (rowWidth * p .rows) s b) more) in
       record {
         policy = is;
         rows =
@@ -142,7 +143,7 @@ pub read-writes : (z before after : List ℕ) (q : PeerMessagePolicy) → Bytes 
 read-writes z before after q b read out long r out' m =
     let back : Restored first z before q after = read-restored first z before q after read in
     let tail : Bytes (drop (rowsPlace first) z) = Bytes-drop (rowsPlace first) z b in
-    let size : length z ≡ rowsPlace first + rowSize * q .rows = omega (arith, describes-length first first-fits z q (back .described)) in
+    let size : length z ≡ rowsPlace first + rowWidth * q .rows = omega (arith, describes-length first first-fits z q (back .described)) in
     let again : snapshotBytes first q after [] ≡ z = bytes-again first first-fits z before q after back b in
     let done = write-done q after out (restored-sound first first-fits z before q after back tail) (omega arith) (length z) (omega arith) (put out 0 (snapshotBytes first q after [])) refl in
     let one = write-one q after out m done in

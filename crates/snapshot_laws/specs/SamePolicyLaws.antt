@@ -10,7 +10,7 @@ use Rattle.lent_bytes.specs.LentBytes.{put, Bytes}
 use Rattle.table.specs.Memory.{tableBytes}
 use Rattle.table.specs.MemoryLaws.{tableBytes-rows}
 use Rattle.refusal.specs.Refusal.{Said, tooShort, unsound}
-use Rattle.peer_rows.specs.Rows.{peerLayout}
+use Rattle.peer_rows.specs.Rows.{rowWidth, peerLayout}
 use Rattle.peer_rows.specs.RowsLaws.{peer-faithful}
 use Rattle.peer_message_policy.specs.declared.policy.PeerMessagePolicy.{PeerMessagePolicy}
 use Rattle.peer_message_policy.specs.declared.answer.Made.the-variants as Made
@@ -24,7 +24,7 @@ use Rattle.snapshot_settings.specs.Settings.{settingsBytes}
 use Rattle.snapshot_settings.specs.Load.{loadBytes}
 use Rattle.snapshot_layout.specs.Layout.{snapshotOf}
 use Rattle.snapshot.specs.declared.answer.Written.the-variants as Written
-use Rattle.snapshot.specs.Form.{rowSize, Form, first, parts}
+use Rattle.snapshot.specs.Form.{Form, first, parts}
 use Rattle.snapshot.specs.Snapshot.{policyParts, snapshotBytes, snapshotLength, WriteOutcome, writeOutcome, WriteMeets, ReadMeets}
 use Rattle.snapshot.specs.WriteLaws.{sound-rows}
 use Rattle.snapshot_laws.specs.Alike.{Alike, Calls, done, next, WrittenAlike, SamePolicy}
@@ -63,9 +63,9 @@ calls-alike {s} {t} a (next call said m fits step rest) (next call₂ other n fi
 
 module _ (s t : State) (a : Alike s t) where
   -- equal rows are equal bytes
-  front-alike : take (rowSize * t .policy .rows) (t .memory) ≡ take (rowSize * s .policy .rows) (s .memory)
+  front-alike : take (rowWidth * t .policy .rows) (t .memory) ≡ take (rowWidth * s .policy .rows) (s .memory)
   front-alike =
-      let inside : (x : State) → sound (x .policy) (x .memory) ≡ true → rowSize * x .policy .rows ≤ length (x .memory) =
+      let inside : (x : State) → sound (x .policy) (x .memory) ≡ true → rowWidth * x .policy .rows ≤ length (x .memory) =
       λ x h. sound-rows (x .policy) (x .memory) h .1 in
       sym (tableBytes-rows peer-faithful (t .memory) (t .policy .rows) (a .second-bytes) (inside t (a .second-sound)))
       ∙ ap (tableBytes peerLayout) (a .rows)

@@ -11,7 +11,7 @@ use Rattle.truths.specs.TruthLaws.{both}
 use Rattle.lent_bytes.specs.LentBytes.{part}
 use Rattle.table.specs.Table.{every, ascending}
 use Rattle.table.specs.MemoryLaws.{rows-front}
-use Rattle.peer_rows.specs.Rows.{Peers, peerLayout, peerSound}
+use Rattle.peer_rows.specs.Rows.{rowWidth, Peers, peerLayout, peerSound}
 use Rattle.peer_message_policy.specs.declared.policy.PeerMessagePolicy.{PeerMessagePolicy}
 use Rattle.peer_message_policy.specs.declared.answer.Made.the-variants as Made
 use Rattle.peer_message_policy.specs.Policy.{rowsOf, sound}
@@ -25,7 +25,7 @@ use Rattle.snapshot_settings.specs.Settings.{settingsSize, settingsBytes, setti
 use Rattle.snapshot_settings.specs.SettingsLaws.{length-settingsBytes, settings-read-back}
 use Rattle.snapshot_settings.specs.Load.{loadSize, loadBytes, loadOf}
 use Rattle.snapshot_settings.specs.LoadLaws.{length-loadBytes, load-read-back}
-use Rattle.snapshot.specs.Form.{rowSize, Form, sizes, joined, pieces, formSlots, settingsPlace, loadPlace, rowsPlace, rowsIn, FormFits}
+use Rattle.snapshot.specs.Form.{Form, sizes, joined, pieces, formSlots, settingsPlace, loadPlace, rowsPlace, rowsIn, FormFits}
 use Rattle.snapshot.specs.FormLaws.{form-count, form-size, form-slots-fit, form-bodies, pieces-joined}
 use Rattle.snapshot.specs.Snapshot.{policyParts, snapshotBytes, snapshotLength, settingsIn, policyIn}
 use Rattle.snapshot.specs.WriteLaws.{sound-rows, rows-length, slots-parts}
@@ -59,20 +59,20 @@ module _ (f : Form) (fits : FormFits f) (p : PeerMessagePolicy) (s : List ℕ) (
   -- ════ The bodies ════
 
   -- all of them stand behind the contents
-  written-bodies : drop (settingsPlace f) z ≡ settingsBytes (p .config) ++ (loadBytes (p .ingress) ++ (take (rowSize * p .rows) s ++ joined behind))
+  written-bodies : drop (settingsPlace f) z ≡ settingsBytes (p .config) ++ (loadBytes (p .ingress) ++ (take (rowWidth * p .rows) s ++ joined behind))
   unfolding snapshotBytes snapshotOf policyParts
   written-bodies =
       let size : length (contents (slotsOf (policyParts f p s behind))) ≡ settingsPlace f =
       length-contents (slotsOf (policyParts f p s behind)) ∙ ap contentsSize (ap length slots-here ∙ form-count f fits (p .rows)) in
       drop-at (contents (slotsOf (policyParts f p s behind))) (bodies (policyParts f p s behind)) (settingsPlace f) size
-      ∙ form-bodies f fits (settingsBytes (p .config)) (loadBytes (p .ingress)) (take (rowSize * p .rows) s) behind e
+      ∙ form-bodies f fits (settingsBytes (p .config)) (loadBytes (p .ingress)) (take (rowWidth * p .rows) s) behind e
 
   -- the settings stand in their place
   pub written-settings : part (snapshotBytes f p s behind) (settingsPlace f) settingsSize ≡ settingsBytes (p .config)
   unfolding part
   written-settings = ap (take settingsSize) written-bodies ∙ take-at (settingsBytes (p .config)) _ settingsSize (length-settingsBytes (p .config))
 
-  behind-settings : drop (loadPlace f) z ≡ loadBytes (p .ingress) ++ (take (rowSize * p .rows) s ++ joined behind)
+  behind-settings : drop (loadPlace f) z ≡ loadBytes (p .ingress) ++ (take (rowWidth * p .rows) s ++ joined behind)
   behind-settings =
       sym (drop-drop settingsSize (settingsPlace f) z)
       ∙ ap (drop settingsSize) written-bodies
@@ -84,31 +84,31 @@ module _ (f : Form) (fits : FormFits f) (p : PeerMessagePolicy) (s : List ℕ) (
   written-load = ap (take loadSize) behind-settings ∙ take-at (loadBytes (p .ingress)) _ loadSize (length-loadBytes (p .ingress))
 
   -- the rows' bytes stand in front of what stands behind them
-  pub written-tail : drop (rowsPlace f) (snapshotBytes f p s behind) ≡ take (rowSize * p .rows) s ++ joined behind
+  pub written-tail : drop (rowsPlace f) (snapshotBytes f p s behind) ≡ take (rowWidth * p .rows) s ++ joined behind
   written-tail =
       sym (drop-drop loadSize (loadPlace f) z)
       ∙ ap (drop loadSize) behind-settings
       ∙ drop-at (loadBytes (p .ingress)) _ loadSize (length-loadBytes (p .ingress))
 
-  rows-here : length (take (rowSize * p .rows) s) ≡ rowSize * p .rows
+  rows-here : length (take (rowWidth * p .rows) s) ≡ rowWidth * p .rows
   rows-here = rows-length p s (sound-rows p s h .1)
 
   -- so the rows are the policy's
   pub written-rows : rowsOf p (drop (rowsPlace f) (snapshotBytes f p s behind)) ≡ rowsOf p s
   written-rows =
       ap (rowsOf p) written-tail
-      ∙ sym (rows-front peerLayout (take (rowSize * p .rows) s ++ joined behind) (p .rows))
-      ∙ ap (rowsOf p) (take-at (take (rowSize * p .rows) s) (joined behind) (rowSize * p .rows) rows-here)
+      ∙ sym (rows-front peerLayout (take (rowWidth * p .rows) s ++ joined behind) (p .rows))
+      ∙ ap (rowsOf p) (take-at (take (rowWidth * p .rows) s) (joined behind) (rowWidth * p .rows) rows-here)
       ∙ rows-front peerLayout s (p .rows)
 
   -- and the bodies behind them are those that were written
-  pub written-behind : pieces (snapshotBytes f p s behind) (rowsPlace f + rowSize * p .rows) (f .behind) ≡ behind
+  pub written-behind : pieces (snapshotBytes f p s behind) (rowsPlace f + rowWidth * p .rows) (f .behind) ≡ behind
   written-behind =
-      ap (pieces z (rowsPlace f + rowSize * p .rows)) (sym e)
-      ∙ pieces-joined z (rowsPlace f + rowSize * p .rows) behind
-      (sym (drop-drop (rowSize * p .rows) (rowsPlace f) z)
-      ∙ ap (drop (rowSize * p .rows)) written-tail
-      ∙ drop-at (take (rowSize * p .rows) s) (joined behind) (rowSize * p .rows) rows-here)
+      ap (pieces z (rowsPlace f + rowWidth * p .rows)) (sym e)
+      ∙ pieces-joined z (rowsPlace f + rowWidth * p .rows) behind
+      (sym (drop-drop (rowWidth * p .rows) (rowsPlace f) z)
+      ∙ ap (drop (rowWidth * p .rows)) written-tail
+      ∙ drop-at (take (rowWidth * p .rows) s) (joined behind) (rowWidth * p .rows) rows-here)
 
   -- ════ The policy ════
 

@@ -9,11 +9,9 @@ use lib.ListN.{length}
 use denote.Ref.{now}
 use Rattle.lent_bytes.specs.LentBytes.{part, zeros}
 use Rattle.refusal.specs.Refusal.{Said, gives, refused, wrongLayout}
-use Rattle.table.specs.Memory.{rowOf}
-use Rattle.peer_state.specs.Entry.{level, window}
-use Rattle.peer_rows.specs.Rows.{entryWords, peerLayout}
-use Rattle.peer_rows.specs.Private.{ban}
-use Rattle.snapshot.specs.Form.{rowSize, first, rowsPlace}
+use Rattle.peer_state.specs.Entry.{level, window, ban}
+use Rattle.peer_rows.specs.Rows.{keyWidth, rowWidth, entryWords, rowFrom}
+use Rattle.snapshot.specs.Form.{first, rowsPlace}
 use Rattle.snapshot.specs.Snapshot.{layoutRight}
 use Rattle.snapshot_reader.specs.declared.row.SnapshotRow.{SnapshotRow}
 use Rattle.snapshot_reader.specs.declared.row.RowStep.{RowStep}
@@ -29,13 +27,13 @@ done = 1
 
 -- the row whose bytes stand at a place: its key and its entry, unjudged
 abbrev pub givenAt : List ℕ → ℕ → SnapshotRow
-givenAt z at = record { key = record { bytes = part z at 33 }; entry = rowOf peerLayout (part z at rowSize) .entry }
+givenAt z at = record { key = record { bytes = part z at keyWidth }; entry = rowFrom z at .entry }
 
 -- a row of zeros
 abbrev pub noRow : SnapshotRow
 noRow =
     record {
-      key = record { bytes = zeros 33 };
+      key = record { bytes = zeros keyWidth };
       entry =
           record {
             messages = level 0 0;
@@ -53,7 +51,7 @@ ended mark at = record { row = noRow; mark = mark; at = at }
 
 -- the place is within the rows, a whole number of rows behind the first, or at their end
 abbrev pub rowPlace : List ℕ → ℕ → Bool
-rowPlace z at = leb (rowsPlace first) at && (leb at (length z) && eqb ((at - rowsPlace first) % rowSize) 0)
+rowPlace z at = leb (rowsPlace first) at && (leb at (length z) && eqb ((at - rowsPlace first) % rowWidth) 0)
 
 -- the layout is right, and the place is that of a row or the end
 unfoldable pub stands : List ℕ → ℕ → Bool
@@ -63,7 +61,7 @@ stands z at = layoutRight first z && rowPlace z at
 unfoldable pub stepAt : List ℕ → ℕ → RowStep
 stepAt z at =
     cond (stands z at)
-    (cond (eqb at (length z)) (ended done at) (record { row = givenAt z at; mark = given; at = at + rowSize }))
+    (cond (eqb at (length z)) (ended done at) (record { row = givenAt z at; mark = given; at = at + rowWidth }))
     (ended wrongLayout at)
 
 -- a reader that was advanced: the step at its place is handed out, and over the same bytes it is at the step's place

@@ -11,19 +11,18 @@ use lib.ListN.{getD, drop, take, length, drop-of-length-le}
 use Rattle.truths.specs.TruthLaws.{both-parts}
 use Rattle.lent_bytes.specs.LentBytes.{part, put}
 use Rattle.refusal.specs.Refusal.{wrongLayout}
-use Rattle.table.specs.Table.{Row}
+use Rattle.table.specs.Table.{Row, rowUnder}
 use Rattle.table.specs.Memory.{rowOf, rows}
 use Rattle.table.specs.MemoryLaws.{getD-rows, key-rowOf}
 use Rattle.peer_state.specs.declared.entry.PeerMessagePolicyEntry.{PeerMessagePolicyEntry}
-use Rattle.peer_rows.specs.Rows.{peerLayout}
+use Rattle.peer_rows.specs.Rows.{rowWidth, peerLayout, rowFrom}
 use Rattle.peer_rows.specs.RowsLaws.{peer-faithful}
-use Rattle.peer_rows.specs.Private.{peerRow}
 use Rattle.snapshot_layout.specs.Layout.{placeFrom, placeOf}
 use Rattle.snapshot_settings.specs.declared.settings.ReadSettings.{ReadSettings}
 use Rattle.snapshot_settings.specs.declared.settings.ReadSettings.the-variants as ReadSettings
 use Rattle.snapshot.specs.declared.answer.PartPlace.{PartPlace}
 use Rattle.snapshot.specs.declared.answer.PartPlace.the-variants as PartPlace
-use Rattle.snapshot.specs.Form.{rowSize, first, rowsPlace, rowsIn}
+use Rattle.snapshot.specs.Form.{first, rowsPlace, rowsIn}
 use Rattle.snapshot.specs.Snapshot.{wasRead, settingsIn, layoutRight, kindPlace, partPlace}
 use Rattle.snapshot.specs.FormLaws.{first-fits}
 use Rattle.snapshot.specs.JudgeLaws.{read-length}
@@ -56,7 +55,7 @@ pub opens-wrong : (z : List ℕ) (n : ℕ) → partPlace first z 3 ≡ PartPlace
 unfolding partPlace
 opens-wrong z n h = place-unread z (settingsIn first z) n h
 
-right-length : (z : List ℕ) (x : ReadSettings) → settingsIn first z ≡ x → wasRead x ≡ true → length z ≡ rowsPlace first + rowSize * rowsIn first z
+right-length : (z : List ℕ) (x : ReadSettings) → settingsIn first z ≡ x → wasRead x ≡ true → length z ≡ rowsPlace first + rowWidth * rowsIn first z
 right-length z ReadSettings.OutOfRange s h = let no : _≡_ {A = ℕ} 0 1 = cc in absurd (omega arith)
 right-length z (ReadSettings.Read c) s h = omega (arith, read-length first z c s first-fits)
 
@@ -81,11 +80,11 @@ module _ (z : List ℕ) (at : ℕ) where
       pub stands-behind : length z < at → stands z at ≡ false
       stands-behind l = stands-place ∙ rw (le-leb (rowsPlace first) at f, lt-leb at (length z) l)
 
-      pub stands-whole : at ≤ length z → stands z at ≡ eqb ((at - rowsPlace first) % rowSize) 0
+      pub stands-whole : at ≤ length z → stands z at ≡ eqb ((at - rowsPlace first) % rowWidth) 0
       stands-whole l = stands-place ∙ rw (le-leb (rowsPlace first) at f, le-leb at (length z) l)
 
   -- a place that is not the end has a row behind it
-  pub row-fits : stands z at ≡ true → (at ≡ length z → ⊥) → at + rowSize ≤ length z
+  pub row-fits : stands z at ≡ true → (at ≡ length z → ⊥) → at + rowWidth ≤ length z
   unfolding stands
   row-fits h n =
       let right = both-parts (layoutRight first z) _ h in
@@ -93,8 +92,8 @@ module _ (z : List ℕ) (at : ℕ) where
       let high = both-parts (leb at (length z)) _ (low .1) in
       let l : rowsPlace first ≤ at = leb-true (rowsPlace first) at (low .0) in
       let u : at ≤ length z = leb-true at (length z) (high .0) in
-      let m : (at - rowsPlace first) % rowSize ≡ 0 = eqb-true ((at - rowsPlace first) % rowSize) 0 (high .1) in
-      let size : length z ≡ rowsPlace first + rowSize * rowsIn first z = right-length z (settingsIn first z) refl (right .0) in
+      let m : (at - rowsPlace first) % rowWidth ≡ 0 = eqb-true ((at - rowsPlace first) % rowWidth) 0 (high .1) in
+      let size : length z ≡ rowsPlace first + rowWidth * rowsIn first z = right-length z (settingsIn first z) refl (right .0) in
       omega arith
 
   -- ════ The step ════
@@ -107,7 +106,7 @@ module _ (z : List ℕ) (at : ℕ) where
   unfolding stepAt
   step-done h e = rw (h, eq-eqb at (length z) e)
 
-  pub step-given : stands z at ≡ true → (at ≡ length z → ⊥) → stepAt z at ≡ record { row = givenAt z at; mark = given; at = at + rowSize }
+  pub step-given : stands z at ≡ true → (at ≡ length z → ⊥) → stepAt z at ≡ record { row = givenAt z at; mark = given; at = at + rowWidth }
   unfolding stepAt
   step-given h e = rw (h, ne-eqb at (length z) e)
 
@@ -115,16 +114,16 @@ module _ (z : List ℕ) (at : ℕ) where
 
 -- the place of the k-th row
 abbrev pub placeOfRow : ℕ → ℕ
-placeOfRow k = rowsPlace first + rowSize * k
+placeOfRow k = rowsPlace first + rowWidth * k
 
 module _ (z : List ℕ) (h : layoutRight first z ≡ true) (k : ℕ) where
-  size-here : length z ≡ rowsPlace first + rowSize * rowsIn first z
+  size-here : length z ≡ rowsPlace first + rowWidth * rowsIn first z
   size-here = right-length z (settingsIn first z) refl h
 
   -- each row up to the last, and the end, are places of the walk
   place-here : k ≤ rowsIn first z → stands z (placeOfRow k) ≡ true
   place-here l =
-      stands-whole z (placeOfRow k) h (omega arith) (omega (arith, size-here)) ∙ eq-eqb ((placeOfRow k - rowsPlace first) % rowSize) 0 (omega arith)
+      stands-whole z (placeOfRow k) h (omega arith) (omega (arith, size-here)) ∙ eq-eqb ((placeOfRow k - rowsPlace first) % rowWidth) 0 (omega arith)
 
   -- the walk gives each row once: the k-th, and then goes on to the one behind it
   pub walk-row : k < rowsIn first z → stepAt z (placeOfRow k) ≡ record { row = givenAt z (placeOfRow k); mark = given; at = placeOfRow (k + 1) }
@@ -139,9 +138,9 @@ walk-done z h =
 
 -- what the walk gives at the place of the k-th row is the k-th of the rows that a policy reads there
 pub walk-gives : (z : List ℕ) (n k : ℕ) (d : Row PeerMessagePolicyEntry) → k < n
-    → getD (rows peerLayout (drop (rowsPlace first) z) n) k d ≡ peerRow (givenAt z (placeOfRow k) .key .bytes) (givenAt z (placeOfRow k) .entry)
+    → getD (rows peerLayout (drop (rowsPlace first) z) n) k d ≡ rowUnder (givenAt z (placeOfRow k) .key .bytes) (givenAt z (placeOfRow k) .entry)
 unfolding part
 walk-gives z n k d h =
     getD-rows peerLayout (drop (rowsPlace first) z) n k d h
-    ∙ ap (λ (w : List ℕ). rowOf peerLayout (take rowSize w)) (drop-drop (rowSize * k) (rowsPlace first) z)
-    ∙ ap (λ (x : List ℕ). peerRow x (rowOf peerLayout (part z (placeOfRow k) rowSize) .entry)) (key-rowOf peer-faithful z (placeOfRow k))
+    ∙ ap (λ (w : List ℕ). rowOf peerLayout (take rowWidth w)) (drop-drop (rowWidth * k) (rowsPlace first) z)
+    ∙ ap (λ (x : List ℕ). rowUnder x (rowFrom z (placeOfRow k) .entry)) (key-rowOf peer-faithful z (placeOfRow k))

@@ -3,9 +3,12 @@ ghost use mathlib.Core.Path.{_≡_};
 ghost use Prim.Native.Nat.{_+_, _≤_};
 ghost use lib.ListN.{length};
 ghost use Rattle.lent_bytes.specs.LentBytes.{part};
+ghost use Rattle.peer_rows.specs.Rows.{keyWidth, rowWidth};
 ghost use Rattle.snapshot.specs.Form.{first};
 ghost use Rattle.snapshot.specs.Snapshot.{layoutRight};
 ghost use Rattle.snapshot_reader.specs.Reader.{givenAt, noRow, ended, stands, stepAt};
+use peer_rows::row::KEY_WIDTH;
+use peer_rows::row::ROW_WIDTH;
 use peer_state::entry::Ban;
 use peer_state::entry::Level;
 use peer_state::entry::PeerMessagePolicyEntry;
@@ -31,12 +34,8 @@ pub const GIVEN: u32 = 0;
 
 pub const DONE: u32 = 1;
 
-// Where the first row stands, and the bytes of a row.
+// Where the first row stands.
 pub const FIRST_ROW: usize = 120;
-
-const ROW_SIZE: usize = 121;
-
-const KEY_SIZE: usize = 33;
 
 const ROWS_KIND: u16 = 3;
 
@@ -64,23 +63,23 @@ fn place_stands(snapshot: &[u8], at: usize) -> bool
     if snapshot.len() < at {
         return false;
     }
-    (at - FIRST_ROW) % ROW_SIZE == 0
+    (at - FIRST_ROW) % ROW_WIDTH == 0
 }
 
 // The key that stands at the place.
 fn key_at(snapshot: &[u8], at: usize) -> Pubkey
-    requires { ⌜ at + 33 ≤ length (now snapshot) ⌝ }
-    ensures { λ r. ⌜ r .bytes ≡ part (now (snapshot .entry)) at 33 ⌝ }
+    requires { ⌜ at + keyWidth ≤ length (now snapshot) ⌝ }
+    ensures { λ r. ⌜ r .bytes ≡ part (now (snapshot .entry)) at keyWidth ⌝ }
 {
-    let end = at + KEY_SIZE;
-    let mut bytes: [u8; KEY_SIZE] = [0; KEY_SIZE];
+    let end = at + KEY_WIDTH;
+    let mut bytes: [u8; KEY_WIDTH] = [0; KEY_WIDTH];
     lent_bytes::run::put_slice(&mut bytes, 0, &snapshot[at..end]);
     Pubkey { bytes }
 }
 
 // The row that stands at the place.
 fn given_at(snapshot: &[u8], at: usize) -> SnapshotRow
-    requires { ⌜ at + 121 ≤ length (now snapshot) ⌝ }
+    requires { ⌜ at + rowWidth ≤ length (now snapshot) ⌝ }
     ensures { λ r. ⌜ r ≡ givenAt (now (snapshot .entry)) at ⌝ }
 {
     let key = key_at(snapshot, at);
@@ -102,7 +101,7 @@ fn no_row() -> SnapshotRow
     };
     SnapshotRow {
         key: Pubkey {
-            bytes: [0; KEY_SIZE],
+            bytes: [0; KEY_WIDTH],
         },
         entry: PeerMessagePolicyEntry {
             messages: level,
@@ -137,7 +136,7 @@ pub fn row_at(snapshot: &[u8], at: usize) -> RowStep
         return step_without(DONE, at);
     }
     let row = given_at(snapshot, at);
-    let next = at + ROW_SIZE;
+    let next = at + ROW_WIDTH;
     RowStep {
         row,
         mark: GIVEN,

@@ -12,16 +12,16 @@ use lib.ListN.{length, drop}
 use Rattle.truths.specs.TruthLaws.{true-is-not-false}
 use Rattle.lent_bytes.specs.LentBytes.{part}
 use Rattle.refusal.specs.Refusal.{wrongLayout}
-use Rattle.table.specs.Memory.{rowOf, rows}
+use Rattle.table.specs.Memory.{rows}
 use Rattle.table.specs.MemoryLaws.{key-rowOf}
 use Rattle.peer_settings.specs.Config.{limit}
-use Rattle.peer_rows.specs.Rows.{peerLayout}
+use Rattle.peer_rows.specs.Rows.{keyWidth, rowWidth, peerLayout, rowFrom}
 use Rattle.peer_rows.specs.RowsLaws.{peer-faithful}
 use Rattle.peer_message_policy.specs.declared.policy.PeerMessagePolicy.{PeerMessagePolicy}
 use Rattle.peer_message_policy.specs.declared.answer.Made.{Made}
 use Rattle.peer_message_policy.specs.declared.answer.Made.the-variants as Made
 use Rattle.peer_message_policy.specs.Policy.{rowsOf}
-use Rattle.snapshot.specs.Form.{rowSize, first, rowsPlace, rowsIn}
+use Rattle.snapshot.specs.Form.{first, rowsPlace, rowsIn}
 use Rattle.snapshot.specs.Snapshot.{wasRead, layoutRight, policyIn, restored, readOutcome, ReadMeets}
 use Rattle.snapshot.specs.JudgeLaws.{Describes, policy-describes}
 use Rattle.snapshot_reader.specs.Reader.{stepAt}
@@ -128,11 +128,11 @@ module _ (z : List ℕ) where
       rows-shown (suc m) k e =
           let at : ℕ = placeOfRow k in
           let step = walk-row z right k (omega arith) in
-          let next : at + rowSize ≡ placeOfRow (k + 1) = omega arith in
-          let behind : drop rowSize (drop at z) ≡ drop (placeOfRow (k + 1)) z = drop-drop rowSize at z ∙ ap (λ (n : ℕ). drop n z) next in
-          let key : rowOf peerLayout (part z at rowSize) .key ≡ part z at 33 = key-rowOf peer-faithful z at in
+          let next : at + rowWidth ≡ placeOfRow (k + 1) = omega arith in
+          let behind : drop rowWidth (drop at z) ≡ drop (placeOfRow (k + 1)) z = drop-drop rowWidth at z ∙ ap (λ (n : ℕ). drop n z) next in
+          let key : rowFrom z at .key ≡ part z at keyWidth = key-rowOf peer-faithful z at in
           subst (λ (l : List (List ℕ)). HandsOut z (atRow k) l)
-          (λ i. rowText (sym key i) (rowOf peerLayout (part z at rowSize) .entry) ∷ map rowLine (rows peerLayout (sym behind i) m))
+          (λ i. rowText (sym key i) (rowFrom z at .entry) ∷ map rowLine (rows peerLayout (sym behind i) m))
           (hands-next (ap (rowHanded (atRow k)) step) (rows-shown m (k + 1) (omega arith)))
 
       -- the head, where there are rows
@@ -168,8 +168,8 @@ module _ (z before : List ℕ) (long : 123904 ≤ length before) where
   read-judged : (m : Made) → policyIn first z ≡ m → restored first z before m .answer ≡ m
   read-judged (Made.Policy p) e =
       let d : Describes first z p = policy-describes first z p e in
-      let room : 121 * limit (p .config) ≤ length before = omega (arith, d .tracked) in
-      rw (le-leb (121 * limit (p .config)) (length before) room)
+      let room : rowWidth * limit (p .config) ≤ length before = omega (arith, d .tracked) in
+      rw (le-leb (rowWidth * limit (p .config)) (length before) room)
   read-judged (Made.Refused n) e = refl
 
   opened-made : (r : Scan) (after : List ℕ) → OpenMeets z before r after → r ≡ begun (madeOf z)

@@ -1,6 +1,7 @@
 -- `peer_rows::row::entry_at` meets its contract: the numbers that were read are the entry's (`entry-places`). Assumes nothing.
 use mathlib.Core.Path.{sym}
 use Prim.Native.Nat.{_*_}
+use Rattle.peer_rows.specs.Rows.{rowWidth}
 use Rattle.peer_rows.specs.RowsLaws.{entry-places}
 use borrow.Author.Needs.{needs}
 use Rattle.peer_rows.proofs.row.entry_at.Statement.{statement}
@@ -54,7 +55,7 @@ returns c = let a = c .before .before .before .before .before .before .before .a
       c .before .before .window-at2 .ensures,
       c .before .ban-at .ensures,
       c .get-u64 .ensures,
-    ) (sym (entry-places (a .table .now) (121 * a .index)))
+    ) (sym (entry-places (a .table .now) (rowWidth * a .index)))
 
 pub entry-at-spec : {M : Type 1} → statement M
 entry-at-spec =

@@ -3,8 +3,7 @@ use mathlib.Core.Path.{_≡_, ap, _∙_}
 use mathlib.Core.List.{List}
 use Prim.Native.Nat.{ℕ}
 use Rattle.lent_bytes.specs.LentBytes.{part}
-use Rattle.table.specs.Memory.{rowOf}
-use Rattle.peer_rows.specs.Rows.{peerLayout}
+use Rattle.peer_rows.specs.Rows.{rowFrom}
 use Rattle.snapshot.specs.JudgeLaws.{whole-tail}
 use borrow.Author.Needs.{needs}
 use Rattle.snapshot_reader.proofs.row.given_at.Statement.{statement}
@@ -28,8 +27,8 @@ entry-at-requires c κs = search needs
 returns : tie.Need-returns
 unfolding part
 returns c = let a = c .before .before .before .before .args in
-    let entry : c .entry-at .result ≡ rowOf peerLayout (part (a .snapshot .now) (a .at) 121) .entry =
-    c .entry-at .ensures ∙ ap (λ (w : List ℕ). rowOf peerLayout (part w 0 121) .entry) (whole-tail (a .at) (a .snapshot .now)) in
+    let entry : c .entry-at .result ≡ rowFrom (a .snapshot .now) (a .at) .entry =
+    c .entry-at .ensures ∙ ap (λ (w : List ℕ). rowFrom w 0 .entry) (whole-tail (a .at) (a .snapshot .now)) in
     (λ d. record { key = record { bytes = c .before .before .key-at .ensures d }; entry = entry d })
 
 pub given-at-spec : {M : Type 1} → statement M
