@@ -5,7 +5,7 @@ use mathlib.Core.Option.{Option, none, some}
 use Prim.Native.Nat.{ℕ, zero, suc, _+_, _*_, _^_}
 use lib.Dec.{ltb}
 use lib.ListN.{length}
-use Rattle.table.specs.Table.{Row, Best, nothing, best, leastFrom, look, erase, retain, removeAt}
+use Rattle.table.specs.Table.{Row, Best, nothing, best, minimumFrom, look, erase, retain, removeAt}
 use Rattle.gossip_ban_rows.specs.declared.entry.GossipBanEntry.{GossipBanEntry}
 use Rattle.gossip_ban_rows.specs.Entry.{isExpired, isCurrentlyBanned}
 use Rattle.gossip_ban_rows.specs.Rows.{Bans}
@@ -41,7 +41,7 @@ evictFound (best j n) rs = removeAt j rs
 
 -- the least goes, that of the smaller key where two are equal
 unfoldable pub evict : ℕ → Bans → Bans
-evict now rs = evictFound (leastFrom (evictionRank now) nothing 0 rs) rs
+evict now rs = evictFound (minimumFrom (evictionRank now) nothing 0 rs) rs
 
 abbrev pub isSome : Option GossipBanEntry → Bool
 isSome none = false

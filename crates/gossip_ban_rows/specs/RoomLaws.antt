@@ -10,10 +10,10 @@ use borrow.Author.Tests.{ltb-true, ltb-false, lt-ltb, le-ltb}
 use lib.Dec.{ltb}
 use lib.ListN.{length}
 use Rattle.truths.specs.TruthLaws.{by-test, or-else}
-use Rattle.table.specs.Table.{nothing, best, leastFrom, ascending, look, erase, removeAt}
+use Rattle.table.specs.Table.{nothing, best, minimumFrom, ascending, look, erase, removeAt}
 use Rattle.table.specs.TableLaws.{Sub, sub-all, sub-length, sub-erase, sub-retain, sub-removeAt, sub-trans}
 use Rattle.table.specs.LookLaws.{some-is-not-none, sub-look-none}
-use Rattle.table.specs.LeastLaws.{least-found, least-nothing}
+use Rattle.table.specs.MinimumLaws.{least-found, least-nothing}
 use Rattle.table.specs.PlaceLaws.{length-removeAt}
 use Rattle.table_laws.specs.RoomLaws.{by-best}
 use Rattle.gossip_ban_rows.specs.declared.entry.GossipBanEntry.{GossipBanEntry}
@@ -56,7 +56,7 @@ sub-prune duration now rs = sub-retain (unexpired duration now) rs
 -- ════ The row evicted ════
 
 -- the row found goes
-pub evict-found : (now : ℕ) (rs : Bans) {j n : ℕ} → leastFrom (evictionRank now) nothing 0 rs ≡ best j n → evict now rs ≡ removeAt j rs
+pub evict-found : (now : ℕ) (rs : Bans) {j n : ℕ} → minimumFrom (evictionRank now) nothing 0 rs ≡ best j n → evict now rs ≡ removeAt j rs
 unfolding evict
 evict-found now rs h = rw h
 
@@ -64,7 +64,7 @@ evict-found now rs h = rw h
 pub length-evict : (now : ℕ) (rs : Bans) → 0 < length rs → length (evict now rs) + 1 ≡ length rs
 length-evict now [] h = absurd (omega arith)
 length-evict now (r ∷ rs) h =
-    by-best (leastFrom (evictionRank now) nothing 0 (r ∷ rs))
+    by-best (minimumFrom (evictionRank now) nothing 0 (r ∷ rs))
     (λ e. absurd (some-is-not-none refl (least-nothing (evictionRank now) (r ∷ rs) r e 0 h)))
     (λ j n e. rw (evict-found now (r ∷ rs) e) (length-removeAt j (r ∷ rs) (least-found (evictionRank now) (r ∷ rs) r e .inside)))
 
@@ -72,7 +72,7 @@ length-evict now (r ∷ rs) h =
 pub sub-evict : (now : ℕ) (rs : Bans) → Sub (evict now rs) rs
 unfolding evict
 sub-evict now rs =
-    by-best (leastFrom (evictionRank now) nothing 0 rs) (λ h. rw h (sub-all rs)) (λ j n h. rw h (sub-removeAt j rs))
+    by-best (minimumFrom (evictionRank now) nothing 0 rs) (λ h. rw h (sub-all rs)) (λ j n h. rw h (sub-removeAt j rs))
 
 -- ════ Making room ════
 

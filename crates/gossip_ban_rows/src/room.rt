@@ -3,7 +3,7 @@ ghost use mathlib.Core.Path.{_≡_};
 ghost use Prim.Native.Nat.{_+_, _*_, _<_, _≤_};
 ghost use lib.Dec.{ltb};
 ghost use lib.ListN.{length};
-ghost use Rattle.table.specs.Table.{nothing, best, leastFrom};
+ghost use Rattle.table.specs.Table.{nothing, best, minimumFrom};
 ghost use Rattle.table.specs.Memory.{rows};
 ghost use Rattle.table_laws.specs.Private.{Counted, Gathered, PlainStep};
 ghost use Rattle.gossip_ban_rows.specs.Rows.{rowWidth, banLayout};
@@ -101,7 +101,7 @@ fn earlier(table: &[u8], index: usize, found: usize, now_ms: u64) -> usize
 fn first_to_go(table: &[u8], count: usize, now_ms: u64) -> usize
     requires { ⌜ 0 < count ⌝ }
     requires { ⌜ rowWidth * count ≤ length (now table) ⌝ }
-    ensures { λ r. ⌜ leastFrom (evictionRank «now_ms») nothing 0 (rows banLayout (now (table .entry)) count) ≡ best r (rankAt «now_ms» (now (table .entry)) r) ⌝ }
+    ensures { λ r. ⌜ minimumFrom (evictionRank «now_ms») nothing 0 (rows banLayout (now (table .entry)) count) ≡ best r (rankAt «now_ms» (now (table .entry)) r) ⌝ }
 {
     let mut found: usize = 0;
     let mut i: usize = 1;

@@ -9,7 +9,7 @@ use Rattle.pubkey.specs.declared.Pubkey.{Pubkey}
 use Rattle.refusal.specs.Refusal.{Said, gives, refused, tooShort, limitTooLarge, unsound}
 use Rattle.bucket_terms.specs.declared.answer.Told.the-variants as Told
 use Rattle.bucket_terms.specs.Answers.{told, toldSays}
-use Rattle.table.specs.Outcome.{Change, same, become, rowsAfter, Outcome, Meets}
+use Rattle.table.specs.Outcome.{Change, same, become, countAfter, Outcome, Meets}
 use Rattle.table_laws.specs.Lent.{longEnough}
 use Rattle.gossip_settings.specs.declared.ban.GossipBanConfig.{GossipBanConfig}
 use Rattle.gossip_settings.specs.declared.violation.GossipViolation.{GossipViolation}
@@ -61,7 +61,7 @@ trackerWith t n = record { config = t .config; «max_entries» = t .«max_entrie
 
 -- the tracker after a change of the rows
 abbrev pub trackerAfter : GossipBanTracker → Change GossipBanEntry → GossipBanTracker
-trackerAfter t change = trackerWith t (rowsAfter (t .rows) change)
+trackerAfter t change = trackerWith t (countAfter (t .rows) change)
 
 -- a call that was carried out: its answer beside the tracker after it
 abbrev pub carried : {R P : Type 0} → (GossipBanTracker → R → P) → GossipBanTracker → Outcome GossipBanEntry R → Outcome GossipBanEntry P

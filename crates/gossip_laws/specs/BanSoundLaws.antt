@@ -16,7 +16,7 @@ use Rattle.table.specs.Table.{every, ascending, look}
 use Rattle.table.specs.LookLaws.{look-rule, sub-look-none}
 use Rattle.table.specs.PlaceLaws.{length-store-some, length-store-none}
 use Rattle.table.specs.Memory.{rows}
-use Rattle.table.specs.Outcome.{Change, become, rowsAfter, Memory, Outcome, Meets}
+use Rattle.table.specs.Outcome.{Change, become, countAfter, Memory, Outcome, Meets}
 use Rattle.table_laws.specs.Lent.{longEnough}
 use Rattle.table_laws.specs.LentLaws.{own-sound}
 use Rattle.table_laws.specs.WordsLaws.{OfNumbers, of-numbers, length-encode, encode-bytes}
@@ -107,7 +107,7 @@ module _ (t : GossipBanTracker) (s : List ℕ) (h : sound t s ≡ true) (b : Byt
       change-kept ban-encodes banSound (limitOf (t .«max_entries»)) s u (t .rows) change held b rs m in
       record {
         stays-sound =
-            holds-lent banLayout banSound (limitOf (t .«max_entries»)) u (rowsAfter (t .rows) change)
+            holds-lent banLayout banSound (limitOf (t .«max_entries»)) u (countAfter (t .rows) change)
             (within-sound (trackerAfter t change) (limit-within t own) (kept .holds .few)) (kept .holds);
         same-length = kept .same-length;
         holds-bytes = kept .holds-bytes;

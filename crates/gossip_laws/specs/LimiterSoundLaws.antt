@@ -21,7 +21,7 @@ use Rattle.table.specs.Memory.{rows}
 use Rattle.table.specs.TableLaws.{sub-retain}
 use Rattle.table.specs.LookLaws.{look-rule}
 use Rattle.table.specs.PlaceLaws.{length-store-some}
-use Rattle.table.specs.Outcome.{Change, become, rowsAfter, Memory, Outcome, Meets}
+use Rattle.table.specs.Outcome.{Change, become, countAfter, Memory, Outcome, Meets}
 use Rattle.table_laws.specs.Raw.{mapEntries}
 use Rattle.table_laws.specs.ChangeLaws.{length-store-most}
 use Rattle.table_laws.specs.Lent.{longEnough}
@@ -162,7 +162,7 @@ module _ (l : ChannelUpdateLimiter) (s : List ℕ) (h : sound l s ≡ true) (b :
       change-kept limiter-encodes (limiterSound (l .config)) (limitOf (l .«max_entries»)) s u (l .rows) change held b rs m in
       record {
         stays-sound =
-            holds-lent limiterLayout (limiterSound (l .config)) (limitOf (l .«max_entries»)) u (rowsAfter (l .rows) change)
+            holds-lent limiterLayout (limiterSound (l .config)) (limitOf (l .«max_entries»)) u (countAfter (l .rows) change)
             (within-sound (limiterAfter l change) (limit-within l own) (kept .holds .few)) (kept .holds);
         same-length = kept .same-length;
         holds-bytes = kept .holds-bytes;

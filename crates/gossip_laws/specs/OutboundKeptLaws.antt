@@ -13,7 +13,7 @@ use Rattle.pubkey.specs.declared.Pubkey.{Pubkey}
 use Rattle.refusal.specs.Refusal.{noRow}
 use Rattle.table.specs.Table.{every, ascending, look, store, erase}
 use Rattle.table.specs.Memory.{rows}
-use Rattle.table.specs.Outcome.{Change, same, become, Memory, rowsAfter, Meets}
+use Rattle.table.specs.Outcome.{Change, same, become, Memory, countAfter, Meets}
 use Rattle.table.specs.TableLaws.{sub-erase}
 use Rattle.table.specs.LookLaws.{look-rule}
 use Rattle.table.specs.PlaceLaws.{length-store-some, length-store-none}
@@ -74,16 +74,16 @@ module _ (o : Outbound) (s : List ℕ) (k : Pubkey) (h : sound o s ≡ true) (gi
   holding = rows-hold outboundLayout (outboundSound (o .«peer_outbound_config»)) 1024 s (o .rows) (omega arith) held (given .memory)
 
   -- rows that hold, beside what an operation leaves of the global bucket
-  changed : (q : Outbound) (t : List ℕ) (g : ByteTokenBucket) (change : Change OutboundEntry) → q ≡ outboundWith o g (rowsAfter (o .rows) change)
+  changed : (q : Outbound) (t : List ℕ) (g : ByteTokenBucket) (change : Change OutboundEntry) → q ≡ outboundWith o g (countAfter (o .rows) change)
       → Left (o .«global_outbound») g → ChangeHolds outboundLayout (outboundSound (o .«peer_outbound_config»)) 1024 change
       → Memory outboundLayout s t (o .rows) change → Kept o s q t
   changed q t g change e left holds m =
-      let after : Outbound = outboundWith o g (rowsAfter (o .rows) change) in
+      let after : Outbound = outboundWith o g (countAfter (o .rows) change) in
       let k = change-kept outbound-encodes (outboundSound (o .«peer_outbound_config»)) 1024 s t (o .rows) change held (given .memory) holds m in
       let safe : Kept o s after t =
       record {
         stays-sound =
-            holds-lent outboundLayout (outboundSound (o .«peer_outbound_config»)) 1024 t (rowsAfter (o .rows) change)
+            holds-lent outboundLayout (outboundSound (o .«peer_outbound_config»)) 1024 t (countAfter (o .rows) change)
             (within-own after (k .holds .few) (left-sound (own-global o own) left)) (k .holds);
         same-length = k .same-length;
         holds-bytes = k .holds-bytes;
@@ -165,7 +165,7 @@ module _ (o : Outbound) (s : List ℕ) (k : Pubkey) (h : sound o s ≡ true) (gi
             → Meets outboundLayout r s t (o .rows)
             (cond y
             (cond f (refuse (outboundTold o (Told.Refused noRow)))
-            (turn (outboundTold (outboundWith o (both .global) (rowsAfter (o .rows) (become (kept (k .bytes) (both .peer) (rowsOf o s))))) Told.Yes)
+            (turn (outboundTold (outboundWith o (both .global) (countAfter (o .rows) (become (kept (k .bytes) (both .peer) (rowsOf o s))))) Told.Yes)
             (become (kept (k .bytes) (both .peer) (rowsOf o s)))))
             (refuse (outboundTold o Told.No)))
             → Kept o s (r .outbound) t
@@ -201,7 +201,7 @@ module _ (o : Outbound) (s : List ℕ) (k : Pubkey) (h : sound o s ≡ true) (gi
         by : (f : Bool) → full (o .rows) (look (k .bytes) (rowsOf o s)) ≡ f
             → Meets outboundLayout r s t (o .rows)
             (cond f (refuse (outboundReserved o (Delay.Refused noRow)))
-            (turn (outboundReserved (outboundWith o g (rowsAfter (o .rows) (become (kept (k .bytes) p (rowsOf o s))))) (Delay.Wait (promiseBoth (o .«global_outbound») peer bytes now .«delay_ms»)))
+            (turn (outboundReserved (outboundWith o g (countAfter (o .rows) (become (kept (k .bytes) p (rowsOf o s))))) (Delay.Wait (promiseBoth (o .«global_outbound») peer bytes now .«delay_ms»)))
             (become (kept (k .bytes) p (rowsOf o s)))))
             → Kept o s (r .outbound) t
         by true e met = unchanged (r .outbound) t (ap (λ (x : OutboundReserved). x .outbound) (met .answers)) (met .leaves)
@@ -230,7 +230,7 @@ module _ (o : Outbound) (s : List ℕ) (k : Pubkey) (h : sound o s ≡ true) (gi
             → Meets outboundLayout r s t (o .rows)
             (cond off (refuse (outboundSettled (outboundWith o g (o .rows)) Settled.Done))
             (cond f (refuse (outboundSettled o (Settled.Refused noRow)))
-            (turn (outboundSettled (outboundWith o g (rowsAfter (o .rows) (become (kept (k .bytes) p (rowsOf o s))))) Settled.Done)
+            (turn (outboundSettled (outboundWith o g (countAfter (o .rows) (become (kept (k .bytes) p (rowsOf o s))))) Settled.Done)
             (become (kept (k .bytes) p (rowsOf o s))))))
             → Kept o s (r .outbound) t
         by true f e met = changed (r .outbound) t g same (ap (λ (x : OutboundSettled). x .outbound) (met .answers)) left tt (met .leaves)

@@ -11,7 +11,7 @@ use Rattle.refusal.specs.Refusal.{Said, gives, refused, tooShort, limitTooLarge
 use Rattle.bucket_terms.specs.declared.answer.Told.{Told}
 use Rattle.bucket_terms.specs.declared.answer.Told.the-variants as Told
 use Rattle.bucket_terms.specs.Answers.{toldSays}
-use Rattle.table.specs.Outcome.{Change, same, become, rowsAfter, Outcome, Meets}
+use Rattle.table.specs.Outcome.{Change, same, become, countAfter, Outcome, Meets}
 use Rattle.table_laws.specs.Lent.{longEnough}
 use Rattle.gossip_settings.specs.declared.channel_update.ChannelUpdateRateLimitConfig.{ChannelUpdateRateLimitConfig}
 use Rattle.gossip_settings.specs.Settings.{maxTrackedKeys}
@@ -47,7 +47,7 @@ limiterWith l n = record { config = l .config; «max_entries» = l .«max_entrie
 
 -- the limiter after a change of the rows
 abbrev pub limiterAfter : ChannelUpdateLimiter → Change ChannelUpdateLimiterEntry → ChannelUpdateLimiter
-limiterAfter l change = limiterWith l (rowsAfter (l .rows) change)
+limiterAfter l change = limiterWith l (countAfter (l .rows) change)
 
 -- yes or no, beside the limiter
 abbrev pub limiterTold : ChannelUpdateLimiter → Told → LimiterTold

@@ -4,7 +4,7 @@ use mathlib.Core.List.{List}
 use Prim.Native.Nat.{ℕ, max}
 use Rattle.table.specs.Table.{look, store, erase}
 use Rattle.table.specs.Memory.{rows}
-use Rattle.table.specs.Outcome.{Change, same, become, rowsAfter, Outcome}
+use Rattle.table.specs.Outcome.{Change, same, become, countAfter, Outcome}
 use Rattle.refusal.specs.Refusal.{noRow}
 use Rattle.bucket_terms.specs.declared.answer.Delay.{Delay}
 use Rattle.bucket_terms.specs.declared.answer.Delay.the-variants as Delay
@@ -59,7 +59,7 @@ abbrev pub allowed : Outbound → List ℕ → Buckets → Charged → Outcome O
 allowed o k rs both =
     cond (both .yes)
     (cond (full (o .rows) (look k rs)) (refuse (outboundTold o (Told.Refused noRow)))
-    (turn (outboundTold (outboundWith o (both .global) (rowsAfter (o .rows) (become (kept k (both .peer) rs)))) Told.Yes) (become (kept k (both .peer) rs))))
+    (turn (outboundTold (outboundWith o (both .global) (countAfter (o .rows) (become (kept k (both .peer) rs)))) Told.Yes) (become (kept k (both .peer) rs))))
     (refuse (outboundTold o Told.No))
 
 -- allow_outbound_message: the row is made also where the peers' limit is off
@@ -71,7 +71,7 @@ allow o k bytes now rs =
 abbrev pub reserved : Outbound → List ℕ → Buckets → Promised → Outcome OutboundEntry OutboundReserved
 reserved o k rs both =
     cond (full (o .rows) (look k rs)) (refuse (outboundReserved o (Delay.Refused noRow)))
-    (turn (outboundReserved (outboundWith o (both .global) (rowsAfter (o .rows) (become (kept k (both .peer) rs)))) (Delay.Wait (both .«delay_ms»))) (become (kept k (both .peer) rs)))
+    (turn (outboundReserved (outboundWith o (both .global) (countAfter (o .rows) (become (kept k (both .peer) rs)))) (Delay.Wait (both .«delay_ms»))) (become (kept k (both .peer) rs)))
 
 -- reserve_outbound_message
 abbrev pub reserve : Outbound → List ℕ → ℕ → ℕ → Buckets → Outcome OutboundEntry OutboundReserved
@@ -83,7 +83,7 @@ abbrev pub refunded : Outbound → List ℕ → Buckets → ByteTokenBucket → 
 refunded o k rs g p =
     cond (byteDisabled (o .«peer_outbound_config»)) (refuse (outboundSettled (outboundWith o g (o .rows)) Settled.Done))
     (cond (full (o .rows) (look k rs)) (refuse (outboundSettled o (Settled.Refused noRow)))
-    (turn (outboundSettled (outboundWith o g (rowsAfter (o .rows) (become (kept k p rs)))) Settled.Done) (become (kept k p rs))))
+    (turn (outboundSettled (outboundWith o g (countAfter (o .rows) (become (kept k p rs)))) Settled.Done) (become (kept k p rs))))
 
 -- refund_outbound_message: where the peers' limit is off, no row is looked at or made
 abbrev pub refund : Outbound → List ℕ → ℕ → ℕ → Buckets → Outcome OutboundEntry OutboundSettled
@@ -94,7 +94,7 @@ refund o k bytes now rs =
 -- remove_outbound_peer
 abbrev pub removed : Outbound → List ℕ → Buckets → Outcome OutboundEntry OutboundSettled
 removed o k rs =
-    turn (outboundSettled (outboundWith o (o .«global_outbound») (rowsAfter (o .rows) (become (erase k rs)))) Settled.Done) (become (erase k rs))
+    turn (outboundSettled (outboundWith o (o .«global_outbound») (countAfter (o .rows) (become (erase k rs)))) Settled.Done) (become (erase k rs))
 
 -- estimate_outbound_message_delay: the longer of two delays, each of which is cut to 64 bits already
 abbrev pub estimate : Outbound → List ℕ → ℕ → ℕ → Buckets → ℕ

@@ -9,7 +9,7 @@ use Rattle.pubkey.specs.declared.Pubkey.{Pubkey}
 use Rattle.refusal.specs.Refusal.{Said, gives, refused, tooShort, limitTooLarge, unsound, overflow}
 use Rattle.table.specs.Table.{look}
 use Rattle.table.specs.Outcome as lent
-pub use Rattle.table.specs.Outcome.{changedRows, rowsAfter}
+pub use Rattle.table.specs.Outcome.{changedRows, countAfter}
 use Rattle.peer_settings.specs.declared.config.PeerMessagePolicyConfig.{PeerMessagePolicyConfig}
 use Rattle.peer_state.specs.declared.entry.PeerMessagePolicyEntry.{PeerMessagePolicyEntry}
 use Rattle.peer_state.specs.declared.ingress.FiberIngressBudget.{FiberIngressBudget}
@@ -99,7 +99,7 @@ policyWith p i n = record { config = p .config; ingress = i; rows = n }
 
 -- the policy with this load in flight, after a change of its rows
 abbrev pub policyAfter : PeerMessagePolicy → FiberIngressBudget → Change → PeerMessagePolicy
-policyAfter p i change = policyWith p i (rowsAfter (p .rows) change)
+policyAfter p i change = policyWith p i (countAfter (p .rows) change)
 
 -- lent memory that held n rows, after a change: every byte of it
 abbrev pub Memory : List ℕ → List ℕ → ℕ → Change → Type 0

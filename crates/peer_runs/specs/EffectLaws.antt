@@ -21,7 +21,7 @@ use Rattle.peer_laws.specs.CallLaws.{
   held-time-answer,
 }
 use Rattle.peer_runs.specs.Runs.{Call, admit, recordInvalid, isBanned, onDisconnected, releaseIngress, inFlight, heldTime, State, rowsIn}
-use Rattle.peer_runs.specs.Runs.{afterAdmit, afterInvalid, afterStanding, afterChanged, Step, KeyFits, Fits}
+use Rattle.peer_runs.specs.Runs.{afterAdmit, afterInvalid, afterStanding, afterChanged, Step, KeyFits, CallFits}
 use Rattle.peer_runs.specs.SoundRunLaws.{StateLeaves, StateHolds, admit-left, record-invalid-left, is-banned-left, on-disconnected-left, release-ingress-left, same-left}
 use Rattle.peer_runs.specs.Effects.{effectBy, effectOf, CameTo}
 
@@ -95,7 +95,7 @@ module _ (s : State) (is-sound : sound (s .policy) (s .memory) ≡ true) (holds-
       }
 
   -- every call comes to its effect
-  pub step-effect : (call : Call) → Fits call → Step s call said t → CameTo s (effectOf call (s .policy) (rowsIn s)) said t
+  pub step-effect : (call : Call) → CallFits call → Step s call said t → CameTo s (effectOf call (s .policy) (rowsIn s)) said t
   step-effect (admit k bytes now) fits step = admit-effect k (fits .0) bytes now step
   step-effect (recordInvalid k now) fits step = record-invalid-effect k (fits .0) now step
   step-effect (isBanned k now) fits step = is-banned-effect k (fits .0) now step

@@ -102,16 +102,16 @@ abbrev pub KeyFits : Pubkey → Type 0
 KeyFits k = (length (k .bytes) ≡ keyWidth) × Bytes (k .bytes)
 
 -- what the machine gives of any arguments: u64 numbers and keys of 33 bytes
-abbrev pub Fits : Call → Type 0
-Fits (admit k bytes now) = KeyFits k × (bytes < 2 ^ 64) × (now < 2 ^ 64)
-Fits (recordInvalid k now) = KeyFits k × (now < 2 ^ 64)
-Fits (isBanned k now) = KeyFits k × (now < 2 ^ 64)
-Fits (onDisconnected k now) = KeyFits k × (now < 2 ^ 64)
-Fits (releaseIngress bytes) = bytes < 2 ^ 64
-Fits inFlight = Unit {0}
-Fits (heldTime k given) = KeyFits k × (given < 2 ^ 64)
+abbrev pub CallFits : Call → Type 0
+CallFits (admit k bytes now) = KeyFits k × (bytes < 2 ^ 64) × (now < 2 ^ 64)
+CallFits (recordInvalid k now) = KeyFits k × (now < 2 ^ 64)
+CallFits (isBanned k now) = KeyFits k × (now < 2 ^ 64)
+CallFits (onDisconnected k now) = KeyFits k × (now < 2 ^ 64)
+CallFits (releaseIngress bytes) = bytes < 2 ^ 64
+CallFits inFlight = Unit {0}
+CallFits (heldTime k given) = KeyFits k × (given < 2 ^ 64)
 
 -- a run from a fresh policy with these settings, over calls (the newest first), to a state
 pub data Run (c : PeerMessagePolicyConfig) : List Call → State → Type 0 where
   made : (before after : List ℕ) (p : PeerMessagePolicy) → Bytes before → NewMeets c before (Made.Policy p) after → Run c [] (record { policy = p; memory = after })
-  then : {h : List Call} {s : State} (call : Call) (said : Said) (t : State) → Run c h s → Fits call → Step s call said t → Run c (call ∷ h) t
+  then : {h : List Call} {s : State} (call : Call) (said : Said) (t : State) → Run c h s → CallFits call → Step s call said t → Run c (call ∷ h) t

@@ -49,7 +49,7 @@ use Rattle.peer_runs.specs.Runs.{
   afterChanged,
   Step,
   KeyFits,
-  Fits,
+  CallFits,
   Run,
   made,
   then,
@@ -141,7 +141,7 @@ module _ {c : PeerMessagePolicyConfig} (s : State) (here : StateHolds c s) (said
         holds-bytes = left .kept .holds-bytes;
       }
 
-  pub step-holds : (call : Call) → Fits call → Step s call said t → StateHolds c t
+  pub step-holds : (call : Call) → CallFits call → Step s call said t → StateHolds c t
   step-holds (admit k size now) fits step = next-holds (admit-left k (fits .0) size now step)
   step-holds (recordInvalid k now) fits step = next-holds (record-invalid-left k (fits .0) now step)
   step-holds (isBanned k now) fits step = next-holds (is-banned-left k (fits .0) now step)

@@ -5,7 +5,7 @@ use lib.Dec.{ltb, leb, eqb}
 use Rattle.peer_settings.specs.declared.config.PeerMessagePolicyConfig.{PeerMessagePolicyConfig}
 use Rattle.peer_state.specs.declared.ingress.FiberIngressBudget.{FiberIngressBudget}
 use Rattle.peer_state.specs.declared.ingress.Reservation.{Reservation}
-use Rattle.peer_state.specs.declared.ingress.Reservation.the-variants.{Left, NoSlot, BytesShort, Overflow}
+use Rattle.peer_state.specs.declared.ingress.Reservation.the-variants.{Reserved, NoSlot, BytesShort, Overflow}
 use Rattle.peer_settings.specs.Config.{unlimited}
 
 abbrev pub inFlight : ℕ → ℕ → FiberIngressBudget
@@ -19,12 +19,12 @@ ingressReserved i size = inFlight (i .«in_flight_messages» + 1) (i .«in_fligh
 -- reserved
 unfoldable pub tryReserve : PeerMessagePolicyConfig → FiberIngressBudget → ℕ → Reservation
 tryReserve c i size =
-    let left = c .«max_in_flight_bytes» - i .«in_flight_bytes»
+    let free = c .«max_in_flight_bytes» - i .«in_flight_bytes»
     in cond (unlimited c)
     (cond (eqb (i .«in_flight_messages») 4294967295 || ltb 18446744073709551615 (i .«in_flight_bytes» + size)) Overflow
-    (Left (ingressReserved i size)))
+    (Reserved (ingressReserved i size)))
     (cond (leb (c .«max_in_flight_messages») (i .«in_flight_messages»)) NoSlot
-    (cond (ltb left size) (BytesShort (size - left)) (Left (ingressReserved i size))))
+    (cond (ltb free size) (BytesShort (size - free)) (Reserved (ingressReserved i size))))
 
 -- release: each number by itself stops at 0
 abbrev pub ingressReleased : FiberIngressBudget → ℕ → FiberIngressBudget

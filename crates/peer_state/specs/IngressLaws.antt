@@ -9,7 +9,7 @@ use Rattle.truths.specs.TruthLaws.{chosen, or-else}
 use Rattle.peer_settings.specs.declared.config.PeerMessagePolicyConfig.{PeerMessagePolicyConfig}
 use Rattle.peer_state.specs.declared.ingress.FiberIngressBudget.{FiberIngressBudget}
 use Rattle.peer_state.specs.declared.ingress.Reservation.{Reservation}
-use Rattle.peer_state.specs.declared.ingress.Reservation.the-variants.{Left, NoSlot, BytesShort, Overflow}
+use Rattle.peer_state.specs.declared.ingress.Reservation.the-variants.{Reserved, NoSlot, BytesShort, Overflow}
 use Rattle.peer_settings.specs.Config.{unlimited}
 use Rattle.peer_state.specs.Ingress.{ingressReserved, tryReserve, ingressReleased, ingressSound}
 
@@ -38,7 +38,7 @@ released-sound c i size h =
 -- what holds of each answer of the ceiling: room is for this message, and stays within the ceiling; only a load without a
 -- ceiling outgrows its numbers
 abbrev pub ReservationHolds : PeerMessagePolicyConfig → FiberIngressBudget → ℕ → Reservation → Type 0
-ReservationHolds c i size (Left after) =
+ReservationHolds c i size (Reserved after) =
     (after ≡ ingressReserved i size) × (ingressSound c i ≡ true → ingressSound c after ≡ true)
 ReservationHolds c i size NoSlot = unlimited c ≡ false
 ReservationHolds c i size (BytesShort k) = (unlimited c ≡ false) × (1 ≤ k)

@@ -12,7 +12,7 @@ pub struct FiberIngressBudget {
 
 // What the ceiling says to one message more.
 pub enum Reservation {
-    Left(FiberIngressBudget),
+    Reserved(FiberIngressBudget),
     NoSlot,
     BytesShort(u64),
     Overflow,
@@ -30,16 +30,16 @@ impl FiberIngressBudget {
             if size > 18_446_744_073_709_551_615 - self.in_flight_bytes {
                 return Reservation::Overflow;
             }
-            return Reservation::Left(reserved(self, size));
+            return Reservation::Reserved(reserved(self, size));
         }
         if self.in_flight_messages >= config.max_in_flight_messages {
             return Reservation::NoSlot;
         }
-        let left = saturating_sub(config.max_in_flight_bytes, self.in_flight_bytes);
-        if size > left {
-            return Reservation::BytesShort(size - left);
+        let free = saturating_sub(config.max_in_flight_bytes, self.in_flight_bytes);
+        if size > free {
+            return Reservation::BytesShort(size - free);
         }
-        Reservation::Left(reserved(self, size))
+        Reservation::Reserved(reserved(self, size))
     }
 
     // The load with one message less: each number by itself stops at 0.

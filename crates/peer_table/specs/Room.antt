@@ -3,7 +3,7 @@ use mathlib.Core.Bool.{Bool, not, cond}
 use mathlib.Core.Option.{Option, none, some}
 use Prim.Native.Nat.{ℕ}
 use lib.Dec.{eqb}
-use Rattle.table.specs.Table.{Row, Best, nothing, best, leastFrom, retain, removeAt}
+use Rattle.table.specs.Table.{Row, Best, nothing, best, minimumFrom, retain, removeAt}
 use Rattle.table.specs.Room.{roomMade}
 use Rattle.peer_settings.specs.declared.config.PeerMessagePolicyConfig.{PeerMessagePolicyConfig}
 use Rattle.peer_state.specs.declared.entry.PeerMessagePolicyEntry.{PeerMessagePolicyEntry}
@@ -35,7 +35,7 @@ evictFound nothing nothing rs = rs
 
 -- pop_first of the ordinary peers, or else of the banned ones: the smaller key where two are equal
 unfoldable pub evict : Peers → Peers
-evict rs = evictFound (leastFrom ordinaryLru nothing 0 rs) (leastFrom bannedExpirations nothing 0 rs) rs
+evict rs = evictFound (minimumFrom ordinaryLru nothing 0 rs) (minimumFrom bannedExpirations nothing 0 rs) rs
 
 -- make_room, for a peer that has no row: in a full table the spent bans go, and where it is still full, one row more
 unfoldable pub makeRoom : PeerMessagePolicyConfig → ℕ → Peers → Peers

@@ -8,11 +8,11 @@ use Prim.Native.Nat.{ℕ, _+_, _≤_, _<_}
 use native.Mathlib.Omega.{arith}
 use lib.Dec.{eqb}
 use lib.ListN.{length}
-use Rattle.table.specs.Table.{Row, nothing, best, leastFrom, ascending, look, removeAt}
+use Rattle.table.specs.Table.{Row, nothing, best, minimumFrom, ascending, look, removeAt}
 use Rattle.table.specs.TableLaws.{Sub, sub-all, sub-length, sub-removeAt}
 use Rattle.table.specs.LookLaws.{some-is-not-none, sub-look-none}
 use Rattle.table.specs.RetainLaws.{length-retain}
-use Rattle.table.specs.LeastLaws.{least-found, least-nothing}
+use Rattle.table.specs.MinimumLaws.{least-found, least-nothing}
 use Rattle.table.specs.PlaceLaws.{length-removeAt}
 use Rattle.table_laws.specs.RoomLaws as room
 use Rattle.table_laws.specs.RoomLaws.{by-best}
@@ -32,18 +32,18 @@ length-prune now rs = length-retain (unspent now) rs
 
 module _ (rs : Peers) where
   -- an ordinary peer is found, and goes
-  pub evict-ordinary : {j n : ℕ} → leastFrom ordinaryLru nothing 0 rs ≡ best j n → evict rs ≡ removeAt j rs
+  pub evict-ordinary : {j n : ℕ} → minimumFrom ordinaryLru nothing 0 rs ≡ best j n → evict rs ≡ removeAt j rs
   unfolding evict
   evict-ordinary h = rw h
 
   -- no ordinary peer is found, but a banned one, which goes
-  pub evict-banned : {j n : ℕ} → leastFrom ordinaryLru nothing 0 rs ≡ nothing → leastFrom bannedExpirations nothing 0 rs ≡ best j n
+  pub evict-banned : {j n : ℕ} → minimumFrom ordinaryLru nothing 0 rs ≡ nothing → minimumFrom bannedExpirations nothing 0 rs ≡ best j n
       → evict rs ≡ removeAt j rs
   unfolding evict
   evict-banned h k = rw (h, k)
 
   -- nobody is found, and nobody goes
-  pub evict-nobody : leastFrom ordinaryLru nothing 0 rs ≡ nothing → leastFrom bannedExpirations nothing 0 rs ≡ nothing → evict rs ≡ rs
+  pub evict-nobody : minimumFrom ordinaryLru nothing 0 rs ≡ nothing → minimumFrom bannedExpirations nothing 0 rs ≡ nothing → evict rs ≡ rs
   unfolding evict
   evict-nobody h k = rw (h, k)
 
@@ -59,8 +59,8 @@ ordinary-or-banned r h k = by-mark (eqb (r .entry .ban .mark) 1) h k
 pub length-evict : (rs : Peers) → 0 < length rs → length (evict rs) + 1 ≡ length rs
 length-evict [] h = absurd (omega arith)
 length-evict (r ∷ rs) h =
-    by-best (leastFrom ordinaryLru nothing 0 (r ∷ rs))
-    (λ e. by-best (leastFrom bannedExpirations nothing 0 (r ∷ rs))
+    by-best (minimumFrom ordinaryLru nothing 0 (r ∷ rs))
+    (λ e. by-best (minimumFrom bannedExpirations nothing 0 (r ∷ rs))
     (λ f. absurd (ordinary-or-banned r (least-nothing ordinaryLru (r ∷ rs) r e 0 h) (least-nothing bannedExpirations (r ∷ rs) r f 0 h)))
     (λ j n f. rw (evict-banned (r ∷ rs) e f) (length-removeAt j (r ∷ rs) (least-found bannedExpirations (r ∷ rs) r f .inside))))
     (λ j n e. rw (evict-ordinary (r ∷ rs) e) (length-removeAt j (r ∷ rs) (least-found ordinaryLru (r ∷ rs) r e .inside)))
@@ -68,8 +68,8 @@ length-evict (r ∷ rs) h =
 -- at most one row is taken out
 pub sub-evict : (rs : Peers) → Sub (evict rs) rs
 sub-evict rs =
-    by-best (leastFrom ordinaryLru nothing 0 rs)
-    (λ h. by-best (leastFrom bannedExpirations nothing 0 rs)
+    by-best (minimumFrom ordinaryLru nothing 0 rs)
+    (λ h. by-best (minimumFrom bannedExpirations nothing 0 rs)
     (λ k. rw (evict-nobody rs h k) (sub-all rs))
     (λ j n k. rw (evict-banned rs h k) (sub-removeAt j rs)))
     (λ j n h. rw (evict-ordinary rs h) (sub-removeAt j rs))

@@ -3,7 +3,7 @@
 ghost use mathlib.Core.Path.{_≡_};
 ghost use Prim.Native.Nat.{_+_, _*_, _≤_};
 ghost use lib.ListN.{length};
-ghost use Rattle.table.specs.Table.{nothing, better, leastFrom};
+ghost use Rattle.table.specs.Table.{nothing, better, minimumFrom};
 ghost use Rattle.table.specs.Memory.{rows};
 ghost use Rattle.peer_rows.specs.Rows.{rowWidth, peerLayout, rowFrom};
 ghost use Rattle.peer_table.specs.Private.{bestOf, measureOf, measureBy};
@@ -63,7 +63,7 @@ fn better_of(found: First, index: usize, measure: Measure) -> First
 // The first of the banned peers, or of the others.
 pub fn find_first(table: &[u8], count: usize, banned: bool) -> First
     requires { ⌜ rowWidth * count ≤ length (now table) ⌝ }
-    ensures { λ r. ⌜ bestOf r ≡ leastFrom (measureBy banned) nothing 0 (rows peerLayout (now (table .entry)) count) ⌝ }
+    ensures { λ r. ⌜ bestOf r ≡ minimumFrom (measureBy banned) nothing 0 (rows peerLayout (now (table .entry)) count) ⌝ }
 {
     let mut found = First::Nothing;
     let mut i: usize = 0;

@@ -125,7 +125,7 @@ violated c i e now cause =
 -- both buckets pass, and `charged` is the entry after their takes: the ceiling decides; where it has no room the copies are thrown away,
 -- and no violation is counted
 abbrev pub ceilingDecides : FiberIngressBudget → PeerMessagePolicyEntry → PeerMessagePolicyEntry → Reservation → Decision
-ceilingDecides i e charged (Reservation.Left after) = record { cause = Cause.Allowed; entry = charged; ingress = after }
+ceilingDecides i e charged (Reservation.Reserved after) = record { cause = Cause.Allowed; entry = charged; ingress = after }
 ceilingDecides i e charged Reservation.NoSlot = record { cause = Cause.NoSlot; entry = e; ingress = i }
 ceilingDecides i e charged (Reservation.BytesShort k) = record { cause = Cause.CeilingShort k; entry = e; ingress = i }
 ceilingDecides i e charged Reservation.Overflow = record { cause = Cause.Overflow; entry = e; ingress = i }

@@ -111,7 +111,7 @@ noted-holds c e now h =
     noted-ways (λ d. EntryHolds c (d .entry)) c e now (λ t. ban-holds now (c .«ban_duration_ms») counted) (λ t. counted)
 
 ceiling-holds : {c : PeerMessagePolicyConfig} (i : FiberIngressBudget) {e charged : PeerMessagePolicyEntry} (r : Reservation) → EntryHolds c e → EntryHolds c charged → Keeps c (ceilingDecides i e charged r)
-ceiling-holds i (Reservation.Left after) h taken = taken
+ceiling-holds i (Reservation.Reserved after) h taken = taken
 ceiling-holds i Reservation.NoSlot h taken = h
 ceiling-holds i (Reservation.BytesShort k) h taken = h
 ceiling-holds i Reservation.Overflow h taken = h
@@ -210,7 +210,7 @@ violated-orderly c i e size now cause holds n =
     (λ t. kept-orderly holds n (record { messages = refl; bytes = refl; ingress = refl }))
 
 ceiling-orderly : (c : PeerMessagePolicyConfig) (i : FiberIngressBudget) (e : PeerMessagePolicyEntry) (size now : ℕ) → passes (takeMessage c (e .messages) now .answer) ≡ true → passes (takeBytes c (e .bytes) size now .answer) ≡ true → (r : Reservation) → ReservationHolds c i size r → Orderly c i e size now (ceilingDecides i e (bothCharged c e size now) r)
-ceiling-orderly c i e size now m b (Reservation.Left after) h =
+ceiling-orderly c i e size now m b (Reservation.Reserved after) h =
     record {
       cause = tt;
       load = h .1;

@@ -215,7 +215,7 @@ fn ceiling_decides(
     ensures { λ r. ⌜ r ≡ ceilingDecides ingress entry charged reservation ⌝ }
 {
     match reservation {
-        Reservation::Left(after) => Decision {
+        Reservation::Reserved(after) => Decision {
             cause: Cause::Allowed,
             entry: charged,
             ingress: after,

@@ -65,21 +65,21 @@ after c [] = []
 after c (call ∷ h) = changedRows (after c h) (changeIn c call (after c h))
 
 -- the time that a call is decided at
-abbrev pub timeOf : CoreCall → ℕ
-timeOf (admit peer size now reservation) = now
-timeOf (recordInvalid peer now) = now
-timeOf (isBanned peer now) = now
-timeOf (onDisconnected peer now) = now
+abbrev pub coreTime : CoreCall → ℕ
+coreTime (admit peer size now reservation) = now
+coreTime (recordInvalid peer now) = now
+coreTime (isBanned peer now) = now
+coreTime (onDisconnected peer now) = now
 
 -- the time of the newest call
-abbrev pub latest : List CoreCall → ℕ
-latest [] = 0
-latest (call ∷ h) = timeOf call
+abbrev pub coreLatest : List CoreCall → ℕ
+coreLatest [] = 0
+coreLatest (call ∷ h) = coreTime call
 
 -- times never go back
 unfoldable pub Timely : List CoreCall → Type 0
 Timely [] = Unit {0}
-Timely (call ∷ h) = (latest h ≤ timeOf call) × Timely h
+Timely (call ∷ h) = (coreLatest h ≤ coreTime call) × Timely h
 
 -- a message's size is a u64
 abbrev pub SizeFits : CoreCall → Type 0

@@ -20,9 +20,9 @@ use Rattle.peer_state.specs.Entry.{level}
 use Rattle.peer_rows.specs.Rows.{Peers}
 use Rattle.peer_message_policy.specs.Policy
 use Rattle.peer_message_policy.specs.Calls.{changedRows}
-use Rattle.promises.specs.Core.{changeIn, saysIn, after, timeOf, latest, Timely, SizeFits, Sized, trailOf}
+use Rattle.promises.specs.Core.{changeIn, saysIn, after, coreTime, coreLatest, Timely, SizeFits, Sized, trailOf}
 use Rattle.promises.specs.Trails.{CoreCall, admit, recordInvalid, isBanned, onDisconnected, Event, seen, rowsAt}
-use Rattle.promises.specs.Lives.{Allow, sameKey, partOf, OwnTime, logFor, logAfter, logIn, lastUsed, ShieldedIn, AtMost, Within, ceilingSays}
+use Rattle.promises.specs.Lives.{Allow, sameKey, ownOf, OwnTime, logFor, logAfter, logIn, lastUsed, ShieldedIn, AtMost, Within, ceilingSays}
 use Rattle.promises.specs.FairLaws.{fair-new, fair-most}
 use Rattle.promises.specs.CoreStepLaws.{EntryFair, least-here, leftIn, step-fair}
 use Rattle.promises.specs.CoreRowLaws.{after-ascends, refused-leaves, trail-rows, step-used}
@@ -35,11 +35,11 @@ module _ {c : PeerMessagePolicyConfig} (fits : ConfigFits c) (k : Pubkey) where
         → EntryFair c (leftIn c k rs call) (logIn k (seen call said (changedRows rs (changeIn c call rs)) es))
     unfolding logIn ShieldedIn
     next-fair call sized (gives xs) e shield =
-        let used : OwnTime (λ now. lastUsed (look (k .bytes) rs) ≤ now) (partOf k call) =
-        subst (λ (xs : Peers). OwnTime (λ now. lastUsed (look (k .bytes) xs) ≤ now) (partOf k call)) leads (shield .0)
+        let used : OwnTime (λ now. lastUsed (look (k .bytes) rs) ≤ now) (ownOf k call) =
+        subst (λ (xs : Peers). OwnTime (λ now. lastUsed (look (k .bytes) xs) ≤ now) (ownOf k call)) leads (shield .0)
         in
         rw leads
-        (subst (λ said. EntryFair c (leftIn c k rs call) (logAfter (partOf k call) (look (k .bytes) rs) (leftIn c k rs call) said (logIn k es))) e
+        (subst (λ said. EntryFair c (leftIn c k rs call) (logAfter (ownOf k call) (look (k .bytes) rs) (leftIn c k rs call) said (logIn k es))) e
         (step-fair c fits k rs order (logIn k es) (fair (shield .1)) call sized xs e used))
     next-fair call sized (refused n) e shield =
         subst (λ (xs : Peers). EntryFair c (look (k .bytes) xs) (logIn k es)) (sym (refused-leaves c rs call e)) (fair shield)
@@ -73,21 +73,21 @@ module _ {c : PeerMessagePolicyConfig} (fits : ConfigFits c) (k : Pubkey) where
 
 module _ (c : PeerMessagePolicyConfig) (k : Pubkey) where
   -- no entry was last used after the newest call
-  pub timely-used : (h : List CoreCall) → Timely h → lastUsed (look (k .bytes) (after c h)) ≤ latest h
+  pub timely-used : (h : List CoreCall) → Timely h → lastUsed (look (k .bytes) (after c h)) ≤ coreLatest h
   unfolding Timely after look
   timely-used [] timely = omega arith
   timely-used (call ∷ h) timely =
       step-used c k (after c h) (after-ascends c h) call (le-trans (timely-used h (timely .1)) (timely .0))
 
   -- a time that is not before the last use is not before it for a call of the peer's own
-  own-timely : (found : Option PeerMessagePolicyEntry) (call : CoreCall) → lastUsed found ≤ timeOf call
-      → OwnTime (λ now. lastUsed found ≤ now) (partOf k call)
+  own-timely : (found : Option PeerMessagePolicyEntry) (call : CoreCall) → lastUsed found ≤ coreTime call
+      → OwnTime (λ now. lastUsed found ≤ now) (ownOf k call)
   own-timely found (admit peer size now reservation) h = by-test (sameKey k peer) (λ own. rw own h) (λ other. rw other tt)
   own-timely found (recordInvalid peer now) h = by-test (sameKey k peer) (λ own. rw own h) (λ other. rw other tt)
   own-timely found (isBanned peer now) h = tt
   own-timely found (onDisconnected peer now) h = tt
 
-  next-shields : (call : CoreCall) (said : Said) (rs : Peers) (es : List Event) → lastUsed (look (k .bytes) (rowsAt es)) ≤ timeOf call
+  next-shields : (call : CoreCall) (said : Said) (rs : Peers) (es : List Event) → lastUsed (look (k .bytes) (rowsAt es)) ≤ coreTime call
       → ShieldedIn k es → ShieldedIn k (seen call said rs es)
   unfolding ShieldedIn
   next-shields call (gives xs) rs es used shield = (own-timely (look (k .bytes) (rowsAt es)) call used, shield)

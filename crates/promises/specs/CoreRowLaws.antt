@@ -27,7 +27,7 @@ use Rattle.peer_message_policy.specs.Policy
 use Rattle.peer_message_policy.specs.Policy.{Change, same, Turn, carriedOut, notedDown, Update, banned, update, turnOf, entryForUpdate, isBannedChange, disconnectedChange}
 use Rattle.peer_message_policy.specs.Calls.{changedRows, fresh, invalidOf, invalidSays, standingOf, standingSays}
 use Rattle.peer_laws.specs.PeerLaws.{Fate, stayed, gone, expired, Own, live, undone, carried, OwnInvalid, barred, counted}
-use Rattle.promises.specs.Core.{idle, admits, messageTurn, invalidTurn, changeIn, saysIn, after, timeOf, trailOf}
+use Rattle.promises.specs.Core.{idle, admits, messageTurn, invalidTurn, changeIn, saysIn, after, coreTime, trailOf}
 use Rattle.promises.specs.Trails.{CoreCall, admit, recordInvalid, isBanned, onDisconnected, Event, seen, rowsAt}
 use Rattle.promises.specs.Lives.{sameKey, lastUsed}
 use Rattle.promises.specs.DecisionLaws.{decided, invalid-decision-noted}
@@ -166,7 +166,7 @@ invalid-used {c} {now} (counted e lands why now-entry) h = rw now-entry (omega (
 
 -- no call uses an entry after its own time
 pub step-used : (c : PeerMessagePolicyConfig) (k : Pubkey) (rs : Peers) → ascending rs ≡ true → (call : CoreCall)
-    → lastUsed (look (k .bytes) rs) ≤ timeOf call → lastUsed (leftIn c k rs call) ≤ timeOf call
+    → lastUsed (look (k .bytes) rs) ≤ coreTime call → lastUsed (leftIn c k rs call) ≤ coreTime call
 step-used c k rs order (admit peer size now reservation) h =
     by-test (sameKey k peer)
     (λ own. own-used (λ e. decided c idle e size now reservation .used) (own-here c k rs peer size now reservation (same-key k peer own)) h)

@@ -31,7 +31,7 @@ use Rattle.promises.specs.Trails as Trails
 use Rattle.promises.specs.Core.{idle, messageTurn, invalidTurn, after, trailOf}
 use Rattle.promises.specs.Trails.{rowsAt, callsOf}
 use Rattle.promises.specs.Lives.{logIn}
-use Rattle.peer_runs.specs.Runs.{Call, admit, recordInvalid, isBanned, onDisconnected, releaseIngress, inFlight, heldTime, State, rowsIn, Step, KeyFits, Fits, Run, made, then}
+use Rattle.peer_runs.specs.Runs.{Call, admit, recordInvalid, isBanned, onDisconnected, releaseIngress, inFlight, heldTime, State, rowsIn, Step, KeyFits, CallFits, Run, made, then}
 use Rattle.promises.specs.RunLives.{coreOf, trail, coreCalls, logOf}
 use Rattle.promises.specs.DecisionLaws.{Alike, decision-alike}
 use Rattle.promises.specs.CoreRowLaws.{trail-rows}
@@ -163,7 +163,7 @@ module _ (s : State) (said : Said) (t : State) where
           rows = on-disconnected-left s here said t k key now step .rows;
         }
 
-    own-mirrors : (call : Call) → Fits call → Step s call said t → MirrorsIf (p .config) (coreOf (p .config) s call) (rowsIn s) said (rowsIn t)
+    own-mirrors : (call : Call) → CallFits call → Step s call said t → MirrorsIf (p .config) (coreOf (p .config) s call) (rowsIn s) said (rowsIn t)
     own-mirrors (admit k size now) fits step = admit-mirrors k size now (fits .0) step
     own-mirrors (recordInvalid k now) fits step = invalid-mirrors k now (fits .0) step
     own-mirrors (isBanned k now) fits step = banned-mirrors k now (fits .0) step
@@ -173,7 +173,7 @@ module _ (s : State) (said : Said) (t : State) where
     own-mirrors (heldTime k given) fits step = ap rowsIn (step .3)
 
 -- every call on a sound state says and leaves what its core call does
-pub step-core : {c : PeerMessagePolicyConfig} (s : State) → StateHolds c s → (call : Call) (said : Said) (t : State) → Fits call → Step s call said t
+pub step-core : {c : PeerMessagePolicyConfig} (s : State) → StateHolds c s → (call : Call) (said : Said) (t : State) → CallFits call → Step s call said t
     → MirrorsIf c (coreOf c s call) (rowsIn s) said (rowsIn t)
 step-core {c} s here call said t fits step =
     subst (λ x. MirrorsIf x (coreOf x s call) (rowsIn s) said (rowsIn t)) (here .settings)

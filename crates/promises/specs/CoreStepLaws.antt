@@ -32,7 +32,7 @@ use Rattle.peer_message_policy.specs.Calls.{changedRows, fresh, admissionOf, ad
 use Rattle.peer_laws.specs.PeerLaws.{Fate, stayed, gone, expired, Lands, kept, absent, remade, Own, live, undone, carried, OwnInvalid, barred, counted, live-not-spent, own-message, own-invalid, message-fate, record-invalid-fate, is-banned-fate, disconnected-fate}
 use Rattle.promises.specs.Core.{idle, admits, messageTurn, invalidTurn, changeIn, saysIn, SizeFits}
 use Rattle.promises.specs.Trails.{CoreCall, admit, recordInvalid, isBanned, onDisconnected}
-use Rattle.promises.specs.Lives.{Allow, sameKey, partOf, OwnTime, logFor, logged, keptLog, logAfter, lastUsed, Within, ceilingSays}
+use Rattle.promises.specs.Lives.{Allow, sameKey, ownOf, OwnTime, logFor, logged, keptLog, logAfter, lastUsed, Within, ceilingSays}
 use Rattle.promises.specs.FairLaws.{NotAfter, Fair, fair-new, fair-allow, fair-least}
 use Rattle.promises.specs.DecisionLaws.{reservationCause, decided, invalid-decision-noted}
 
@@ -74,7 +74,7 @@ says c cause = admissionSays (admissionOf (fresh c) cause)
 
 -- what admit says where the ceiling decides
 reservation-says : (c : PeerMessagePolicyConfig) (reservation : Reservation) → says c (reservationCause reservation) ≡ ceilingSays reservation
-reservation-says c (Reservation.Left after) = refl
+reservation-says c (Reservation.Reserved after) = refl
 reservation-says c Reservation.NoSlot = refl
 reservation-says c (Reservation.BytesShort n) = refl
 reservation-says c Reservation.Overflow = refl
@@ -247,8 +247,8 @@ module _ (c : PeerMessagePolicyConfig) where
 module _ (c : PeerMessagePolicyConfig) (fits : ConfigFits c) (k : Pubkey) (rs : Peers) (order : ascending rs ≡ true) (log : List Allow) (fair : EntryFair c (look (k .bytes) rs) log) where
   -- every call that is not refused keeps the entry fair
   pub step-fair : (call : CoreCall) → SizeFits call → (xs : List ℕ) → saysIn c call rs ≡ gives xs
-      → OwnTime (λ now. lastUsed (look (k .bytes) rs) ≤ now) (partOf k call)
-      → EntryFair c (leftIn c k rs call) (logAfter (partOf k call) (look (k .bytes) rs) (leftIn c k rs call) (saysIn c call rs) log)
+      → OwnTime (λ now. lastUsed (look (k .bytes) rs) ≤ now) (ownOf k call)
+      → EntryFair c (leftIn c k rs call) (logAfter (ownOf k call) (look (k .bytes) rs) (leftIn c k rs call) (saysIn c call rs) log)
   step-fair (admit peer size now reservation) size-fits xs given used =
       by-test (sameKey k peer)
       (λ own.

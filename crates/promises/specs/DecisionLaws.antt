@@ -23,7 +23,7 @@ use Rattle.peer_verdict.specs.VerdictLaws.{NotAllowed, rateCounted, bothCharged
 
 -- the cause that the ceiling gives
 abbrev pub reservationCause : Reservation → Cause
-reservationCause (Reservation.Left after) = Cause.Allowed
+reservationCause (Reservation.Reserved after) = Cause.Allowed
 reservationCause Reservation.NoSlot = Cause.NoSlot
 reservationCause (Reservation.BytesShort k) = Cause.CeilingShort k
 reservationCause Reservation.Overflow = Cause.Overflow
@@ -66,7 +66,7 @@ module _ (c : PeerMessagePolicyConfig) (i : FiberIngressBudget) (e : PeerMessage
     where
       by-reservation : (r : Reservation)
           → Decided c e size now r (ceilingDecides i e (bothCharged c e size now) r)
-      by-reservation (Reservation.Left after) =
+      by-reservation (Reservation.Reserved after) =
           record {
             used = used;
             allowed = λ q. record { message-there = m; bytes-there = b; messages = refl; bytes = refl };
@@ -134,7 +134,7 @@ module _ (c : PeerMessagePolicyConfig) (i j : FiberIngressBudget) (now : ℕ) wh
   ceilingDecides-alike : (e : PeerMessagePolicyEntry) (size : ℕ) (reservation : Reservation)
       → Alike (ceilingDecides i e (bothCharged c e size now) reservation)
       (ceilingDecides j e (bothCharged c e size now) reservation)
-  ceilingDecides-alike e size (Reservation.Left after) = record { cause = refl; entry = refl }
+  ceilingDecides-alike e size (Reservation.Reserved after) = record { cause = refl; entry = refl }
   ceilingDecides-alike e size Reservation.NoSlot = record { cause = refl; entry = refl }
   ceilingDecides-alike e size (Reservation.BytesShort k) = record { cause = refl; entry = refl }
   ceilingDecides-alike e size Reservation.Overflow = record { cause = refl; entry = refl }

@@ -14,7 +14,7 @@ use Rattle.pubkey.specs.declared.Pubkey.{Pubkey}
 use Rattle.refusal.specs.Refusal.{Said}
 use Rattle.bucket_discrete.specs.DiscreteBucket.{discreteRefill, discreteTake, discreteTryConsume}
 use Rattle.bucket_bytes.specs.ByteBucket.{byteRefill, byteTake, byteTryConsume}
-use Rattle.table.specs.Table.{Row, look, store, retain, removeAt, leastFrom}
+use Rattle.table.specs.Table.{Row, look, store, retain, removeAt, minimumFrom}
 use Rattle.table.specs.Memory.{rows, laid, Holds}
 use Rattle.table.specs.MemoryLaws.{AllFit, holds}
 use Rattle.peer_settings.specs.Fits.{ConfigFits}
@@ -36,7 +36,7 @@ use Rattle.peer_message_policy.specs.Policy.{sound, become, Turn, carriedOut, e
 use Rattle.peer_message_policy.specs.Calls.{Memory, policyAfter, fresh, newOutcome, NewMeets, admissionOf, admissionSays, AdmitMeets, allow}
 use Rattle.peer_laws.specs.CallLaws.{admit-outcome}
 use Rattle.promises.specs.Lives.{Allow, keptLog, logFor, logIn, FromEvery, Near, Within}
-use Rattle.peer_runs.specs.Runs.{admit, State, rowsIn, afterAdmit, Step, KeyFits, Fits, Run, made, then}
+use Rattle.peer_runs.specs.Runs.{admit, State, rowsIn, afterAdmit, Step, KeyFits, CallFits, Run, made, then}
 use Rattle.promises.specs.RunLives.{latest, Ordered, entryIn, trail, logOf, Entitled}
 use Rattle.promises.specs.Example.{oneASecond, peer, lent, first, second, Example}
 use Rattle.promises.specs.Promises as Promises
@@ -154,13 +154,13 @@ abbrev state₁ : State
 state₁ = afterwards state₀ (answerOf (fresh oneASecond) (allowedTo 1 3 (rowAt 7 5000))) memory₁
 
 first-turn : Policy.admit oneASecond (inFlight 0 0) (rowsIn state₀) (peer .bytes) 3 5000 ≡ allowedTo 1 3 (rowAt 7 5000)
-unfolding rows amountOf value saturated discreteRefill discreteTake discreteTryConsume byteRefill byteTake byteTryConsume look store retain removeAt leastFrom windowExpire windowCounted entryNew entryBan entryUsed tryReserve takeMessage takeBytes violated decision evict roomMade makeRoom Policy.admit carriedOut entryForUpdate
+unfolding rows amountOf value saturated discreteRefill discreteTake discreteTryConsume byteRefill byteTake byteTryConsume look store retain removeAt minimumFrom windowExpire windowCounted entryNew entryBan entryUsed tryReserve takeMessage takeBytes violated decision evict roomMade makeRoom Policy.admit carriedOut entryForUpdate
 first-turn = refl
 
 holds₁ : Holds peerLayout memory₀ memory₁ 0 (rowAt 7 5000 ∷ [])
 holds₁ = holds peer-faithful memory₀ memory₁ 0 (rowAt 7 5000 ∷ []) (row-fits 7 5000 (omega arith) (omega arith)) refl
 
-first-fits : Fits first
+first-fits : CallFits first
 first-fits = (key-fits, omega arith, omega arith)
 
 run₁ : Run oneASecond (first ∷ []) state₁
@@ -209,7 +209,7 @@ abbrev memory₂ : List ℕ
 memory₂ = laid peerLayout memory₁ 1 (rowAt 7 6000 ∷ [])
 
 second-turn : Policy.admit oneASecond (inFlight 1 3) (rowsIn state₁) (peer .bytes) 3 6000 ≡ allowedTo 2 6 (rowAt 7 6000)
-unfolding amountOf value saturated discreteRefill discreteTake discreteTryConsume byteRefill byteTake byteTryConsume look store retain removeAt leastFrom windowExpire windowCounted entryNew entryBan entryUsed tryReserve takeMessage takeBytes violated decision evict roomMade makeRoom Policy.admit carriedOut entryForUpdate
+unfolding amountOf value saturated discreteRefill discreteTake discreteTryConsume byteRefill byteTake byteTryConsume look store retain removeAt minimumFrom windowExpire windowCounted entryNew entryBan entryUsed tryReserve takeMessage takeBytes violated decision evict roomMade makeRoom Policy.admit carriedOut entryForUpdate
 second-turn = ap (λ (rs : Peers). Policy.admit oneASecond (inFlight 1 3) rs (peer .bytes) 3 6000) rows₁
 
 holds₂ : Holds peerLayout memory₁ memory₂ 1 (rowAt 7 6000 ∷ [])

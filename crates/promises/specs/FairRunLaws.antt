@@ -19,7 +19,7 @@ use Rattle.promises.specs.Core as Core
 use Rattle.promises.specs.Core.{after, Timely, Sized}
 use Rattle.promises.specs.Trails.{CoreCall, Event, seenIf, callsOf}
 use Rattle.promises.specs.Lives.{lastUsed, AtMost, ceilingSays}
-use Rattle.peer_runs.specs.Runs.{Call, admit, recordInvalid, isBanned, onDisconnected, releaseIngress, inFlight, heldTime, State, rowsIn, Step, Fits, Run, made, then}
+use Rattle.peer_runs.specs.Runs.{Call, admit, recordInvalid, isBanned, onDisconnected, releaseIngress, inFlight, heldTime, State, rowsIn, Step, CallFits, Run, made, then}
 use Rattle.promises.specs.RunLives.{entryIn, coreOf, trail, coreCalls, logOf, Shielded, timeOf, latestOf, latest, notBefore, Ordered, Entitled, Shield}
 use Rattle.peer_runs.specs.SoundRunLaws.{run-holds}
 use Rattle.promises.specs.CoreRunLaws.{step-core, runs-core, run-rows}
@@ -27,7 +27,7 @@ use Rattle.promises.specs.MirrorLaws.{SizeFitsIf, seen-sized, trail-most
 
 -- ════ Sizes ════
 
-call-sized : (c : PeerMessagePolicyConfig) (s : State) (call : Call) → Fits call → SizeFitsIf (coreOf c s call)
+call-sized : (c : PeerMessagePolicyConfig) (s : State) (call : Call) → CallFits call → SizeFitsIf (coreOf c s call)
 call-sized c s (admit k size now) fits = fits .1
 call-sized c s (recordInvalid k now) fits = tt
 call-sized c s (isBanned k now) fits = tt
@@ -66,7 +66,7 @@ module _ {c : PeerMessagePolicyConfig} (fits : ConfigFits c) (k : Pubkey) {h : L
 abbrev SameTime : Option CoreCall → Option ℕ → Type 0
 SameTime none time = Unit {0}
 SameTime (some call) none = ⊥
-SameTime (some call) (some now) = now ≡ Core.timeOf call
+SameTime (some call) (some now) = now ≡ Core.coreTime call
 
 core-time : (c : PeerMessagePolicyConfig) (s : State) (call : Call) → SameTime (coreOf c s call) (timeOf call)
 core-time c s (admit k size now) = refl
@@ -79,7 +79,7 @@ core-time c s (heldTime k given) = tt
 
 -- the core calls so far are timely, and not after this time
 abbrev TimelyTo : ℕ → List Event → Type 0
-TimelyTo n es = Timely (callsOf es) × (Core.latest (callsOf es) ≤ n)
+TimelyTo n es = Timely (callsOf es) × (Core.coreLatest (callsOf es) ≤ n)
 
 seen-timely : (core : Option CoreCall) (time : Option ℕ) → SameTime core time → (said : Said) (rs : Peers) (es : List Event) (n : ℕ)
     → notBefore time n → TimelyTo n es → TimelyTo (latestOf time n) (seenIf core said rs es)
@@ -123,7 +123,7 @@ module _ {c : PeerMessagePolicyConfig} (fits : ConfigFits c) {h : List Call} {s 
 
 -- the ceiling bans nobody
 ceiling-never-bans : {said : Said} (r : Reservation) → said ≡ ceilingSays r → said ≡ ban → ⊥
-ceiling-never-bans (Reservation.Left after) h banned = let z : _≡_ {A = ℕ} 0 2 = cc in omega arith
+ceiling-never-bans (Reservation.Reserved after) h banned = let z : _≡_ {A = ℕ} 0 2 = cc in omega arith
 ceiling-never-bans Reservation.NoSlot h banned = let z : _≡_ {A = ℕ} 1 2 = cc in omega arith
 ceiling-never-bans (Reservation.BytesShort n) h banned = let z : _≡_ {A = ℕ} 1 2 = cc in omega arith
 ceiling-never-bans Reservation.Overflow h banned = let z : _≡_ {A = ℕ} 0 1 = cc in omega arith

@@ -7,7 +7,7 @@ use Rattle.peer_settings.specs.declared.config.PeerMessagePolicyConfig.{PeerMes
 use Rattle.peer_message_policy.specs.declared.answer.HeldTime.the-variants as HeldTime
 use Rattle.peer_message_policy.specs.Calls.{HeldTimeMeets}
 use Rattle.promises.specs.Trails.{CoreCall}
-use Rattle.promises.specs.Lives.{partOf, OwnTime}
+use Rattle.promises.specs.Lives.{ownOf, OwnTime}
 use Rattle.peer_runs.specs.Runs.{Call, State, Run, made, then}
 use Rattle.promises.specs.RunLives.{coreOf, Bounds}
 
@@ -18,7 +18,7 @@ Answered k s now = (given : ℕ) × HeldTimeMeets (s .policy) (s .memory) k give
 -- a call has a time that held_time answers, if it is the peer's own admit or record_invalid
 abbrev pub heldOwn : Pubkey → State → Option CoreCall → Type 0
 heldOwn k s none = Unit {0}
-heldOwn k s (some call) = OwnTime (Answered k s) (partOf k call)
+heldOwn k s (some call) = OwnTime (Answered k s) (ownOf k call)
 
 module _ {c : PeerMessagePolicyConfig} where
   -- a peer's own admits and record_invalids have the times that held_time answers, whatever times it was given

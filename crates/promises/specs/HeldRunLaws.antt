@@ -18,7 +18,7 @@ use Rattle.peer_message_policy.specs.Policy
 use Rattle.peer_message_policy.specs.Policy.{sound}
 use Rattle.peer_laws.specs.CallLaws.{held-time-answer}
 use Rattle.promises.specs.Trails.{CoreCall, Event, seenIf, rowsAt}
-use Rattle.promises.specs.Lives.{Part, message, invalid, neither, partOf, OwnTime, lastUsed, ShieldedIn, ceilingSays}
+use Rattle.promises.specs.Lives.{Own, message, invalid, neither, ownOf, OwnTime, lastUsed, ShieldedIn, ceilingSays}
 use Rattle.peer_runs.specs.Runs.{Call, admit, State, rowsIn, Step, Run, made, then}
 use Rattle.promises.specs.RunLives.{entryIn, coreOf, trail, Shielded, Entitled}
 use Rattle.promises.specs.Held.{Answered, heldOwn, Held, HeldShield}
@@ -45,7 +45,7 @@ held s k now h answered =
 -- ════ Runs ════
 
 -- times of one kind are of another
-own-times : {Such Other : ℕ → Type 0} (part : Part) → ((now : ℕ) → Such now → Other now) → OwnTime Such part → OwnTime Other part
+own-times : {Such Other : ℕ → Type 0} (part : Own) → ((now : ℕ) → Such now → Other now) → OwnTime Such part → OwnTime Other part
 own-times (message size now) f h = f now h
 own-times (invalid now) f h = f now h
 own-times neither f h = tt
@@ -55,8 +55,8 @@ module _ (k : Pubkey) (s : State) (h : sound (s .policy) (s .memory) ≡ true) (
   unfolding ShieldedIn
   seen-shields none said rs answered shield = shield
   seen-shields (some call) (gives xs) rs answered shield = (
-    subst (λ (x : Peers). OwnTime (λ now. lastUsed (look (k .bytes) x) ≤ now) (partOf k call)) (sym leads)
-        (own-times (partOf k call) (λ now a. held s k now h a) answered),
+    subst (λ (x : Peers). OwnTime (λ now. lastUsed (look (k .bytes) x) ≤ now) (ownOf k call)) (sym leads)
+        (own-times (ownOf k call) (λ now a. held s k now h a) answered),
     shield,
   )
   seen-shields (some call) (refused n) rs answered shield = shield

@@ -27,19 +27,19 @@ abbrev pub sameKey : Pubkey → Pubkey → Bool
 sameKey a b = byOrder (compareBytes (a .bytes) (b .bytes)) false true false
 
 -- what a call is to a peer: a message of its own, an invalid message of its own, or neither
-pub data Part : Type 0 where
-  message : (size now : ℕ) → Part
-  invalid : (now : ℕ) → Part
-  neither : Part
+pub data Own : Type 0 where
+  message : (size now : ℕ) → Own
+  invalid : (now : ℕ) → Own
+  neither : Own
 
-abbrev pub partOf : Pubkey → CoreCall → Part
-partOf k (admit peer size now reservation) = cond (sameKey k peer) (message size now) neither
-partOf k (recordInvalid peer now) = cond (sameKey k peer) (invalid now) neither
-partOf k (isBanned peer now) = neither
-partOf k (onDisconnected peer now) = neither
+abbrev pub ownOf : Pubkey → CoreCall → Own
+ownOf k (admit peer size now reservation) = cond (sameKey k peer) (message size now) neither
+ownOf k (recordInvalid peer now) = cond (sameKey k peer) (invalid now) neither
+ownOf k (isBanned peer now) = neither
+ownOf k (onDisconnected peer now) = neither
 
 -- the time of a call of the peer's own is such a time
-abbrev pub OwnTime : (ℕ → Type 0) → Part → Type 0
+abbrev pub OwnTime : (ℕ → Type 0) → Own → Type 0
 OwnTime Such (message size now) = Such now
 OwnTime Such (invalid now) = Such now
 OwnTime Such neither = Unit {0}
@@ -70,7 +70,7 @@ keptLog none log = []
 keptLog (some e) log = log
 
 -- the log of a peer's life after a call that found this entry and left that one
-abbrev pub logAfter : Part → (found left : Option PeerMessagePolicyEntry) → Said → List Allow → List Allow
+abbrev pub logAfter : Own → (found left : Option PeerMessagePolicyEntry) → Said → List Allow → List Allow
 logAfter (message size now) found left said log =
     keptLog left (logged said (record { time = now; size = size }) (logFor found now log))
 logAfter (invalid now) found left said log = keptLog left (logFor found now log)
@@ -80,7 +80,7 @@ logAfter neither found left said log = keptLog left log
 unfoldable pub logIn : Pubkey → List Event → List Allow
 logIn k [] = []
 logIn k (e ∷ es) =
-    logAfter (partOf k (e .call)) (look (k .bytes) (rowsAt es)) (look (k .bytes) (e .rows)) (e .said) (logIn k es)
+    logAfter (ownOf k (e .call)) (look (k .bytes) (rowsAt es)) (look (k .bytes) (e .rows)) (e .said) (logIn k es)
 
 -- a peer's last-used time; 0 without an entry
 abbrev pub lastUsed : Option PeerMessagePolicyEntry → ℕ
@@ -90,7 +90,7 @@ lastUsed (some e) = e .«last_used_ms»
 -- a peer's own admits and record_invalids never lie before its last-used time, however all other times run
 unfoldable pub ShieldedIn : Pubkey → List Event → Type 0
 ShieldedIn k [] = Unit {0}
-ShieldedIn k (e ∷ es) = OwnTime (λ now. lastUsed (look (k .bytes) (rowsAt es)) ≤ now) (partOf k (e .call)) × ShieldedIn k es
+ShieldedIn k (e ∷ es) = OwnTime (λ now. lastUsed (look (k .bytes) (rowsAt es)) ≤ now) (ownOf k (e .call)) × ShieldedIn k es
 
 -- ════ The upper bound ════
 
@@ -143,7 +143,7 @@ Within c now size log =
 
 -- what the ceiling says: Allow where there is room, Disconnect where there is none, refusal 4 where a number would overflow
 abbrev pub ceilingSays : Reservation → Said
-ceilingSays (Reservation.Left after) = allow
+ceilingSays (Reservation.Reserved after) = allow
 ceilingSays Reservation.NoSlot = disconnect
 ceilingSays (Reservation.BytesShort k) = disconnect
 ceilingSays Reservation.Overflow = refused overflow

@@ -15,7 +15,7 @@ use Rattle.peer_settings.specs.Fits.{ConfigFits}
 use Rattle.peer_rows.specs.Rows.{Peers}
 use Rattle.peer_message_policy.specs.Policy
 use Rattle.peer_message_policy.specs.Calls.{changedRows}
-use Rattle.promises.specs.Core.{changeIn, saysIn, after, latest, Timely, SizeFits, Sized, trailOf}
+use Rattle.promises.specs.Core.{changeIn, saysIn, after, coreLatest, Timely, SizeFits, Sized, trailOf}
 use Rattle.promises.specs.Trails.{CoreCall, admit, Event, seen, seenIf, rowsAt, callsOf}
 use Rattle.promises.specs.Lives.{logFor, logIn, lastUsed, ShieldedIn, AtMost, Within, ceilingSays}
 use Rattle.promises.specs.CoreRowLaws.{refused-leaves, seen-rows, trail-rows}
@@ -90,5 +90,5 @@ module _ (c : PeerMessagePolicyConfig) (k : Pubkey) (es : List Event) (core : es
   pub timely-trail : ShieldedIn k es
   timely-trail = subst (ShieldedIn k) (sym core) (CoreLaws.timely-shields c k (callsOf es) timely)
 
-  pub timely-last : lastUsed (look (k .bytes) (rowsAt es)) ≤ latest (callsOf es)
+  pub timely-last : lastUsed (look (k .bytes) (rowsAt es)) ≤ coreLatest (callsOf es)
   timely-last = rw (ap rowsAt core ∙ trail-rows c (callsOf es)) (CoreLaws.timely-used c k (callsOf es) timely)

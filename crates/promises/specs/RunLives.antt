@@ -15,7 +15,7 @@ use Rattle.peer_message_policy.specs.Policy as Policy
 use Rattle.promises.specs.Trails as Trails
 use Rattle.promises.specs.Trails.{CoreCall, Event, seenIf, callsOf}
 use Rattle.promises.specs.Lives.{Allow, logIn, logFor, lastUsed, ShieldedIn, AtMost, Within, ceilingSays}
-use Rattle.peer_runs.specs.Runs.{Call, admit, recordInvalid, isBanned, onDisconnected, releaseIngress, inFlight, heldTime, State, rowsIn, Step, Fits, Run, made, then}
+use Rattle.peer_runs.specs.Runs.{Call, admit, recordInvalid, isBanned, onDisconnected, releaseIngress, inFlight, heldTime, State, rowsIn, Step, CallFits, Run, made, then}
 
 -- ════ The trail of a run ════
 
@@ -85,7 +85,7 @@ Ordered (call ∷ h) = notBefore (timeOf call) (latest h) × Ordered h
 
 -- a call of this size now, numbers that fit, by a peer that is not banned, is within the smaller allowance of the life that it lands in
 pub record Entitled {c : PeerMessagePolicyConfig} {h : List Call} {s : State} (run : Run c h s) (k : Pubkey) (size now : ℕ) : Type 0 where
-  pub fits : Fits (admit k size now)
+  pub fits : CallFits (admit k size now)
   pub not-banned : Policy.isBanned (entryIn s k) now ≡ false
   pub within : Within c now size (logFor (entryIn s k) now (logOf k run))
 

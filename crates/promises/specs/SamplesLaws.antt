@@ -3,7 +3,7 @@ use mathlib.Core.Path.{refl}
 use Rattle.amount.specs.Amount.{amountOf, value, saturated}
 use Rattle.bucket_discrete.specs.DiscreteBucket.{discreteRefill, discreteTake, discreteTryConsume}
 use Rattle.bucket_bytes.specs.ByteBucket.{byteRefill, byteTake, byteTryConsume, byteReserve, byteHasDebt}
-use Rattle.table.specs.Table.{look, store, erase, retain, removeAt, leastFrom}
+use Rattle.table.specs.Table.{look, store, erase, retain, removeAt, minimumFrom}
 use Rattle.table_laws.specs.Raw.{mapEntries}
 use Rattle.peer_state.specs.Entry.{windowExpire, windowCounted, entryNew, entryBan, entryUsed}
 use Rattle.peer_state.specs.Ingress.{tryReserve}
@@ -20,5 +20,5 @@ use Rattle.gossip_limiter.specs.Limiter.{tryAcquire}
 use Rattle.promises.specs.Samples.{Agree, samplesRun, messages, bytes, promised, violations, peersOf, admitted, blamed, acquired}
 
 pub samples-agree : Agree samplesRun
-unfolding samplesRun messages bytes promised violations peersOf admitted blamed acquired tracker.recordViolation tracker.isBanned bannedIfReached banRoom.maybeExpire banRoom.makeRoom erase tryAcquire roomFor refilled askedOf mapEntries amountOf value saturated discreteRefill discreteTake discreteTryConsume byteRefill byteTake byteTryConsume byteReserve byteHasDebt look store retain removeAt leastFrom windowExpire windowCounted entryNew entryBan entryUsed tryReserve takeMessage takeBytes violated decision evict roomMade makeRoom admit carriedOut entryForUpdate
+unfolding samplesRun messages bytes promised violations peersOf admitted blamed acquired tracker.recordViolation tracker.isBanned bannedIfReached banRoom.maybeExpire banRoom.makeRoom erase tryAcquire roomFor refilled askedOf mapEntries amountOf value saturated discreteRefill discreteTake discreteTryConsume byteRefill byteTake byteTryConsume byteReserve byteHasDebt look store retain removeAt minimumFrom windowExpire windowCounted entryNew entryBan entryUsed tryReserve takeMessage takeBytes violated decision evict roomMade makeRoom admit carriedOut entryForUpdate
 samples-agree = (refl, (refl, (refl, (refl, (refl, (refl, (refl, (refl, (refl, (refl, (refl, tt)))))))))))

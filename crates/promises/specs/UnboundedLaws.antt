@@ -6,7 +6,7 @@ use Rattle.amount.specs.Amount.{amountOf, value, saturated}
 use Rattle.refusal.specs.Refusal.{gives}
 use Rattle.bucket_discrete.specs.DiscreteBucket.{discreteRefill, discreteTake, discreteTryConsume}
 use Rattle.bucket_bytes.specs.ByteBucket.{byteRefill, byteTake, byteTryConsume}
-use Rattle.table.specs.Table.{look, store, erase, retain, removeAt, leastFrom}
+use Rattle.table.specs.Table.{look, store, erase, retain, removeAt, minimumFrom}
 use Rattle.peer_settings.specs.declared.config.PeerMessagePolicyConfig.{PeerMessagePolicyConfig}
 use Rattle.peer_state.specs.Entry.{windowExpire, windowCounted, entryNew, entryBan, entryUsed}
 use Rattle.peer_state.specs.Ingress.{tryReserve, inFlight}
@@ -38,10 +38,10 @@ from peer = record { peer = peer; size = 1; now = 5 }
 
 -- a ban of no duration is over at once, and the next message begins a new life with full buckets
 pub new-lives-by-bans : admitted (strict 0 2) (inFlight 0 0) [] (from 2 ∷ from 2 ∷ from 2 ∷ from 2 ∷ from 2 ∷ from 2 ∷ []) ≡ allow ∷ allow ∷ ban ∷ allow ∷ allow ∷ ban ∷ gives (2 ∷ []) ∷ []
-unfolding peersOf admitted amountOf value saturated discreteRefill discreteTake discreteTryConsume byteRefill byteTake byteTryConsume look store erase retain removeAt leastFrom windowExpire windowCounted entryNew entryBan entryUsed tryReserve takeMessage takeBytes violated decision evict roomMade makeRoom admit carriedOut entryForUpdate
+unfolding peersOf admitted amountOf value saturated discreteRefill discreteTake discreteTryConsume byteRefill byteTake byteTryConsume look store erase retain removeAt minimumFrom windowExpire windowCounted entryNew entryBan entryUsed tryReserve takeMessage takeBytes violated decision evict roomMade makeRoom admit carriedOut entryForUpdate
 new-lives-by-bans = refl
 
 -- in a table of one row two peers that take turns evict each other, and each message begins a new life
 pub new-lives-by-eviction : admitted (strict 100 1) (inFlight 0 0) [] (from 2 ∷ from 3 ∷ from 2 ∷ from 3 ∷ from 2 ∷ from 3 ∷ []) ≡ allow ∷ allow ∷ allow ∷ allow ∷ allow ∷ allow ∷ gives (3 ∷ []) ∷ []
-unfolding peersOf admitted amountOf value saturated discreteRefill discreteTake discreteTryConsume byteRefill byteTake byteTryConsume look store erase retain removeAt leastFrom windowExpire windowCounted entryNew entryBan entryUsed tryReserve takeMessage takeBytes violated decision evict roomMade makeRoom admit carriedOut entryForUpdate
+unfolding peersOf admitted amountOf value saturated discreteRefill discreteTake discreteTryConsume byteRefill byteTake byteTryConsume look store erase retain removeAt minimumFrom windowExpire windowCounted entryNew entryBan entryUsed tryReserve takeMessage takeBytes violated decision evict roomMade makeRoom admit carriedOut entryForUpdate
 new-lives-by-eviction = refl

@@ -8,7 +8,7 @@ use lib.ListN.{take}
 use Rattle.lent_bytes.specs.LentBytes.{Bytes}
 use Rattle.refusal.specs.Refusal.{Said}
 use Rattle.peer_message_policy.specs.Policy.{sound}
-use Rattle.peer_runs.specs.Runs.{Call, State, rowsIn, Step, Fits}
+use Rattle.peer_runs.specs.Runs.{Call, State, rowsIn, Step, CallFits}
 use Rattle.snapshot.specs.declared.answer.Written.{Written}
 use Rattle.snapshot.specs.declared.answer.Written.the-variants as Written
 use Rattle.snapshot.specs.Snapshot.{WriteMeets}
@@ -26,7 +26,7 @@ pub record Alike (s t : State) : Type 0 where
 pub data Calls : State → List Call → List Said → State → Type 0 where
   done : {s : State} → Calls s [] [] s
   next : {s : State} {calls : List Call} {saids : List Said} {u : State} (call : Call) (said : Said) (t : State)
-      → Fits call → Step s call said t → Calls t calls saids u → Calls s (call ∷ calls) (said ∷ saids) u
+      → CallFits call → Step s call said t → Calls t calls saids u → Calls s (call ∷ calls) (said ∷ saids) u
 
 -- a snapshot of either is the same
 pub record WrittenAlike (s t : State) : Type 0 where

@@ -17,7 +17,7 @@ use Rattle.peer_message_policy.specs.declared.answer.Made.the-variants as Made
 use Rattle.peer_message_policy.specs.Policy.{sound}
 use Rattle.peer_message_policy.specs.Calls.{changedRows}
 use Rattle.peer_laws.specs.Fits.{PolicyFits}
-use Rattle.peer_runs.specs.Runs.{Call, State, rowsIn, Step, Fits}
+use Rattle.peer_runs.specs.Runs.{Call, State, rowsIn, Step, CallFits}
 use Rattle.peer_runs.specs.Effects.{Effect, effectOf, CameTo}
 use Rattle.peer_runs.specs.EffectLaws.{step-effect}
 use Rattle.snapshot_settings.specs.Settings.{settingsBytes}
@@ -33,7 +33,7 @@ use Rattle.snapshot_laws.specs.RoundTripLaws.{wrote, front-is, written-r
 -- ════ Calls ════
 
 -- a call says the same on both and leaves them alike
-pub step-alike : (s t : State) → Alike s t → (call : Call) → Fits call → (said other : Said) (u v : State) → Step s call said u → Step t call other v
+pub step-alike : (s t : State) → Alike s t → (call : Call) → CallFits call → (said other : Said) (u v : State) → Step s call said u → Step t call other v
     → (said ≡ other) × Alike u v
 step-alike s t a call fits said other u v one two =
     let x : CameTo s (effectOf call (s .policy) (rowsIn s)) said u = step-effect s (a .first-sound) (a .first-bytes) said u call fits one in

@@ -4,7 +4,7 @@ pub mod TableLaws
 pub mod LookLaws
 pub mod RetainLaws
 pub mod PlaceLaws
-pub mod LeastLaws
+pub mod MinimumLaws
 pub mod Memory
 pub mod PutLaws
 pub mod MemoryLaws

@@ -18,9 +18,9 @@ changedRows rs same = rs
 changedRows rs (become xs) = xs
 
 -- how many rows there are after a change
-abbrev pub rowsAfter : {A : Type 0} → ℕ → Change A → ℕ
-rowsAfter n same = n
-rowsAfter n (become rs) = length rs
+abbrev pub countAfter : {A : Type 0} → ℕ → Change A → ℕ
+countAfter n same = n
+countAfter n (become rs) = length rs
 
 -- lent memory that held n rows, after a change: every byte of it
 abbrev pub Memory : {A : Type 0} → Layout A → List ℕ → List ℕ → ℕ → Change A → Type 0

@@ -81,6 +81,6 @@ better (best j n) i (some m) = cond (ltb m n) (best i m) (best j n)
 
 module _ {A : Type 0} where
   -- the first row with the least measure among those that have one, the rows counted from i
-  unfoldable pub leastFrom : (Row A → Option ℕ) → Best → ℕ → List (Row A) → Best
-  leastFrom measure b i [] = b
-  leastFrom measure b i (r ∷ rs) = leastFrom measure (better b i (measure r)) (i + 1) rs
+  unfoldable pub minimumFrom : (Row A → Option ℕ) → Best → ℕ → List (Row A) → Best
+  minimumFrom measure b i [] = b
+  minimumFrom measure b i (r ∷ rs) = minimumFrom measure (better b i (measure r)) (i + 1) rs

@@ -1,5 +1,5 @@
 -- Laws of a table's rows: when they are sound, and that they stay so. What is found after a change is in `LookLaws`, what a retain
--- leaves in `RetainLaws`, places in `PlaceLaws`, the least row in `LeastLaws`. In all of them the i-th row is `getD rs i d`, with any
+-- leaves in `RetainLaws`, places in `PlaceLaws`, the least row in `MinimumLaws`. In all of them the i-th row is `getD rs i d`, with any
 -- row d. In order: tests; the first row; the row at an index; rows taken out; soundness kept. Assumes nothing.
 use mathlib.Core.Bool.{Bool, true, false, _&&_}
 use mathlib.Core.Path.{_≡_, refl}

@@ -8,7 +8,7 @@ use lib.ListN.{length}
 use Rattle.lent_bytes.specs.LentBytes.{Bytes}
 use Rattle.table.specs.Table.{Row, every, ascending}
 use Rattle.table.specs.Memory.{Layout, rows}
-use Rattle.table.specs.Outcome.{Change, same, become, rowsAfter}
+use Rattle.table.specs.Outcome.{Change, same, become, countAfter}
 
 module _ {A : Type 0} (L : Layout A) where
   -- a key of the width that the layout says
@@ -48,6 +48,6 @@ module _ {A : Type 0} (L : Layout A) where
 
     -- what a change of n rows in memory leaves: memory that still holds its rows as it should, of the same length, and bytes
     pub record LentKept (s t : List ℕ) (n : ℕ) (change : Change A) : Type 0 where
-      pub holds : LentHolds t (rowsAfter n change)
+      pub holds : LentHolds t (countAfter n change)
       pub same-length : length t ≡ length s
       pub holds-bytes : Bytes t

@@ -16,7 +16,7 @@ use Rattle.lent_bytes.specs.LentBytesLaws.{length-zeros, Bytes-nil, Bytes-appen
 use Rattle.pubkey.specs.Order.{compareBytes}
 use Rattle.table.specs.Table.{Row, rowUnder, every, ascending, store}
 use Rattle.table.specs.Memory.{Layout, rowOf, rows, rowBytes, tableBytes, laid}
-use Rattle.table.specs.Outcome.{Change, same, become, Memory, changedRows, rowsAfter}
+use Rattle.table.specs.Outcome.{Change, same, become, Memory, changedRows, countAfter}
 use Rattle.table.specs.TableLaws.{by-answer, every-store, ascending-store, Sub, done, keep, leave, sub-every, sub-ascending, sub-length}
 use Rattle.table.specs.MemoryLaws.{length-rows, bytes-used}
 use Rattle.table_laws.specs.Words.{Numbers}
@@ -190,6 +190,6 @@ module _ {A : Type 0} {L : Layout A} (enc : Encodes L) (rule : Row A → Bool) (
 
 -- the rows after a change are what the change says
 pub change-rows : {A : Type 0} (L : Layout A) (s t : List ℕ) (n : ℕ) (change : Change A) → Memory L s t n change
-    → rows L t (rowsAfter n change) ≡ changedRows (rows L s n) change
+    → rows L t (countAfter n change) ≡ changedRows (rows L s n) change
 change-rows L s t n same m = ap (λ (x : List ℕ). rows L x n) m
 change-rows L s t n (become xs) m = m .reads

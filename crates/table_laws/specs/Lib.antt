@@ -6,7 +6,7 @@ pub mod Words
 pub mod WordsLaws
 pub mod ChangeLaws
 pub mod KeepLaws
-pub mod LeastRowsLaws
+pub mod MinimumRowsLaws
 pub mod RankLaws
 pub mod Lent
 pub mod Private

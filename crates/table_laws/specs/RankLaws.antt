@@ -1,5 +1,5 @@
 -- Measures by several numbers, the first the most important: one number that is ordered as they are, over any base above those that come
--- later. So `leastFrom` serves an order by (banned, score, last used). Assumes nothing.
+-- later. So `minimumFrom` serves an order by (banned, score, last used). Assumes nothing.
 use mathlib.Core.Bool.{_&&_, _||_}
 use mathlib.Core.Logic.{⊎-elim}
 use mathlib.Core.Path.{_≡_, sym, ap, _∙_}

@@ -85,7 +85,7 @@ settings-fit line =
 
 module _ (c : PeerMessagePolicyConfig) (config : ConfigFits c) (i : FiberIngressBudget) (load : LoadFits i) where
   abbrev RoomFits : Reservation → Type 0
-  RoomFits (Reservation.Left after) = LoadFits after
+  RoomFits (Reservation.Reserved after) = LoadFits after
   RoomFits Reservation.NoSlot = Unit {0}
   RoomFits (Reservation.BytesShort k) = Unit {0}
   RoomFits Reservation.Overflow = Unit {0}
@@ -118,7 +118,7 @@ module _ (c : PeerMessagePolicyConfig) (config : ConfigFits c) (i : FiberIngress
   DecisionFits d = LoadFits (d .ingress)
 
   ceilingDecides-fits : (e charged : PeerMessagePolicyEntry) (room : Reservation) → RoomFits room → DecisionFits (ceilingDecides i e charged room)
-  ceilingDecides-fits e charged (Reservation.Left after) h = h
+  ceilingDecides-fits e charged (Reservation.Reserved after) h = h
   ceilingDecides-fits e charged Reservation.NoSlot h = load
   ceilingDecides-fits e charged (Reservation.BytesShort k) h = load
   ceilingDecides-fits e charged Reservation.Overflow h = load

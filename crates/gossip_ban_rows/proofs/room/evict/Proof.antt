@@ -4,7 +4,7 @@ use native.Mathlib.Omega.{arith}
 use Rattle.table.specs.Memory.{rows}
 use Rattle.table.specs.MemoryLaws.{length-rows}
 use Rattle.table_laws.specs.ChangeLaws.{holds-same}
-use Rattle.table_laws.specs.LeastRowsLaws.{found-inside}
+use Rattle.table_laws.specs.MinimumRowsLaws.{found-inside}
 use Rattle.gossip_ban_rows.specs.Rows.{banLayout}
 use Rattle.gossip_ban_rows.specs.Room.{evictionRank}
 use Rattle.gossip_ban_rows.specs.RoomLaws.{evict-found, length-evict}

@@ -6,7 +6,7 @@ use Prim.Native.Nat.{_-_, _≤_, _<_}
 use native.Mathlib.Omega.{arith}
 use lib.Dec.{ltb}
 use Rattle.table.specs.Table.{Row}
-use Rattle.table_laws.specs.LeastRowsLaws.{measuredAt, FirstSo, search-begins, search-goes-on, search-ends}
+use Rattle.table_laws.specs.MinimumRowsLaws.{measuredAt, FirstSo, search-begins, search-goes-on, search-ends}
 use Rattle.gossip_ban_rows.specs.declared.entry.GossipBanEntry.{GossipBanEntry}
 use Rattle.gossip_ban_rows.specs.Rows.{banLayout}
 use Rattle.gossip_ban_rows.specs.Room.{rank}

@@ -5,16 +5,16 @@ use Prim.Native.Nat.{_-_, _≤_}
 use native.Mathlib.Omega.{arith}
 use borrow.Author.Needs.{needs}
 use lib.ListN.{drop}
-use Rattle.table.specs.Table.{nothing, leastFrom}
+use Rattle.table.specs.Table.{nothing, minimumFrom}
 use Rattle.table.specs.Memory.{rows}
 use Rattle.peer_rows.specs.Rows.{peerLayout}
 use Rattle.peer_table.specs.Private.{bestOf, measureOf, measureBy}
-use Rattle.table_laws.specs.LeastRowsLaws.{first-ends, first-goes-on}
+use Rattle.table_laws.specs.MinimumRowsLaws.{first-ends, first-goes-on}
 use Rattle.peer_table.proofs.first.find_first.Statement.{statement}
 use Rattle.peer_table.proofs.first.find_first.Tie as tie
 
 abbrev Inv-loop : tie.InvT-loop
-Inv-loop table count banned found₀ i₀ found i = (i ≤ count) × (leastFrom (measureBy banned) nothing 0 (rows peerLayout table count) ≡ leastFrom (measureBy banned) (bestOf found) i (drop i (rows peerLayout table count)))
+Inv-loop table count banned found₀ i₀ found i = (i ≤ count) × (minimumFrom (measureBy banned) nothing 0 (rows peerLayout table count) ≡ minimumFrom (measureBy banned) (bestOf found) i (drop i (rows peerLayout table count)))
 
 abbrev μ-loop : tie.MeasureT-loop
 μ-loop table count banned found₀ i₀ found i = count - i

@@ -6,7 +6,7 @@ use Rattle.table.specs.Memory.{rows}
 use Rattle.peer_rows.specs.Rows.{peerLayout}
 use Rattle.peer_table.specs.Private.{bestOf, measureBy}
 use Rattle.peer_table.specs.RoomLaws.{evict-ordinary, evict-banned, evict-nobody}
-use Rattle.table_laws.specs.LeastRowsLaws.{found-inside}
+use Rattle.table_laws.specs.MinimumRowsLaws.{found-inside}
 use Rattle.table_laws.specs.RoomLaws.{evicted-row, left-alone}
 use Rattle.peer_rows.specs.RowsLaws.{peer-faithful}
 use borrow.Author.Needs.{needs}

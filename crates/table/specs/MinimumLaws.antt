@@ -11,7 +11,7 @@ use lib.Dec.{ltb}
 use lib.ListN.{length, drop, getD, drop-of-length-le}
 use lib.Seq.{drop-cons}
 use Rattle.truths.specs.TruthLaws.{by-test}
-use Rattle.table.specs.Table.{Row, Best, nothing, best, better, leastFrom}
+use Rattle.table.specs.Table.{Row, Best, nothing, best, better, minimumFrom}
 use Rattle.table.specs.LookLaws.{some-is-not-none}
 
 -- ════ Measures at indexes ════
@@ -73,24 +73,24 @@ module _ {A : Type 0} (measure : Row A → Option ℕ) where
 
   -- a first row is taken in
   least-cons : (b : Best) (i : ℕ) (r : Row A) (rs : List (Row A))
-      → leastFrom measure b i (r ∷ rs) ≡ leastFrom measure (better b i (measure r)) (i + 1) rs
-  unfolding leastFrom
+      → minimumFrom measure b i (r ∷ rs) ≡ minimumFrom measure (better b i (measure r)) (i + 1) rs
+  unfolding minimumFrom
   least-cons b i r rs = refl
 
   module _ (rs : List (Row A)) (i : ℕ) (b : Best) where
     -- the loop ends: no row is left
-    pub least-ends : length rs ≤ i → leastFrom measure nothing 0 rs ≡ leastFrom measure b i (drop i rs) → leastFrom measure nothing 0 rs ≡ b
-    unfolding leastFrom
+    pub least-ends : length rs ≤ i → minimumFrom measure nothing 0 rs ≡ minimumFrom measure b i (drop i rs) → minimumFrom measure nothing 0 rs ≡ b
+    unfolding minimumFrom
     least-ends h from = from ∙ rw (drop-of-length-le rs h)
 
     module _ (d : Row A) (inside : i < length rs) where
       -- the i-th row is taken in
-      pub least-from : leastFrom measure b i (drop i rs) ≡ leastFrom measure (better b i (measure (getD rs i d))) (i + 1) (drop (i + 1) rs)
+      pub least-from : minimumFrom measure b i (drop i rs) ≡ minimumFrom measure (better b i (measure (getD rs i d))) (i + 1) (drop (i + 1) rs)
       least-from = rw (drop-cons rs i d) (least-cons b i (getD rs i d) (drop (suc i) rs) ∙ rw (add-one i))
 
       -- the i-th row is taken in: the invariant at the next
-      pub least-goes-on : leastFrom measure nothing 0 rs ≡ leastFrom measure b i (drop i rs)
-          → leastFrom measure nothing 0 rs ≡ leastFrom measure (better b i (measure (getD rs i d))) (i + 1) (drop (i + 1) rs)
+      pub least-goes-on : minimumFrom measure nothing 0 rs ≡ minimumFrom measure b i (drop i rs)
+          → minimumFrom measure nothing 0 rs ≡ minimumFrom measure (better b i (measure (getD rs i d))) (i + 1) (drop (i + 1) rs)
       least-goes-on from = from ∙ least-from
 
   module _ (rs : List (Row A)) (d : Row A) where
@@ -102,8 +102,8 @@ module _ {A : Type 0} (measure : Row A → Option ℕ) where
 
     -- the search goes on rightly from what was right before the index i
     right-after : (left i : ℕ) (b : Best) → i + left ≡ length rs → RightBefore measureAt i b
-        → RightBefore measureAt (length rs) (leastFrom measure b i (drop i rs))
-    unfolding leastFrom
+        → RightBefore measureAt (length rs) (minimumFrom measure b i (drop i rs))
+    unfolding minimumFrom
     right-after zero i b h right =
         let e : i ≡ length rs = omega arith in
         let l : length rs ≤ i = omega arith in
@@ -113,13 +113,13 @@ module _ {A : Type 0} (measure : Row A → Option ℕ) where
         rw (least-from rs i b d inside) (right-after left (i + 1) (better b i (measureAt i)) (omega arith) (right-better measureAt i b right))
 
     -- what the search finds is right
-    pub least-right : RightBefore measureAt (length rs) (leastFrom measure nothing 0 rs)
+    pub least-right : RightBefore measureAt (length rs) (minimumFrom measure nothing 0 rs)
     least-right = right-after (length rs) 0 nothing (omega arith) (λ q h. absurd (omega arith))
 
     -- the row that is found is the first with the least measure
-    pub least-found : {j n : ℕ} → leastFrom measure nothing 0 rs ≡ best j n → LeastBefore measureAt (length rs) j n
+    pub least-found : {j n : ℕ} → minimumFrom measure nothing 0 rs ≡ best j n → LeastBefore measureAt (length rs) j n
     least-found h = rw h at least-right
 
     -- where nothing is found no row has a measure
-    pub least-nothing : leastFrom measure nothing 0 rs ≡ nothing → (q : ℕ) → q < length rs → measure (getD rs q d) ≡ none
+    pub least-nothing : minimumFrom measure nothing 0 rs ≡ nothing → (q : ℕ) → q < length rs → measure (getD rs q d) ≡ none
     least-nothing h = rw h at least-right
