@@ -15,6 +15,7 @@ use super::judge;
 use peer_rows::row::ROW_WIDTH;
 use peer_settings::config::PeerMessagePolicyConfig;
 use peer_state::ingress::FiberIngressBudget;
+use pubkey::PUBKEY_SIZE;
 use pubkey::Pubkey;
 use table::seek::Seek;
 
@@ -150,7 +151,7 @@ impl PeerMessagePolicy {
     pub fn release_ingress(self, bytes: u64) -> Changed
         ensures { λ r. ⌜ ReleaseIngressMeets self bytes r ⌝ }
     {
-        if !judge::is_sound(self) {
+        if !self.is_sound() {
             return Changed::Refused(refusal::UNSOUND);
         }
         let load = self.ingress;
@@ -162,7 +163,7 @@ impl PeerMessagePolicy {
     pub fn in_flight(self) -> InFlight
         ensures { λ r. ⌜ InFlightMeets self r ⌝ }
     {
-        if !judge::is_sound(self) {
+        if !self.is_sound() {
             return InFlight::Refused(refusal::UNSOUND);
         }
         let ingress = self.ingress;
@@ -187,13 +188,35 @@ impl PeerMessagePolicy {
     pub fn is_sound(self) -> bool
         ensures { λ r. ⌜ r ≡ policySound self ⌝ }
     {
-        judge::is_sound(self)
+        let config = self.config;
+        let ingress = self.ingress;
+        if config.max_tracked_peers > PeerMessagePolicyConfig::MAX_ROWS {
+            return false;
+        }
+        if self.rows > config.limit() {
+            return false;
+        }
+        if config.is_unlimited() {
+            return true;
+        }
+        if ingress.in_flight_messages > config.max_in_flight_messages {
+            return false;
+        }
+        ingress.in_flight_bytes <= config.max_in_flight_bytes
     }
 
-    // Whether record and table are sound: the calls refuse with 3 just where they are not.
+    // Whether record and table are sound: the calls refuse with 3 just where they are not. The same walk as theirs, with any peer.
     pub fn is_sound_in(self, table: &[u8]) -> bool
         ensures { λ r. ⌜ r ≡ sound self (now (table .entry)) ⌝ }
     {
-        judge::is_sound_in(self, table)
+        let any = Pubkey {
+            bytes: [0; PUBKEY_SIZE],
+        };
+        let found = judge::sought(self, table, any);
+        match found {
+            Seek::Unsound => false,
+            Seek::At(_) => true,
+            Seek::Gap(_) => true,
+        }
     }
 }

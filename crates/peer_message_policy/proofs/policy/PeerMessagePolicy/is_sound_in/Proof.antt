@@ -1,9 +1,9 @@
--- `judge::is_sound_in` meets its contract: the walk says Unsound just where record and memory are. Assumes nothing.
+-- `policy::PeerMessagePolicy::is_sound_in` meets its contract: the walk says Unsound just where record and memory are. Assumes nothing.
 use mathlib.Core.Path.{sym, _∙_}
 use Rattle.peer_message_policy.proofs.Judged.{sought-unsound, sought-known, sought-unknown}
 use borrow.Author.Needs.{needs}
-use Rattle.peer_message_policy.proofs.judge.is_sound_in.Statement.{statement}
-use Rattle.peer_message_policy.proofs.judge.is_sound_in.Tie as tie
+use Rattle.peer_message_policy.proofs.policy.PeerMessagePolicy.is_sound_in.Statement.{statement}
+use Rattle.peer_message_policy.proofs.policy.PeerMessagePolicy.is_sound_in.Tie as tie
 
 sought-requires : tie.Need-sought-requires
 sought-requires c κs = search needs
