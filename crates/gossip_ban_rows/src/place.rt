@@ -5,7 +5,7 @@ ghost use lib.ListN.{length};
 ghost use Rattle.table.specs.Table.{removeAt};
 ghost use Rattle.table.specs.Table.{store as stored};
 ghost use Rattle.table.specs.Memory.{rows, Holds};
-ghost use Rattle.table_laws.specs.ChangeLaws.{over};
+ghost use Rattle.table_laws.specs.Private.{over};
 ghost use Rattle.table_laws.specs.Private.{Counted};
 ghost use Rattle.gossip_ban_rows.specs.Rows.{rowWidth, banLayout};
 use crate::entry::GossipBanEntry;

@@ -9,7 +9,8 @@ use Rattle.table.specs.Table.{store, erase, removeAt}
 use Rattle.table.specs.Memory.{rows, Holds}
 use Rattle.table.specs.TableLaws.{Sub, sub-length}
 use Rattle.table.specs.MemoryLaws.{AllFit, length-rows, fit-rows, sub-fit}
-use Rattle.table_laws.specs.ChangeLaws.{over, stored-at, erased-at}
+use Rattle.table_laws.specs.ChangeLaws.{stored-at, erased-at}
+use Rattle.table_laws.specs.Private.{over}
 use Rattle.table_laws.specs.Private.{Counted}
 use Rattle.table_laws.specs.StoreLaws.{counted-then}
 use Rattle.gossip_ban_rows.specs.declared.entry.GossipBanEntry.{GossipBanEntry}

@@ -14,7 +14,8 @@ use Rattle.table.specs.Table.{look, store}
 use Rattle.table.specs.Memory.{rowOf, rows, Holds}
 use Rattle.table.specs.MemoryLaws.{length-rows}
 use Rattle.table.specs.Outcome.{same, become, Memory, Outcome}
-use Rattle.table_laws.specs.ChangeLaws.{over, stored-at}
+use Rattle.table_laws.specs.ChangeLaws.{stored-at}
+use Rattle.table_laws.specs.Private.{over}
 use Rattle.table_laws.specs.LentLaws.{own-sound, rows-fit, limit-fits, known-look, unknown-look}
 use Rattle.table_laws.specs.Private.{Counted}
 use Rattle.table_laws.specs.StoreLaws.{counted-then}

@@ -4,7 +4,7 @@ ghost use lib.ListN.{length};
 ghost use Rattle.pubkey.specs.Order.{limiterKeyBytes};
 ghost use Rattle.table.specs.Table.{store as stored};
 ghost use Rattle.table.specs.Memory.{rows, Holds};
-ghost use Rattle.table_laws.specs.ChangeLaws.{over};
+ghost use Rattle.table_laws.specs.Private.{over};
 ghost use Rattle.table_laws.specs.Private.{Counted};
 ghost use Rattle.gossip_limiter_rows.specs.Rows.{rowWidth, limiterLayout};
 use crate::entry::ChannelUpdateLimiterEntry;

@@ -5,7 +5,7 @@ ghost use lib.ListN.{length};
 ghost use Rattle.table.specs.Table.{rowUnder, removeAt};
 ghost use Rattle.table.specs.Private.{insertAt};
 ghost use Rattle.table.specs.Memory.{rows, Holds};
-ghost use Rattle.table_laws.specs.ChangeLaws.{over};
+ghost use Rattle.table_laws.specs.Private.{over};
 ghost use Rattle.gossip_outbound_rows.specs.Rows.{rowWidth, outboundLayout};
 use crate::entry::OutboundEntry;
 use crate::row::KEY_WIDTH;

@@ -20,7 +20,8 @@ use Rattle.table.specs.MemoryLaws.{length-rows}
 use Rattle.table.specs.PlaceLaws.{place-is-sound, gap-erase}
 use Rattle.table_laws.specs.Private as lent
 use Rattle.table_laws.specs.LentLaws.{sought-unsound, sought-known, sought-unknown, own-sound, limit-fits, known-inside, known-rule, known-look, unknown-within, unknown-look}
-use Rattle.table_laws.specs.ChangeLaws.{over, holds-same, stored-at, stored-gap, erased-at, unchanged}
+use Rattle.table_laws.specs.ChangeLaws.{holds-same, stored-at, stored-gap, erased-at, unchanged}
+use Rattle.table_laws.specs.Private.{over}
 use Rattle.table_laws.specs.Private.{Counted}
 use Rattle.bucket_bytes.specs.declared.bytes.ByteTokenBucket.{ByteTokenBucket}
 use Rattle.bucket_terms.specs.Answers.{told}

@@ -14,7 +14,8 @@ use Rattle.table.specs.Table.{rowUnder, store, erase, removeAt}
 use Rattle.table.specs.Private.{insertAt}
 use Rattle.table.specs.Memory.{rows, Holds}
 use Rattle.table.specs.MemoryLaws.{AllFit, sub-fit, length-rows, fit-rows, holds, put-clear}
-use Rattle.table_laws.specs.ChangeLaws.{over as rows-over, holds-same, gap-within, stored-at, stored-gap, erased-at, store-again}
+use Rattle.table_laws.specs.ChangeLaws.{holds-same, gap-within, stored-at, stored-gap, erased-at, store-again}
+use Rattle.table_laws.specs.Private.{over as rows-over}
 use Rattle.table_laws.specs.RoomLaws.{changed-again, left-alone as alone}
 use Rattle.table_laws.specs.LentLaws.{long-enough, too-short}
 use Rattle.peer_settings.specs.declared.config.PeerMessagePolicyConfig.{PeerMessagePolicyConfig}

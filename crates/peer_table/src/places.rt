@@ -5,7 +5,7 @@ ghost use Rattle.table.specs.Table.{rowUnder, removeAt};
 ghost use Rattle.table.specs.Private.{insertAt};
 ghost use Rattle.table.specs.Table.{store as stored};
 ghost use Rattle.table.specs.Memory.{rows, Holds};
-ghost use Rattle.table_laws.specs.ChangeLaws.{over};
+ghost use Rattle.table_laws.specs.Private.{over};
 ghost use Rattle.table_laws.specs.Private.{Counted};
 ghost use Rattle.peer_rows.specs.Rows.{rowWidth, peerLayout};
 use peer_rows::row::KEY_WIDTH;

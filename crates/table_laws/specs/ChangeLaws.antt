@@ -21,16 +21,11 @@ use Rattle.table.specs.MemoryLaws.{put-remove, put-remove-run, put-insert, put-
 use Rattle.table_laws.specs.Raw.{rawLayout, mapEntries}
 use Rattle.table_laws.specs.RawLaws.{length-map, store-map, rawRows, rows-raw, holds-raw}
 use Rattle.table_laws.specs.WalkLaws.{row-in}
-use Rattle.table_laws.specs.Private.{Counted, RawStored}
+use Rattle.table_laws.specs.Private.{over, Counted, RawStored}
 
 -- memory that holds rows, by an equation of the rows
 pub holds-same : {A : Type 0} {L : Layout A} {s t : List ℕ} {n : ℕ} {rs qs : List (Row A)} → rs ≡ qs → Holds L s t n rs → Holds L s t n qs
 holds-same {A} {L} {s} {t} {n} e h = subst (λ (l : List (Row A)). Holds L s t n l) e h
-
--- the rows with an entry written over that of the i-th, whose key stays
-abbrev pub over : {A : Type 0} → Layout A → List ℕ → ℕ → ℕ → A → List (Row A)
-over L s n i e =
-    take i (rows L s n) ++ (rowUnder (part s (L .width * i) (L .keyWidth)) e ∷ drop (i + 1) (rows L s n))
 
 module _ {A : Type 0} {L : Layout A} {Good : A → Type 0} (ok : Faithful L Good) where
   -- ════ Writes ════

@@ -1,13 +1,13 @@
 -- Private: cited by contracts inside the proved code alone; no entry point's contract rests on it. Definitions only.
 use mathlib.Core.Path.{_≡_}
 use mathlib.Core.Bool.{Bool, true, _&&_, cond}
-use mathlib.Core.List.{List}
+use mathlib.Core.List.{List, _∷_, _++_}
 use Prim.Native.Nat.{ℕ, _+_, _*_}
-use lib.ListN.{length}
+use lib.ListN.{length, take, drop}
 use Rattle.lent_bytes.specs.LentBytes.{part, put}
 use Rattle.table.specs.declared.seek.Seek.{Seek}
 use Rattle.table.specs.declared.seek.Seek.the-variants.{Unsound, At, Gap}
-use Rattle.table.specs.Table.{Row, store}
+use Rattle.table.specs.Table.{Row, rowUnder, store}
 use Rattle.table.specs.Private.{seek, placeFrom}
 use Rattle.table.specs.Memory.{Layout, rowBytes, rows, tableBytes, Holds}
 use Rattle.table_laws.specs.Raw.{rawLayout, mapRow}
@@ -62,6 +62,11 @@ module _ {A : Type 0} (L : Layout A) where
   abbrev pub RewritingStep : (Row A → Bool) → (A → A) → List ℕ → List ℕ → ℕ → ℕ → ℕ → Type 0
   RewritingStep test f before after from to next =
       KeepStep (test (rewritten f before from)) (rowBytes L (rewritten f before from)) before after to next
+
+-- the rows with an entry written over that of the i-th, whose key stays
+abbrev pub over : {A : Type 0} → Layout A → List ℕ → ℕ → ℕ → A → List (Row A)
+over L s n i e =
+    take i (rows L s n) ++ (rowUnder (part s (L .width * i) (L .keyWidth)) e ∷ drop (i + 1) (rows L s n))
 
 -- ════ Raw rows ════
 
