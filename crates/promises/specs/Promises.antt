@@ -1,7 +1,7 @@
 -- What the user was promised, stated of the calls themselves. A `Run` is a list of calls on lent memory, from a freshly made
 -- policy, each known by its contract alone; `logOf k run` is the list of Allows of peer k's present life. The definitions stand in
--- Runs (of peer_runs), Trails, Lives, RunLives and Held, those of snapshots in Alike (of snapshot_laws), the proofs in the modules that are named
--- here. `CoreLaws` states both bounds of lists of core calls, which `CoreRunLaws.runs-core` maps a run onto. That there is a run in which
+-- Runs (of peer_runs), Trails, Lives, RunLives, Held and Samples, those of snapshots in Alike (of snapshot_laws), the proofs in the
+-- modules that are named here. `CoreLaws` states both bounds of lists of core calls, which `CoreRunLaws.runs-core` maps a run onto. That there is a run in which
 -- `least` gives an Allow after an Allow is `ExampleLaws.a-run-exists`.
 use mathlib.Core.Path.{_≡_}
 use mathlib.Core.Bool.{true, cond}

@@ -1,4 +1,4 @@
--- Room for one row more in a table with a limit, as the Rust's maps make it. Definitions only; their laws are in `RoomLaws`.
+-- Room for one row more in a table with a limit, as the Rust's maps make it. Definitions only; their laws are in `RoomLaws` of table_laws.
 use mathlib.Core.Bool.{Bool, cond}
 use mathlib.Core.List.{List}
 use Prim.Native.Nat.{ℕ}

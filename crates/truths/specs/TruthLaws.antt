@@ -57,8 +57,3 @@ either P t first second = chosen P t (λ _. first) (λ _. second)
 pub same-choice : {A : Type 0} (t : Bool) {x x′ y y′ : A} → (t ≡ true → x ≡ x′) → (t ≡ false → y ≡ y′) → cond t x y ≡ cond t x′ y′
 same-choice true h k = h refl
 same-choice false h k = k refl
-
--- a function of a choice is a choice of the function's results
-pub through : {A B : Type 0} (f : A → B) (t : Bool) (x y : A) → f (cond t x y) ≡ cond t (f x) (f y)
-through f true x y = refl
-through f false x y = refl

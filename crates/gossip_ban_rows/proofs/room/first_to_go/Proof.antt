@@ -1,4 +1,4 @@
--- `gossip_ban_rows::room::first_to_go` meets its contract: the invariant is that of `LeastRows`, and that what was found is a row; the measure is how many are left. Assumes nothing.
+-- `gossip_ban_rows::room::first_to_go` meets its contract: the invariant is that of `MinimumRowsLaws` (of table_laws), and that what was found is a row; the measure is how many are left. Assumes nothing.
 use mathlib.Core.Bool.{Bool, true, false, cond}
 use Prim.Native.Nat.{ℕ}
 use mathlib.Core.Path.{_≡_}
