@@ -28,9 +28,10 @@ same-length c = search needs
 
 returns : tie.Need-returns
 returns c =
-    let a = c .before .before .before .before .before .before .before .before .before .args in
-    let good = c .before .before .before .before .before .before .before .before .before .good in
-    stored-under ban-faithful (a .table .now) _ (a .count) (c .before .before .store .result) (a .key .bytes) (a .e) (wordBytes (c .before .before .before .before .before .before .before .words-of .result)) (λ i. c .slice-known2 .given i .fits) (omega (arith, c .before .before .before .before .before .before .before .before .before .pre))
+    let begin = c .before .before .before .before .before .before .before .before .before in
+    let a = begin .args in
+    let good = begin .good in
+    stored-under ban-faithful (a .table .now) _ (a .count) (c .before .before .store .result) (a .key .bytes) (a .e) (wordBytes (c .before .before .before .before .before .before .before .words-of .result)) (λ i. c .slice-known2 .given i .fits) (omega (arith, begin .pre))
     (omega (arith, good), (omega (arith, good), (omega (arith, good), (omega (arith, good), tt)))) (ap wordBytes (c .before .before .before .before .before .before .before .words-of .ensures)) (search needs) (c .before .before .store .ensures)
 
 pub store-spec : {M : Type 1} → statement M

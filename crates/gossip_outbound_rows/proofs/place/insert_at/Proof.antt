@@ -31,12 +31,13 @@ same-length c = search needs
 
 returns : tie.Need-returns
 returns c =
-    let a = c .before .before .before .before .before .before .before .before .before .args in
-    let good = c .before .before .before .before .before .before .before .before .before .good in
+    let begin = c .before .before .before .before .before .before .before .before .before in
+    let a = begin .args in
+    let good = begin .good in
     let k : length (a .key .bytes) ≡ 33 = search needs in
     let b : Bytes (a .key .bytes) = λ i. let h : Fits w8 (getD (a .key .bytes) i 0) = search needs in h .fits in
-    inserted outbound-faithful (a .table .now) _ (a .count) (λ i. c .before .before .before .before .before .before .before .before .slice-known .given i .fits) (omega (arith, c .before .before .before .before .before .before .before .before .before .pre)) (a .index) (a .key .bytes) (a .e)
-    (wordBytes (c .before .before .before .before .before .before .before .words-of .result)) (omega (arith, c .before .before .before .before .before .before .before .before .before .pre)) k b (omega (arith, good), (omega (arith, good), (omega (arith, good), (omega (arith, good), tt))))
+    inserted outbound-faithful (a .table .now) _ (a .count) (λ i. c .before .before .before .before .before .before .before .before .slice-known .given i .fits) (omega (arith, begin .pre)) (a .index) (a .key .bytes) (a .e)
+    (wordBytes (c .before .before .before .before .before .before .before .words-of .result)) (omega (arith, begin .pre)) k b (omega (arith, good), (omega (arith, good), (omega (arith, good), (omega (arith, good), tt))))
     (ap wordBytes (c .before .before .before .before .before .before .before .words-of .ensures)) (c .before .before .insert-row .ensures)
 
 pub insert-at-spec : {M : Type 1} → statement M

@@ -28,10 +28,11 @@ same-length c = search needs
 
 returns : tie.Need-returns
 returns c =
-    let a = c .before .before .before .before .before .before .before .before .before .args in
+    let begin = c .before .before .before .before .before .before .before .before .before in
+    let a = begin .args in
     let k : length (a .key .bytes) ≡ 33 = search needs in
     stored-under peer-faithful (a .table .now) _ (a .count) (c .before .before .store .result) (a .key .bytes) (a .e) (wordBytes (c .before .before .before .before .before .before .before .words-of .result))
-    (λ i. c .slice-known2 .given i .fits) (omega (arith, c .before .before .before .before .before .before .before .before .before .pre, c .before .before .store .kept)) (omega (arith, c .before .before .before .before .before .before .before .before .before .good)) (ap wordBytes (c .before .before .before .before .before .before .before .words-of .ensures)) k (c .before .before .store .ensures)
+    (λ i. c .slice-known2 .given i .fits) (omega (arith, begin .pre, c .before .before .store .kept)) (omega (arith, begin .good)) (ap wordBytes (c .before .before .before .before .before .before .before .words-of .ensures)) k (c .before .before .store .ensures)
 
 pub store-spec : {M : Type 1} → statement M
 store-spec =
