@@ -13,27 +13,31 @@ static uint64_t longs[UGLEZMIR_POLICY_LONGS];
 static uint32_t shorts[UGLEZMIR_POLICY_SHORTS];
 static uint8_t table[PEERS * UGLEZMIR_PEER_ROW];
 
-static const char *word(uint32_t answer)
+/* What an operator says on the phone: messages and bytes are what the peer sent, the ceiling is the load of all. */
+static const char *word(uint64_t cause)
 {
-    switch (answer) {
-    case UGLEZMIR_ALLOW: return "Allow";
-    case UGLEZMIR_DISCONNECT: return "Disconnect";
-    case UGLEZMIR_BAN: return "Ban";
-    case UGLEZMIR_DONE: return "Released";
-    default: return "refusal";
+    switch (cause) {
+    case UGLEZMIR_CAUSE_ALLOWED: return "Allow";
+    case UGLEZMIR_CAUSE_MESSAGES: return "Disconnect-messages";
+    case UGLEZMIR_CAUSE_BYTES: return "Disconnect-bytes";
+    case UGLEZMIR_CAUSE_SLOT:
+    case UGLEZMIR_CAUSE_CEILING_BYTES: return "Disconnect-ceiling";
+    default: return "Ban";
     }
 }
 
-static void tell(uint32_t answer)
+static void tell(const char *said)
 {
     uint64_t in_flight[2];
     uglezmir_in_flight(longs, shorts, in_flight);
-    printf("%s %" PRIu64 " %" PRIu64 " %" PRIu64 "\n", word(answer), in_flight[0], in_flight[1], longs[UGLEZMIR_POLICY_LONG_ROWS]);
+    printf("%s %" PRIu64 " %" PRIu64 " %" PRIu64 "\n", said, in_flight[0], in_flight[1], longs[UGLEZMIR_POLICY_LONG_ROWS]);
 }
 
-static uint32_t admit(const uint8_t peer[UGLEZMIR_PEER_KEY], uint64_t bytes, uint64_t now_ms)
+static void admit(const uint8_t peer[UGLEZMIR_PEER_KEY], uint64_t bytes, uint64_t now_ms)
 {
-    return uglezmir_admit(longs, shorts, table, sizeof table, peer, bytes, now_ms);
+    uint64_t cause[UGLEZMIR_CAUSE_WORDS];
+    uint32_t answer = uglezmir_admit_explained(longs, shorts, table, sizeof table, peer, bytes, now_ms, cause);
+    tell(answer < UGLEZMIR_FIRST_ANSWER ? "refusal" : word(cause[0]));
 }
 
 int main(void)
@@ -60,11 +64,12 @@ int main(void)
         return 1;
     }
 
-    tell(admit(peer, 300, 50));
-    tell(admit(peer, 300, 50));
-    tell(admit(peer, 1, 50));
-    tell(admit(peer, 1, 55));
-    tell(admit(peer, 1, 155));
-    tell(uglezmir_release_ingress(longs, shorts, 300));
+    admit(peer, 300, 50);
+    admit(peer, 300, 50);
+    admit(peer, 1, 50);
+    admit(peer, 1, 55);
+    admit(peer, 1, 155);
+    uint32_t released = uglezmir_release_ingress(longs, shorts, 300);
+    tell(released == UGLEZMIR_DONE ? "Released" : "refusal");
     return 0;
 }

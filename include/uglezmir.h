@@ -15,6 +15,7 @@
 /* How many words things cross in. A later request adds two to a policy's: name the number, don't write it. */
 #define UGLEZMIR_POLICY_LONGS 8
 #define UGLEZMIR_POLICY_SHORTS 4
+#define UGLEZMIR_CAUSE_WORDS 2
 #define UGLEZMIR_SETTINGS_LONGS 6
 #define UGLEZMIR_SETTINGS_SHORTS 3
 #define UGLEZMIR_LIMIT_WORDS 2
@@ -39,7 +40,7 @@
 #define UGLEZMIR_BAN_ROW 65
 #define UGLEZMIR_LIMITER_ROW 94
 #define UGLEZMIR_OUTBOUND_ROW 65
-#define UGLEZMIR_TRACE_LINE 64
+#define UGLEZMIR_TRACE_LINE 73
 #define UGLEZMIR_SNAPSHOT_WITHOUT_ROWS 120
 #define UGLEZMIR_MOST_ROWS 1024
 
@@ -63,6 +64,18 @@
 #define UGLEZMIR_NO 259
 #define UGLEZMIR_YES 260
 #define UGLEZMIR_DONE 261
+
+/* Causes: why a message is let in or not, a cause's first word. MESSAGES: the peer's message bucket is empty. BYTES: more than is left in the peer's
+ * byte bucket. SLOT: as many messages are in flight as the ceiling has slots. CEILING_BYTES: more than is left under the ceiling. LIVE_BAN: the peer
+ * is banned already. BAN_BEGUN: by this message. Where several limits would say no, the first in this order is named. The second word is by how much
+ * the limit ran short: 1 for MESSAGES and SLOT, bytes for BYTES and CEILING_BYTES, 0 for the others. */
+#define UGLEZMIR_CAUSE_ALLOWED 0
+#define UGLEZMIR_CAUSE_MESSAGES 1
+#define UGLEZMIR_CAUSE_BYTES 2
+#define UGLEZMIR_CAUSE_SLOT 3
+#define UGLEZMIR_CAUSE_CEILING_BYTES 4
+#define UGLEZMIR_CAUSE_LIVE_BAN 5
+#define UGLEZMIR_CAUSE_BAN_BEGUN 6
 
 /* A policy's words. The settings' own words are the first six and the first three of these. */
 #define UGLEZMIR_POLICY_LONG_INTERVAL_MS 0
@@ -216,10 +229,14 @@ extern "C" {
 /* Makes a policy of the words' settings, and zeroes the limit's rows. DONE, or 2, 1. */
 uint32_t uglezmir_new(uint64_t longs[UGLEZMIR_POLICY_LONGS], uint32_t shorts[UGLEZMIR_POLICY_SHORTS], uint8_t *table, size_t table_length);
 
-/* May this message in? ALLOW: it is in flight now; DISCONNECT: a limit or the ceiling is reached; BAN: the peer is banned, by this message or
+/* May this message in? ALLOW: it is in flight now; DISCONNECT: a bucket of the peer's or the ceiling ran short; BAN: the peer is banned, by this message or
  * already. Or 3, 4. */
 uint32_t uglezmir_admit(uint64_t longs[UGLEZMIR_POLICY_LONGS], uint32_t shorts[UGLEZMIR_POLICY_SHORTS], uint8_t *table, size_t table_length,
     const uint8_t peer[UGLEZMIR_PEER_KEY], uint64_t bytes, uint64_t now_ms);
+
+/* The same call and the same number; leaves in `cause` why, CAUSE_.., and by how much a limit ran short. On 3 and 4 both words stay. */
+uint32_t uglezmir_admit_explained(uint64_t longs[UGLEZMIR_POLICY_LONGS], uint32_t shorts[UGLEZMIR_POLICY_SHORTS], uint8_t *table,
+    size_t table_length, const uint8_t peer[UGLEZMIR_PEER_KEY], uint64_t bytes, uint64_t now_ms, uint64_t cause[UGLEZMIR_CAUSE_WORDS]);
 
 /* An invalid message came. YES where the peer is banned, by this message or already, else NO. Or 3. */
 uint32_t uglezmir_record_invalid(uint64_t longs[UGLEZMIR_POLICY_LONGS], uint32_t shorts[UGLEZMIR_POLICY_SHORTS], uint8_t *table,

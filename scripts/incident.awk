@@ -25,9 +25,10 @@ function event(who, says, messages, clock, x, colour) {
     colour = who == "02" ? "#2471a3" : who == "03" ? "#1e8449" : "#666"
     printf "<rect x=\"%d\" y=\"%d\" width=\"%d\" height=\"%d\" fill=\"#d6dbdf\"/>\n", x - 14, level(messages), 28, FLOOR - level(messages)
     if (says == "Allow") printf "<circle cx=\"%d\" cy=\"%d\" r=\"7\" fill=\"%s\"/>\n", x, level(messages), colour
-    if (says == "Disconnect") {
+    if (says ~ /^Disconnect/) {
         line(x - 7, level(messages) - 17, x + 7, level(messages) - 3, colour, "")
         line(x - 7, level(messages) - 3, x + 7, level(messages) - 17, colour, "")
+        text(x, level(messages) - 22, 8, "middle", colour, substr(says, length("Disconnect-") + 1))
     }
     text(x, FLOOR + 18, 12, "middle", colour, who == "" ? "done" : who)
     text(x, FLOOR + 36, 11, "middle", "#666", clock)

@@ -10,7 +10,9 @@ use Rattle.peer_message_policy.specs.declared.answer.InFlight.the-variants as I
 use Rattle.peer_message_policy.specs.declared.answer.HeldTime.{HeldTime}
 use Rattle.peer_message_policy.specs.declared.answer.HeldTime.the-variants as HeldTime
 use Rattle.peer_message_policy.specs.Calls.{NewMeets, AdmitMeets, RecordInvalidMeets, IsBannedMeets, OnDisconnectedMeets, ReleaseIngressMeets, InFlightMeets, HeldTimeMeets}
+use Rattle.peer_message_policy.specs.Merged.{merge}
 use Rattle.c_words.specs.Words.{configOf, policyOf, Leaves}
+use Rattle.c_words.specs.CauseWords.{causeLeft}
 use Rattle.c_words.specs.Answers.{madeNumbered, admissionNumbered, invalidNumbered, standingNumbered, changedNumbered}
 
 -- the key of these bytes
@@ -22,11 +24,17 @@ abbrev pub NewExported : List ℕ → List ℕ → List ℕ → ℕ → List ℕ
 NewExported longs shorts before r longs' shorts' after =
     Some (λ a. NewMeets (configOf longs shorts) before a after) (λ a. Leaves (madeNumbered a) longs shorts r longs' shorts')
 
--- admit: 256 for Allow, 257 for Disconnect, 258 for Ban
+-- admit, merged: 256 for Allow, 257 for Disconnect, 258 for Ban
 abbrev pub AdmitExported : List ℕ → List ℕ → List ℕ → List ℕ → ℕ → ℕ → ℕ → List ℕ → List ℕ → List ℕ → Type 0
 AdmitExported longs shorts before k size now r longs' shorts' after =
     Some (λ a. AdmitMeets (policyOf longs shorts) before (keyOf k) size now a after)
-    (λ a. Leaves (admissionNumbered a) longs shorts r longs' shorts')
+    (λ a. Leaves (admissionNumbered (merge a)) longs shorts r longs' shorts')
+
+-- the same, and the cause beside it; on a refusal what stood there stays
+abbrev pub AdmitExplainedExported : List ℕ → List ℕ → List ℕ → List ℕ → ℕ → ℕ → List ℕ → ℕ → List ℕ → List ℕ → List ℕ → List ℕ → Type 0
+AdmitExplainedExported longs shorts before k size now cause r longs' shorts' after cause' =
+    Some (λ a. AdmitMeets (policyOf longs shorts) before (keyOf k) size now a after)
+    (λ a. Leaves (admissionNumbered (merge a)) longs shorts r longs' shorts' × (cause' ≡ causeLeft (a .cause) cause))
 
 -- record_invalid: 260 for banned, 259 for noted
 abbrev pub RecordInvalidExported : List ℕ → List ℕ → List ℕ → List ℕ → ℕ → ℕ → List ℕ → List ℕ → List ℕ → Type 0

@@ -10,6 +10,7 @@ use Rattle.peer_message_policy.specs.declared.answer.HeldTime.{HeldTime}
 use Rattle.peer_message_policy.specs.declared.answer.HeldTime.the-variants as HeldTime
 use Rattle.peer_laws.specs.OneOutcomeLaws as Calls
 use Rattle.c_terms.specs.SomeLaws.{some-one, some-alone}
+use Rattle.peer_message_policy.specs.Merged.{merge}
 use Rattle.c_words.specs.Words.{configOf, policyOf}
 use Rattle.c_words.specs.Answers.{madeNumbered, admissionNumbered, invalidNumbered, standingNumbered, changedNumbered}
 use Rattle.c_words.specs.LeavesLaws.{Alike, leaves-one}
@@ -17,6 +18,7 @@ use Rattle.c_peers.specs.Exported.{
   keyOf,
   NewExported,
   AdmitExported,
+  AdmitExplainedExported,
   RecordInvalidExported,
   IsBannedExported,
   OnDisconnectedExported,
@@ -40,7 +42,15 @@ module _ (longs shorts : List ℕ) {r q : ℕ} {longs' longs'' shorts' shorts'' 
           → AdmitExported longs shorts before k size now q longs'' shorts'' second → Alike r q longs' longs'' shorts' shorts'' × (first ≡ second)
       admit-one size now =
           some-one (λ a b. Calls.admit-one before {first = first} {second = second} (policyOf longs shorts) (keyOf k) size now {r = a} {q = b})
-          (λ a. leaves-one (admissionNumbered a) longs shorts)
+          (λ a. leaves-one (admissionNumbered (merge a)) longs shorts)
+
+      pub admit-explained-one : (size now : ℕ) (cause : List ℕ) {cause' cause'' : List ℕ}
+          → AdmitExplainedExported longs shorts before k size now cause r longs' shorts' first cause'
+          → AdmitExplainedExported longs shorts before k size now cause q longs'' shorts'' second cause''
+          → (Alike r q longs' longs'' shorts' shorts'' × (cause' ≡ cause'')) × (first ≡ second)
+      admit-explained-one size now cause =
+          some-one (λ a b. Calls.admit-one before {first = first} {second = second} (policyOf longs shorts) (keyOf k) size now {r = a} {q = b})
+          (λ a m n. (leaves-one (admissionNumbered (merge a)) longs shorts (m .0) (n .0), one-outcome (m .1) (n .1)))
 
       pub record-invalid-one : (now : ℕ) → RecordInvalidExported longs shorts before k now r longs' shorts' first
           → RecordInvalidExported longs shorts before k now q longs'' shorts'' second → Alike r q longs' longs'' shorts' shorts'' × (first ≡ second)

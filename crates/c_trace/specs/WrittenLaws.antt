@@ -1,4 +1,4 @@
--- Laws of the lines that a scan hands out: each is a text with zeros behind it, so in 64 bytes it is no longer than they are, and it is empty
+-- Laws of the lines that a scan hands out: each is a text with zeros behind it, no longer than a line is wide, and it is empty
 -- exactly where the scan is done. Nobody needs to believe these: they are proved. Assumes nothing.
 use mathlib.Core.Path.{_≡_, sym, ap, _∙_}
 use mathlib.Core.Bool.{Bool, true, false, cond}
@@ -10,6 +10,7 @@ use borrow.Author.Tests.{ne-eqb}
 use lib.Dec.{eqb, leb}
 use lib.ListN.{length, drop, replicate, length-append}
 use Rattle.decimal.specs.Ascii.{newline}
+use Rattle.peer_message_policy.specs.declared.policy.PeerMessagePolicy.{PeerMessagePolicy}
 use Rattle.peer_message_policy.specs.Calls.{refuse}
 use Rattle.trace_lines.specs.declared.line.TraceLine.{TraceLine}
 use Rattle.trace_lines.specs.Lines.{lineSize, lineOf, eventOf, wordText, numberText, answerText, badLineText, refusalText}
@@ -19,9 +20,12 @@ use Rattle.trace.specs.declared.scan.Phase.{Phase}
 use Rattle.trace.specs.declared.scan.Phase.the-variants as Phase
 use Rattle.trace.specs.declared.scan.Scan.{Scan}
 use Rattle.trace.specs.declared.scan.Handed.{Handed}
+use Rattle.trace.specs.declared.step.Answer.{Answer}
+use Rattle.trace.specs.declared.step.Answer.the-variants as Answer
 use Rattle.trace.specs.declared.step.Answered.{Answered}
-use Rattle.trace.specs.declared.step.Answered.the-variants.{Says, Refused, NoEvent}
-use Rattle.trace.specs.Step.{spokenText, stepOutcome, answeredOutcome}
+use Rattle.trace.specs.declared.step.Spoken.{Spoken}
+use Rattle.trace.specs.declared.step.Spoken.the-variants as Spoken
+use Rattle.trace.specs.Step.{spoken, spokenText, stepOutcome, answeredOutcome}
 use Rattle.trace.specs.Scan.{firstLine, last, ended, lineOutcome, eventsOutcome, EventsMeets, settledScan, SettledMeets, SettingsBy, SettingsMeets, NextIn, NextMeets}
 use Rattle.c_trace.specs.Private.{Written}
 
@@ -38,14 +42,14 @@ refusal : (n : ℕ) → isEmpty (refusalText n) ≡ false
 unfolding refusalText
 refusal n = ne-eqb (length (refusalText n)) 0 (λ e. omega (arith, e))
 
-spoken : (number : ℕ) (a : Answered) → isEmpty (spokenText number a) ≡ false
+some-word : (q : PeerMessagePolicy) (words : Spoken) → isEmpty (spokenText q words) ≡ false
 unfolding answerText
-spoken number (Says w q) =
+some-word q (Spoken.Word w) =
     let rest =
     numberText (q .ingress .«in_flight_messages») ++ (numberText (q .ingress .«in_flight_bytes») ++ (numberText (q .rows) ++ (newline ∷ []))) in
     ne-eqb (length (wordText w ++ rest)) 0 (λ e. omega (arith, e, length-append (wordText w) rest))
-spoken number (Refused n) = refusal n
-spoken number NoEvent = bad-line number
+some-word q (Spoken.Refusal n) = refusal n
+some-word q (Spoken.BadLine number) = bad-line number
 
 -- ════ What is handed out ════
 
@@ -56,23 +60,22 @@ record Hands (h : Handed) : Type 0 where
   pub empty : isEmpty text ≡ h .done
 
 module _ (input : List ℕ) (h : Handed) (after : List ℕ) where
-  by-last : (scan : Scan) (text : List ℕ) → isEmpty text ≡ false → h ≡ last scan (lineOf text) → Hands h
-  by-last scan text some-byte e =
-      record { text = text; is = ap (λ (x : Handed). x .line) e; empty = some-byte ∙ sym (ap (λ (x : Handed). x .done) e) }
+  -- a line that spells an answer
+  by-spoken : (q : PeerMessagePolicy) (a : Answer) → h .line ≡ lineOf (spokenText q (spoken a)) → h .done ≡ false → Hands h
+  by-spoken q a is goes = record { text = spokenText q (spoken a); is = is; empty = some-word q (spoken a) ∙ sym goes }
+
+  by-last : (scan : Scan) (a : Answer) → h ≡ last scan a → Hands h
+  by-last scan a e = by-spoken (scan .policy) a (ap (λ (x : Handed). x .line) e) (ap (λ (x : Handed). x .done) e)
 
   by-ended : (scan : Scan) → h ≡ ended scan → Hands h
   by-ended scan e = record { text = []; is = ap (λ (x : Handed). x .line) e; empty = sym (ap (λ (x : Handed). x .done) e) }
 
   by-line : (scan : Scan) (line : Option (List ℕ)) (before : List ℕ) → h ≡ lineOutcome scan line before .answer → Hands h
   unfolding stepOutcome
-  by-line scan none before e = by-last scan (badLineText (scan .number)) (bad-line (scan .number)) e
+  by-line scan none before e = by-last scan (Answer.BadLine (scan .number)) e
   by-line scan (some line) before e =
-      let answer = answeredOutcome (scan .policy) before (eventOf line) .answer in
-      record {
-        text = spokenText (scan .number) answer;
-        is = ap (λ (x : Handed). x .line) e;
-        empty = spoken (scan .number) answer ∙ sym (ap (λ (x : Handed). x .done) e);
-      }
+      let a : Answered = answeredOutcome (scan .policy) before (eventOf line) (scan .number) .answer in
+      by-spoken (a .policy) (a .answer) (ap (λ (x : Handed). x .line) e) (ap (λ (x : Handed). x .done) e)
 
   by-event : (scan : Scan) (before : List ℕ) → EventsMeets scan input before h after → Hands h
   unfolding EventsMeets eventsOutcome
@@ -84,16 +87,16 @@ module _ (input : List ℕ) (h : Handed) (after : List ℕ) where
 
   by-settled : (scan : Scan) (line : List ℕ) (a : Settled) (before : List ℕ) → SettledMeets scan line a input before h after → Hands h
   by-settled scan line (Settled.Policy p) before m = by-event (settledScan scan line p) before m
-  by-settled scan line (Settled.Refused n) before m = by-last scan (refusalText n) (refusal n) (m .0)
-  by-settled scan line Settled.Bad before m = by-last scan (badLineText (scan .number)) (bad-line (scan .number)) (m .0)
+  by-settled scan line (Settled.Refused n) before m = by-last scan (Answer.Refused n) (m .0)
+  by-settled scan line Settled.Bad before m = by-last scan (Answer.BadLine (scan .number)) (m .0)
 
   by-settings : (scan : Scan) (line : Option (List ℕ)) (before : List ℕ) → SettingsBy scan line input before h after → Hands h
-  by-settings scan none before m = by-last scan (badLineText (scan .number)) (bad-line (scan .number)) (m .0)
+  by-settings scan none before m = by-last scan (Answer.BadLine (scan .number)) (m .0)
   by-settings scan (some line) before m = by-settled scan line (m .0) (m .1) (m .3)
 
   by-phase : (phase : Phase) (scan : Scan) (before : List ℕ) → NextIn phase scan input before h after → Hands h
   unfolding SettingsMeets
-  by-phase Phase.TooLong scan before m = by-last scan (badLineText 1) (bad-line 1) (m .0)
+  by-phase Phase.TooLong scan before m = by-last scan (Answer.BadLine 1) (m .0)
   by-phase Phase.Settings scan before m = by-settings scan (firstLine (drop (scan .at) input)) before m
   by-phase Phase.Events scan before m = by-event scan before m
   by-phase Phase.Done scan before m = by-ended scan (m .0)

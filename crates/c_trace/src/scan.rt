@@ -1,13 +1,13 @@
 // The exported functions: a scan is made of the words, the proved call is called, and the scan behind it is left.
-ghost use mathlib.Core.Path.{_≡_};
 ghost use Rattle.c_trace.specs.Exported.{OpenExported, NextExported};
 ghost use Rattle.c_trace.specs.Written.{LineLeft};
 ghost use Rattle.c_trace.specs.Private.{Written};
 use super::words;
 use trace::scan;
+use trace_lines::line::LINE_SIZE;
 use trace_lines::line::TraceLine;
 
-fn write(line: &mut [u8; 64], written: TraceLine) -> u32
+fn write(line: &mut [u8; LINE_SIZE], written: TraceLine) -> u32
     requires { ⌜ Written written ⌝ }
     ensures { λ r. ⌜ LineLeft written r (now (line .exit)) ⌝ }
 {
@@ -37,7 +37,7 @@ pub extern "C" fn uglezmir_trace_next(
     shorts: &mut [u32; 4],
     input: &[u8],
     table: &mut [u8],
-    line: &mut [u8; 64],
+    line: &mut [u8; LINE_SIZE],
 ) -> u32
     ensures { λ r. ⌜ NextExported (now (place .entry)) (now (longs .entry)) (now (shorts .entry)) (now (input .entry)) (now (table .entry)) r (now (place .exit)) (now (longs .exit)) (now (shorts .exit)) (now (table .exit)) (now (line .exit)) ⌝ }
 {

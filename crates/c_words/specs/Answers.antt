@@ -1,10 +1,12 @@
 -- The number of each answer, with the policy that it carries. Definitions only.
+use Rattle.peer_verdict.specs.declared.verdict.InvalidCause.{InvalidCause}
+use Rattle.peer_verdict.specs.declared.verdict.InvalidCause.the-variants as InvalidCause
+use Rattle.peer_message_policy.specs.declared.policy.PeerMessagePolicy.{PeerMessagePolicy}
 use Rattle.peer_message_policy.specs.declared.answer.Made.{Made}
 use Rattle.peer_message_policy.specs.declared.answer.Made.the-variants as Made
 use Rattle.peer_message_policy.specs.declared.answer.PeerMessageAdmission.{PeerMessageAdmission}
 use Rattle.peer_message_policy.specs.declared.answer.PeerMessageAdmission.the-variants as Admission
 use Rattle.peer_message_policy.specs.declared.answer.Invalid.{Invalid}
-use Rattle.peer_message_policy.specs.declared.answer.Invalid.the-variants as Invalid
 use Rattle.peer_message_policy.specs.declared.answer.Standing.{Standing}
 use Rattle.peer_message_policy.specs.declared.answer.Standing.the-variants as Standing
 use Rattle.peer_message_policy.specs.declared.answer.Changed.{Changed}
@@ -25,10 +27,14 @@ admissionNumbered (Admission.Ban p) = Answered 258 p
 admissionNumbered (Admission.Refused n) = Refused n
 
 -- 260 for banned, 259 for noted
+abbrev pub invalidCauseNumbered : PeerMessagePolicy → InvalidCause → Numbered
+invalidCauseNumbered p InvalidCause.Noted = Answered 259 p
+invalidCauseNumbered p InvalidCause.LiveBan = Answered 260 p
+invalidCauseNumbered p InvalidCause.BanBegun = Answered 260 p
+invalidCauseNumbered p (InvalidCause.Refused n) = Refused n
+
 abbrev pub invalidNumbered : Invalid → Numbered
-invalidNumbered (Invalid.Banned p) = Answered 260 p
-invalidNumbered (Invalid.Noted p) = Answered 259 p
-invalidNumbered (Invalid.Refused n) = Refused n
+invalidNumbered a = invalidCauseNumbered (a .policy) (a .cause)
 
 -- 260 for banned, 259 for free
 abbrev pub standingNumbered : Standing → Numbered

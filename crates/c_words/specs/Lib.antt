@@ -1,3 +1,5 @@
 pub mod Words
 pub mod Answers
+pub mod CauseWords
+pub mod Private
 pub mod LeavesLaws

@@ -7,6 +7,7 @@ use peer_message_policy::answer::Made;
 use peer_message_policy::answer::PeerMessageAdmission;
 use peer_message_policy::answer::Standing;
 use peer_message_policy::policy::PeerMessagePolicy;
+use peer_verdict::verdict::InvalidCause;
 
 pub const ALLOW: u32 = 256;
 
@@ -49,10 +50,13 @@ pub fn numbered_admission(a: PeerMessageAdmission) -> Numbered
 pub fn numbered_invalid(a: Invalid) -> Numbered
     ensures { λ r. ⌜ r ≡ invalidNumbered a ⌝ }
 {
-    match a {
-        Invalid::Banned(p) => Numbered::Answered(YES, p),
-        Invalid::Noted(p) => Numbered::Answered(NO, p),
-        Invalid::Refused(n) => Numbered::Refused(n),
+    let cause = a.cause;
+    let p = a.policy;
+    match cause {
+        InvalidCause::Noted => Numbered::Answered(NO, p),
+        InvalidCause::LiveBan => Numbered::Answered(YES, p),
+        InvalidCause::BanBegun => Numbered::Answered(YES, p),
+        InvalidCause::Refused(n) => Numbered::Refused(n),
     }
 }
 

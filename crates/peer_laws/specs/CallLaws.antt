@@ -1,6 +1,6 @@
 -- Laws of the public calls: none on a sound policy is refused with 3; each leaves a sound policy, the same settings, and memory of the same
 -- length that holds bytes; and a fresh policy is sound. They ask for no range of numbers, only that a key has 33 bytes. Assumes nothing.
-use mathlib.Core.Path.{_≡_, refl, sym, ap, subst, subst₂, _∙_}
+use mathlib.Core.Path.{_≡_, refl, sym, ap, subst, _∙_}
 use mathlib.Core.Bool.{Bool, true, false}
 use mathlib.Core.List.{List, []}
 use mathlib.Core.Option.{Option}
@@ -22,20 +22,15 @@ use Rattle.peer_settings.specs.declared.config.PeerMessagePolicyConfig.{PeerMes
 use Rattle.peer_state.specs.declared.entry.PeerMessagePolicyEntry.{PeerMessagePolicyEntry}
 use Rattle.peer_state.specs.declared.ingress.FiberIngressBudget.{FiberIngressBudget}
 use Rattle.peer_verdict.specs.declared.verdict.Cause.{Cause}
-use Rattle.peer_verdict.specs.declared.verdict.Cause.the-variants as Cause
 use Rattle.peer_verdict.specs.declared.verdict.InvalidCause.{InvalidCause}
-use Rattle.peer_verdict.specs.declared.verdict.InvalidCause.the-variants as InvalidCause
 use Rattle.peer_settings.specs.Config.{limit}
 use Rattle.peer_state.specs.Ingress.{inFlight, ingressReleased, ingressSound}
 use Rattle.peer_state.specs.IngressLaws.{released-sound, within-sound}
-use Rattle.peer_verdict.specs.Verdict.{overflows}
 use Rattle.peer_message_policy.specs.declared.policy.PeerMessagePolicy.{PeerMessagePolicy}
 use Rattle.peer_message_policy.specs.declared.answer.Made.{Made}
 use Rattle.peer_message_policy.specs.declared.answer.Made.the-variants as Made
-use Rattle.peer_message_policy.specs.declared.answer.PeerMessageAdmission.{PeerMessageAdmission}
-use Rattle.peer_message_policy.specs.declared.answer.PeerMessageAdmission.the-variants as Admission
+use Rattle.peer_message_policy.specs.declared.answer.Admission.{Admission}
 use Rattle.peer_message_policy.specs.declared.answer.Invalid.{Invalid}
-use Rattle.peer_message_policy.specs.declared.answer.Invalid.the-variants as Invalid
 use Rattle.peer_message_policy.specs.declared.answer.Standing.{Standing}
 use Rattle.peer_message_policy.specs.declared.answer.Standing.the-variants as Standing
 use Rattle.peer_message_policy.specs.declared.answer.Changed.{Changed}
@@ -69,11 +64,9 @@ use Rattle.peer_message_policy.specs.Calls.{
   fresh,
   newOutcome,
   NewMeets,
-  admissionOf,
   admissionTurn,
   admitOutcome,
   AdmitMeets,
-  invalidOf,
   invalidTurn,
   recordInvalidOutcome,
   RecordInvalidMeets,
@@ -103,7 +96,6 @@ use Rattle.peer_laws.specs.SoundLaws.{
   change-leaves,
   TurnHolds,
   admit-holds,
-  admit-undone,
   record-invalid-holds,
   is-banned-holds,
   disconnected-holds,
@@ -117,7 +109,7 @@ module _ (p : PeerMessagePolicy) (s : List ℕ) (h : sound p s ≡ true) (k : Pu
   unfolding admitOutcome
   admit-outcome size now = rw h
 
-  pub admit-answer : (size now : ℕ) (r : PeerMessageAdmission) (t : List ℕ) → AdmitMeets p s k size now r t
+  pub admit-answer : (size now : ℕ) (r : Admission) (t : List ℕ) → AdmitMeets p s k size now r t
       → r ≡ admissionTurn p (admit (p .config) (p .ingress) (rowsOf p s) (k .bytes) size now) .answer
   unfolding AdmitMeets
   admit-answer size now r t m = m .answers ∙ ap (λ o. o .answer) (admit-outcome size now)
@@ -164,17 +156,6 @@ module _ (p : PeerMessagePolicy) (h : policySound p ≡ true) where
 
 -- what holds of the policy that a caller goes on with: the one in the answer, or his own after a refusal
 module _ (p : PeerMessagePolicy) (P : PeerMessagePolicy → Type 0) where
-  abbrev pub OfAdmission : PeerMessageAdmission → Type 0
-  OfAdmission (Admission.Allow q) = P q
-  OfAdmission (Admission.Disconnect q) = P q
-  OfAdmission (Admission.Ban q) = P q
-  OfAdmission (Admission.Refused n) = P p
-
-  abbrev pub OfInvalid : Invalid → Type 0
-  OfInvalid (Invalid.Banned q) = P q
-  OfInvalid (Invalid.Noted q) = P q
-  OfInvalid (Invalid.Refused n) = P p
-
   abbrev pub OfStanding : Standing → Type 0
   OfStanding (Standing.Banned q) = P q
   OfStanding (Standing.Free q) = P q
@@ -185,22 +166,6 @@ module _ (p : PeerMessagePolicy) (P : PeerMessagePolicy → Type 0) where
   OfChanged (Changed.Refused n) = P p
 
   module _ (q : PeerMessagePolicy) where
-    -- the answer for a cause has the policy, but for refusal 4
-    pub of-admission : (cause : Cause) → P q → (overflows cause ≡ true → P p) → OfAdmission (admissionOf q cause)
-    of-admission Cause.Allowed h undone = h
-    of-admission Cause.MessagesShort h undone = h
-    of-admission (Cause.BytesShort k) h undone = h
-    of-admission Cause.NoSlot h undone = h
-    of-admission (Cause.CeilingShort k) h undone = h
-    of-admission Cause.LiveBan h undone = h
-    of-admission Cause.BanBegun h undone = h
-    of-admission Cause.Overflow h undone = undone refl
-
-    pub of-invalid : (cause : InvalidCause) → P q → OfInvalid (invalidOf q cause)
-    of-invalid InvalidCause.Noted h = h
-    of-invalid InvalidCause.LiveBan h = h
-    of-invalid InvalidCause.BanBegun h = h
-
     pub of-standing : (b : Bool) → P q → OfStanding (standingOf b q)
     of-standing true h = h
     of-standing false h = h
@@ -220,37 +185,27 @@ module _ (p : PeerMessagePolicy) (s : List ℕ) (h : sound p s ≡ true) (b : By
       → Memory s t (p .rows) change → Leaves p s change (policyAfter p i change) t
   leaves-by i change t load holds m = change-leaves p s t i change (policy-holds p s h) b load holds m
 
-  pub admit-leaves : (size now : ℕ) (r : PeerMessageAdmission) (t : List ℕ) → AdmitMeets p s k size now r t
-      → OfAdmission p (λ q. Leaves p s (admit (p .config) (p .ingress) (rowsOf p s) (k .bytes) size now .change) q t) r
+  pub admit-leaves : (size now : ℕ) (r : Admission) (t : List ℕ) → AdmitMeets p s k size now r t
+      → Leaves p s (admit (p .config) (p .ingress) (rowsOf p s) (k .bytes) size now .change) (r .policy) t
   unfolding AdmitMeets
   admit-leaves size now r t m =
       let turn : Turn Cause = admit (p .config) (p .ingress) (rowsOf p s) (k .bytes) size now in
-      let q : PeerMessagePolicy = policyAfter p (turn .ingress) (turn .change) in
-      let P : PeerMessagePolicy → Type 0 = λ x. Leaves p s (turn .change) x t in
       let holds : TurnHolds (p .config) turn =
       admit-holds (p .config) (p .ingress) (policy-holds p s h .own .load) (k .bytes) (rowsOf p s) key rows-here size now
       in
-      meets-by (OfAdmission p P) m (admit-outcome p s h k size now)
-      (λ memory.
-      let after : P q = leaves-by (turn .ingress) (turn .change) t (holds .load) (holds .rows) memory in
-      of-admission p P q (turn .cause) after
-      (λ o.
-      let undone = admit-undone (p .config) (p .ingress) (k .bytes) size now (rowsOf p s) o in
-      subst₂ (λ i change. P (policyAfter p i change)) (undone .0) (undone .1) after))
+      meets-by (λ a. Leaves p s (turn .change) (a .policy) t) m (admit-outcome p s h k size now)
+      (λ memory. leaves-by (turn .ingress) (turn .change) t (holds .load) (holds .rows) memory)
 
   pub record-invalid-leaves : (now : ℕ) (r : Invalid) (t : List ℕ) → RecordInvalidMeets p s k now r t
-      → OfInvalid p (λ q. Leaves p s (recordInvalid (p .config) (p .ingress) (rowsOf p s) (k .bytes) now .change) q t) r
+      → Leaves p s (recordInvalid (p .config) (p .ingress) (rowsOf p s) (k .bytes) now .change) (r .policy) t
   unfolding RecordInvalidMeets
   record-invalid-leaves now r t m =
       let turn : Turn InvalidCause = recordInvalid (p .config) (p .ingress) (rowsOf p s) (k .bytes) now in
-      let P : PeerMessagePolicy → Type 0 = λ x. Leaves p s (turn .change) x t in
       let holds : TurnHolds (p .config) turn =
       record-invalid-holds (p .config) (p .ingress) (policy-holds p s h .own .load) (k .bytes) (rowsOf p s) key rows-here now
       in
-      meets-by (OfInvalid p P) m (record-invalid-outcome p s h k now)
-      (λ memory.
-      of-invalid p P (policyAfter p (turn .ingress) (turn .change)) (turn .cause)
-      (leaves-by (turn .ingress) (turn .change) t (holds .load) (holds .rows) memory))
+      meets-by (λ a. Leaves p s (turn .change) (a .policy) t) m (record-invalid-outcome p s h k now)
+      (λ memory. leaves-by (turn .ingress) (turn .change) t (holds .load) (holds .rows) memory)
 
   pub is-banned-leaves : (now : ℕ) (r : Standing) (t : List ℕ) → IsBannedMeets p s k now r t
       → OfStanding p (λ q. Leaves p s (isBannedChange (rowsOf p s) (k .bytes) now (look (k .bytes) (rowsOf p s))) q t) r

@@ -1,5 +1,6 @@
 pub mod OneOutcomeLaws
 pub mod SoundLaws
 pub mod CallLaws
+pub mod RefusedLaws
 pub mod PeerLaws
 pub mod Fits

@@ -9,12 +9,14 @@ use Rattle.table.specs.OutcomeLaws.{one-meets}
 use Rattle.peer_settings.specs.declared.config.PeerMessagePolicyConfig.{PeerMessagePolicyConfig}
 use Rattle.peer_message_policy.specs.declared.policy.PeerMessagePolicy.{PeerMessagePolicy}
 use Rattle.peer_message_policy.specs.declared.answer.Made.{Made}
+use Rattle.peer_message_policy.specs.declared.answer.Admission.{Admission}
 use Rattle.peer_message_policy.specs.declared.answer.PeerMessageAdmission.{PeerMessageAdmission}
 use Rattle.peer_message_policy.specs.declared.answer.Invalid.{Invalid}
 use Rattle.peer_message_policy.specs.declared.answer.Standing.{Standing}
 use Rattle.peer_message_policy.specs.declared.answer.Changed.{Changed}
 use Rattle.peer_message_policy.specs.declared.answer.InFlight.{InFlight}
 use Rattle.peer_message_policy.specs.declared.answer.HeldTime.{HeldTime}
+use Rattle.peer_message_policy.specs.Merged.{merge}
 use Rattle.peer_message_policy.specs.Calls.{fresh, NewMeets, AdmitMeets, RecordInvalidMeets, IsBannedMeets, OnDisconnectedMeets, ReleaseIngressMeets, InFlightMeets, HeldTimeMeets}
 
 -- ════ The calls that memory is lent to ════
@@ -26,7 +28,7 @@ module _ (before : List ℕ) {first second : List ℕ} where
   new-one c h k = one-meets h k
 
   module _ (p : PeerMessagePolicy) (k : Pubkey) where
-    pub admit-one : (size now : ℕ) {r q : PeerMessageAdmission} → AdmitMeets p before k size now r first
+    pub admit-one : (size now : ℕ) {r q : Admission} → AdmitMeets p before k size now r first
         → AdmitMeets p before k size now q second → (r ≡ q) × (first ≡ second)
     unfolding AdmitMeets
     admit-one size now m n = one-meets m n
@@ -50,6 +52,9 @@ module _ (before : List ℕ) {first second : List ℕ} where
 
 pub fresh-one : (c : PeerMessagePolicyConfig) {r q : PeerMessagePolicy} → r ≡ fresh c → q ≡ fresh c → r ≡ q
 fresh-one c = one-outcome
+
+pub merge-one : (a : Admission) {r q : PeerMessageAdmission} → r ≡ merge a → q ≡ merge a → r ≡ q
+merge-one a = one-outcome
 
 module _ (p : PeerMessagePolicy) where
   pub release-ingress-one : (size : ℕ) {r q : Changed} → ReleaseIngressMeets p size r → ReleaseIngressMeets p size q → r ≡ q

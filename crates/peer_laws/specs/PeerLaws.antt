@@ -26,7 +26,7 @@ use Rattle.peer_state.specs.Entry.{entryNew, entryIsBanned, entryIsSpent, entry
 use Rattle.peer_rows.specs.Rows.{Peers}
 use Rattle.peer_table.specs.Room.{makeRoom}
 use Rattle.peer_table.specs.RoomLaws.{sub-makeRoom}
-use Rattle.peer_verdict.specs.Verdict.{invalidDecision, overflows}
+use Rattle.peer_verdict.specs.Verdict.{invalidDecision, refuses}
 use Rattle.peer_message_policy.specs.Policy.{Change, become, Turn, unchanged, turnOf, carriedOut, notedDown, Update, banned, update, entryForUpdate, recordInvalid, isBannedChange, disconnectedChange}
 use Rattle.peer_message_policy.specs.Calls.{changedRows}
 
@@ -100,7 +100,7 @@ module _ (j k : List ℕ) (other : j ≡ k → ⊥) (rs : Peers) (order : ascend
   message-fate c i decide now =
       turn-fate i Cause.LiveBan (λ e xs. carriedOut i k xs (decide e))
       (λ e xs h.
-      chosen (λ (t : Turn Cause). After j rs (t .change)) (overflows (decide e .cause)) (λ o. stayed)
+      chosen (λ (t : Turn Cause). After j rs (t .change)) (refuses (decide e .cause)) (λ o. stayed)
       (λ o. rw (look-store-other k (decide e .entry) j other xs) h))
       (entryForUpdate c now rs k (look k rs)) (update-fate c now (look k rs))
 
@@ -138,11 +138,11 @@ module _ {C : Type 0} (k : List ℕ) (rs : Peers) (c : PeerMessagePolicyConfig) 
   turn-ways : P (turnOf i liveBan goOn (entryForUpdate c now rs k (look k rs)))
   turn-ways = ways-by (look k rs) refl
 
--- an own admit: under a live ban nothing changes; refusal 4 undoes the decision; any other is carried out
+-- an own admit: under a live ban nothing changes; a refusal undoes the decision; any other is carried out
 pub data Own (c : PeerMessagePolicyConfig) (now : ℕ) (decide : PeerMessagePolicyEntry → Decision) (found after : Option PeerMessagePolicyEntry) (cause : Cause) : Type 0 where
   live : (e : PeerMessagePolicyEntry) → found ≡ some e → entryIsBanned e now ≡ true → cause ≡ Cause.LiveBan → after ≡ found → Own c now decide found after cause
-  undone : (e : PeerMessagePolicyEntry) → Lands c now found e → overflows (decide e .cause) ≡ true → cause ≡ decide e .cause → after ≡ found → Own c now decide found after cause
-  carried : (e : PeerMessagePolicyEntry) → Lands c now found e → overflows (decide e .cause) ≡ false → cause ≡ decide e .cause → after ≡ some (decide e .entry) → Own c now decide found after cause
+  undone : (e : PeerMessagePolicyEntry) → Lands c now found e → refuses (decide e .cause) ≡ true → cause ≡ decide e .cause → after ≡ found → Own c now decide found after cause
+  carried : (e : PeerMessagePolicyEntry) → Lands c now found e → refuses (decide e .cause) ≡ false → cause ≡ decide e .cause → after ≡ some (decide e .entry) → Own c now decide found after cause
 
 -- an own record_invalid: under a live ban nothing changes; else the decision is carried out
 pub data OwnInvalid (c : PeerMessagePolicyConfig) (now : ℕ) (found after : Option PeerMessagePolicyEntry) (cause : InvalidCause) : Type 0 where
@@ -160,7 +160,7 @@ module _ (k : List ℕ) (rs : Peers) (c : PeerMessagePolicyConfig) (i : FiberIng
       turn-ways k rs c i now Cause.LiveBan (λ e xs. carriedOut i k xs (decide e)) P
       (λ e found ban. live e found ban refl refl)
       (λ e xs lands.
-      chosen P (overflows (decide e .cause)) (λ o. undone e lands o refl refl)
+      chosen P (refuses (decide e .cause)) (λ o. undone e lands o refl refl)
       (λ o. carried e lands o refl (look-store-same k (decide e .entry) xs)))
 
   pub own-invalid : (now : ℕ)

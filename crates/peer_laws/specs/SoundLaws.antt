@@ -28,8 +28,9 @@ use Rattle.peer_verdict.specs.declared.verdict.InvalidCause.the-variants as Inv
 use Rattle.peer_settings.specs.Config.{limit}
 use Rattle.peer_state.specs.Entry.{entrySound, entryIsBanned, entryIsSpent, entryExpireWindows}
 use Rattle.peer_state.specs.EntryLaws.{new-sound, expire-sound}
-use Rattle.peer_state.specs.Ingress.{ingressSound}
-use Rattle.peer_verdict.specs.Verdict.{decision, invalidDecision, overflows}
+use Rattle.peer_state.specs.Ingress.{tryReserve, ingressSound}
+use Rattle.peer_state.specs.IngressLaws.{reservation-holds}
+use Rattle.peer_verdict.specs.Verdict.{decision, invalidDecision, refuses}
 use Rattle.peer_verdict.specs.VerdictLaws.{decision-sound, invalid-decision-sound, decision-load}
 use Rattle.peer_rows.specs.Rows.{rowWidth, Peers, peerLayout, peerSound}
 use Rattle.peer_rows.specs.RowsLaws.{peer-numbers}
@@ -205,16 +206,17 @@ module _ (c : PeerMessagePolicyConfig) where
         → ((x : PeerMessagePolicyEntry) → entrySound c x ≡ true → RowsHold c (store k x rs)) → TurnHolds (carriedOut i k rs d)
     unfolding carriedOut
     carried-holds rs d sound-entry load over =
-        chosen (λ (t : Turn Cause). TurnHolds t) (overflows (d .cause)) (λ o. record { rows = tt; load = within })
+        chosen (λ (t : Turn Cause). TurnHolds t) (refuses (d .cause)) (λ o. record { rows = tt; load = within })
         (λ o. record { rows = over (d .entry) sound-entry; load = load })
 
     module _ (rs : Peers) (key : Key k) (h : RowsHold c rs) where
       pub admit-holds : (size now : ℕ) → TurnHolds (admit c i rs k size now)
       unfolding admit
       admit-holds size now =
-          turn-holds Cause.LiveBan (λ e xs. carriedOut i k xs (decision c i e size now))
+          turn-holds Cause.LiveBan (λ e xs. carriedOut i k xs (decision c i e size now (tryReserve c i size)))
           (λ e xs u.
-          carried-holds xs (decision c i e size now) (decision-sound c i e size now (u .0)) (decision-load c i e size now within) (u .1))
+          carried-holds xs (decision c i e size now (tryReserve c i size)) (decision-sound c i e size now (tryReserve c i size) (u .0))
+          (decision-load c i e size now (tryReserve c i size) (reservation-holds c i size) within) (u .1))
           (entryForUpdate c now rs k (look k rs)) (for-update now k rs key h)
 
       pub record-invalid-holds : (now : ℕ) → TurnHolds (recordInvalid c i rs k now)
@@ -241,20 +243,20 @@ module _ (c : PeerMessagePolicyConfig) where
         chosen (ChangeHolds c) (entryIsSpent e now) (λ u. sub-hold peerLayout (peerSound c) (limit c) (sub-erase k rs) h)
         (λ u. store-hold peerLayout (peerSound c) (limit c) k x rs key y h (omega (arith, length-store-some k rs x l, h .few))))
 
--- ════ Refusal 4 ════
+-- ════ A refusal ════
 
--- a turn that is undone, if it overflows
+-- a turn that is undone, if it is refused
 abbrev Undone : FiberIngressBudget → Turn Cause → Type 0
-Undone i t = overflows (t .cause) ≡ true → (t .ingress ≡ i) × (t .change ≡ same)
+Undone i t = refuses (t .cause) ≡ true → (t .ingress ≡ i) × (t .change ≡ same)
 
 module _ (c : PeerMessagePolicyConfig) (i : FiberIngressBudget) (k : List ℕ) (size now : ℕ) where
-  undone-by : (u : Update) → Undone i (turnOf i Cause.LiveBan (λ e xs. carriedOut i k xs (decision c i e size now)) u)
+  undone-by : (u : Update) → Undone i (turnOf i Cause.LiveBan (λ e xs. carriedOut i k xs (decision c i e size now (tryReserve c i size))) u)
   unfolding carriedOut
   undone-by banned = λ o. (refl, refl)
   undone-by (update e rs) =
-      chosen (Undone i) (overflows (decision c i e size now .cause)) (λ o u. (refl, refl)) (λ o u. absurd (true-is-not-false u o))
+      chosen (Undone i) (refuses (decision c i e size now (tryReserve c i size) .cause)) (λ o u. (refl, refl)) (λ o u. absurd (true-is-not-false u o))
 
-  -- refusal 4 undoes everything
+  -- a refusal undoes everything
   pub admit-undone : (rs : Peers) → Undone i (admit c i rs k size now)
   unfolding admit
   admit-undone rs = undone-by (entryForUpdate c now rs k (look k rs))

@@ -1,5 +1,5 @@
 -- The ways out of each call: what it answers and leaves is its outcome. Over plain values. Assumes nothing.
-use mathlib.Core.Path.{_≡_, refl, sym, ap, subst, _∙_}
+use mathlib.Core.Path.{_≡_, refl, sym, ap, subst}
 use mathlib.Core.Bool.{true, false, _&&_}
 use mathlib.Core.List.{List}
 use mathlib.Core.Option.{none, some}
@@ -21,15 +21,12 @@ use Rattle.peer_verdict.specs.declared.verdict.InvalidCause.the-variants as Inv
 use Rattle.peer_verdict.specs.declared.verdict.InvalidDecision.{InvalidDecision}
 use Rattle.peer_settings.specs.Config.{limit}
 use Rattle.peer_state.specs.Entry.{entryNew, entryIsBanned, entryIsSpent, entryExpireWindows}
+use Rattle.peer_state.specs.Ingress.{tryReserve}
 use Rattle.peer_state.specs.Private.{entryToUpdate}
-use Rattle.peer_verdict.specs.Verdict.{decision, invalidDecision, overflows}
+use Rattle.peer_verdict.specs.Verdict.{decision, invalidDecision, refuses}
 use Rattle.peer_rows.specs.Rows.{Peers}
 use Rattle.peer_table.specs.Room.{makeRoom}
 use Rattle.peer_message_policy.specs.declared.policy.PeerMessagePolicy.{PeerMessagePolicy}
-use Rattle.peer_message_policy.specs.declared.answer.PeerMessageAdmission.{PeerMessageAdmission}
-use Rattle.peer_message_policy.specs.declared.answer.PeerMessageAdmission.the-variants as Admission
-use Rattle.peer_message_policy.specs.declared.answer.Invalid.{Invalid}
-use Rattle.peer_message_policy.specs.declared.answer.Invalid.the-variants as Invalid
 use Rattle.peer_message_policy.specs.declared.answer.Standing.{Standing}
 use Rattle.peer_message_policy.specs.declared.answer.Standing.the-variants as Standing
 use Rattle.peer_message_policy.specs.declared.answer.Changed.{Changed}
@@ -70,45 +67,45 @@ left-same {p} {q} {i} {s} {t} e h = subst (λ (l : Peers). Left p i s l q t) (sy
 
 -- ════ Admit ════
 
--- a call that a live ban, an unsound policy or refusal 4 ends changes nothing; any other carries its decision out
+-- a call that a live ban or a refusal ends changes nothing; any other carries its decision out
 module _ (p : PeerMessagePolicy) (s : List ℕ) (k : Pubkey) (size now : ℕ) where
-  pub admit-unsound : sound p s ≡ false → AdmitMeets p s k size now (Admission.Refused unsound) s
+  pub admit-unsound : sound p s ≡ false → AdmitMeets p s k size now (admissionOf p (Cause.Refused unsound)) s
   unfolding AdmitMeets admitOutcome
   admit-unsound h = rw h (record { answers = refl; leaves = refl })
 
   module _ (h : sound p s ≡ true) where
-    pub admit-live : (e : PeerMessagePolicyEntry) → look (k .bytes) (rowsOf p s) ≡ some e → entryIsBanned e now ≡ true → (r : PeerMessageAdmission) → r ≡ admissionOf p Cause.LiveBan → AdmitMeets p s k size now r s
+    pub admit-live : (e : PeerMessagePolicyEntry) → look (k .bytes) (rowsOf p s) ≡ some e → entryIsBanned e now ≡ true → AdmitMeets p s k size now (admissionOf p Cause.LiveBan) s
     unfolding AdmitMeets admitOutcome admit entryForUpdate
-    admit-live e found banned r answer = rw (h, found, banned) (record { answers = answer; leaves = refl })
+    admit-live e found banned = rw (h, found, banned) (record { answers = refl; leaves = refl })
 
-    module _ (e : PeerMessagePolicyEntry) (rs : Peers) (u : entryForUpdate (p .config) now (rowsOf p s) (k .bytes) (look (k .bytes) (rowsOf p s)) ≡ update e rs) (d : Decision) (v : d ≡ decision (p .config) (p .ingress) e size now) where
-      pub admit-overflow : overflows (d .cause) ≡ true → (r : PeerMessageAdmission) → r ≡ admissionOf p (d .cause) → AdmitMeets p s k size now r s
+    module _ (e : PeerMessagePolicyEntry) (rs : Peers) (u : entryForUpdate (p .config) now (rowsOf p s) (k .bytes) (look (k .bytes) (rowsOf p s)) ≡ update e rs) (d : Decision) (v : d ≡ decision (p .config) (p .ingress) e size now (tryReserve (p .config) (p .ingress) size)) where
+      pub admit-refused : refuses (d .cause) ≡ true → AdmitMeets p s k size now (admissionOf p (d .cause)) s
       unfolding AdmitMeets admitOutcome admit carriedOut
-      admit-overflow o r answer = rw (h, u, sym v, o) (record { answers = answer; leaves = refl })
+      admit-refused o = rw (h, u, sym v, o) (record { answers = refl; leaves = refl })
 
-      pub admit-carried : overflows (d .cause) ≡ false → (q : PeerMessagePolicy) (t : List ℕ) → Left p (d .ingress) s (store (k .bytes) (d .entry) rs) q t → (r : PeerMessageAdmission) → r ≡ admissionOf q (d .cause) → AdmitMeets p s k size now r t
+      pub admit-carried : refuses (d .cause) ≡ false → (q : PeerMessagePolicy) (t : List ℕ) → Left p (d .ingress) s (store (k .bytes) (d .entry) rs) q t → AdmitMeets p s k size now (admissionOf q (d .cause)) t
       unfolding AdmitMeets admitOutcome admit carriedOut
-      admit-carried o q t left r answer =
+      admit-carried o q t left =
           rw (h, u, sym v, o)
-          (record { answers = answer ∙ ap (λ (x : PeerMessagePolicy). admissionOf x (d .cause)) (left .policy); leaves = left .memory })
+          (record { answers = ap (λ (x : PeerMessagePolicy). admissionOf x (d .cause)) (left .policy); leaves = left .memory })
 
 -- ════ record_invalid ════
 
 module _ (p : PeerMessagePolicy) (s : List ℕ) (k : Pubkey) (now : ℕ) where
-  pub invalid-unsound : sound p s ≡ false → RecordInvalidMeets p s k now (Invalid.Refused unsound) s
+  pub invalid-unsound : sound p s ≡ false → RecordInvalidMeets p s k now (invalidOf p (InvalidCause.Refused unsound)) s
   unfolding RecordInvalidMeets recordInvalidOutcome
   invalid-unsound h = rw h (record { answers = refl; leaves = refl })
 
   module _ (h : sound p s ≡ true) where
-    pub invalid-live : (e : PeerMessagePolicyEntry) → look (k .bytes) (rowsOf p s) ≡ some e → entryIsBanned e now ≡ true → (r : Invalid) → r ≡ invalidOf p InvalidCause.LiveBan → RecordInvalidMeets p s k now r s
+    pub invalid-live : (e : PeerMessagePolicyEntry) → look (k .bytes) (rowsOf p s) ≡ some e → entryIsBanned e now ≡ true → RecordInvalidMeets p s k now (invalidOf p InvalidCause.LiveBan) s
     unfolding RecordInvalidMeets recordInvalidOutcome recordInvalid entryForUpdate
-    invalid-live e found banned r answer = rw (h, found, banned) (record { answers = answer; leaves = refl })
+    invalid-live e found banned = rw (h, found, banned) (record { answers = refl; leaves = refl })
 
-    pub invalid-carried : (e : PeerMessagePolicyEntry) (rs : Peers) → entryForUpdate (p .config) now (rowsOf p s) (k .bytes) (look (k .bytes) (rowsOf p s)) ≡ update e rs → (d : InvalidDecision) → d ≡ invalidDecision (p .config) e now → (q : PeerMessagePolicy) (t : List ℕ) → Left p (p .ingress) s (store (k .bytes) (d .entry) rs) q t → (r : Invalid) → r ≡ invalidOf q (d .cause) → RecordInvalidMeets p s k now r t
+    pub invalid-carried : (e : PeerMessagePolicyEntry) (rs : Peers) → entryForUpdate (p .config) now (rowsOf p s) (k .bytes) (look (k .bytes) (rowsOf p s)) ≡ update e rs → (d : InvalidDecision) → d ≡ invalidDecision (p .config) e now → (q : PeerMessagePolicy) (t : List ℕ) → Left p (p .ingress) s (store (k .bytes) (d .entry) rs) q t → RecordInvalidMeets p s k now (invalidOf q (d .cause)) t
     unfolding RecordInvalidMeets recordInvalidOutcome recordInvalid
-    invalid-carried e rs u d v q t left r answer =
+    invalid-carried e rs u d v q t left =
         rw (h, u, sym v)
-        (record { answers = answer ∙ ap (λ (x : PeerMessagePolicy). invalidOf x (d .cause)) (left .policy); leaves = left .memory })
+        (record { answers = ap (λ (x : PeerMessagePolicy). invalidOf x (d .cause)) (left .policy); leaves = left .memory })
 
 -- ════ is_banned ════
 

@@ -6,7 +6,7 @@ use mathlib.Core.List.{List, [], _∷_}
 use Prim.Native.Nat.{ℕ}
 use lib.Dec.{eqb, ltb}
 use Rattle.pubkey.specs.declared.Pubkey.{Pubkey}
-use Rattle.refusal.specs.Refusal.{Said, gives, refused, tooShort, limitTooLarge, unsound, overflow}
+use Rattle.refusal.specs.Refusal.{Said, gives, refused, tooShort, limitTooLarge, unsound}
 use Rattle.table.specs.Table.{look}
 use Rattle.table.specs.Outcome as lent
 pub use Rattle.table.specs.Outcome.{changedRows, countAfter}
@@ -18,12 +18,11 @@ use Rattle.peer_verdict.specs.declared.verdict.Cause.{Cause}
 use Rattle.peer_verdict.specs.declared.verdict.Cause.the-variants as Cause
 use Rattle.peer_verdict.specs.declared.verdict.InvalidCause.{InvalidCause}
 use Rattle.peer_verdict.specs.declared.verdict.InvalidCause.the-variants as InvalidCause
+use Rattle.peer_verdict.specs.Causes.{causeSays, invalidCauseSays}
 use Rattle.peer_message_policy.specs.declared.answer.Made.{Made}
 use Rattle.peer_message_policy.specs.declared.answer.Made.the-variants as Made
-use Rattle.peer_message_policy.specs.declared.answer.PeerMessageAdmission.{PeerMessageAdmission}
-use Rattle.peer_message_policy.specs.declared.answer.PeerMessageAdmission.the-variants as Admission
+use Rattle.peer_message_policy.specs.declared.answer.Admission.{Admission}
 use Rattle.peer_message_policy.specs.declared.answer.Invalid.{Invalid}
-use Rattle.peer_message_policy.specs.declared.answer.Invalid.the-variants as Invalid
 use Rattle.peer_message_policy.specs.declared.answer.Standing.{Standing}
 use Rattle.peer_message_policy.specs.declared.answer.Standing.the-variants as Standing
 use Rattle.peer_message_policy.specs.declared.answer.Changed.{Changed}
@@ -43,35 +42,18 @@ abbrev pub madeSays : Made → Said
 madeSays (Made.Policy p) = gives []
 madeSays (Made.Refused n) = refused n
 
--- what an Allow says
-abbrev pub allow : Said
-allow = gives (0 ∷ [])
-
--- what a Disconnect says
-abbrev pub disconnect : Said
-disconnect = gives (1 ∷ [])
-
--- what a Ban says
-abbrev pub ban : Said
-ban = gives (2 ∷ [])
-
 -- whether admit's answer says Allow: by its first value, whatever stands behind it (other calls use the same numbers)
 abbrev pub isAllow : Said → Bool
 isAllow (gives []) = false
 isAllow (gives (n ∷ more)) = eqb n 0
 isAllow (refused n) = false
 
-abbrev pub admissionSays : PeerMessageAdmission → Said
-admissionSays (Admission.Allow p) = allow
-admissionSays (Admission.Disconnect p) = disconnect
-admissionSays (Admission.Ban p) = ban
-admissionSays (Admission.Refused n) = refused n
+-- the policy that an answer carries says nothing
+abbrev pub admissionSays : Admission → Said
+admissionSays a = causeSays (a .cause)
 
--- 1 for banned, 0 for noted
 abbrev pub invalidSays : Invalid → Said
-invalidSays (Invalid.Banned p) = gives (1 ∷ [])
-invalidSays (Invalid.Noted p) = gives (0 ∷ [])
-invalidSays (Invalid.Refused n) = refused n
+invalidSays a = invalidCauseSays (a .cause)
 
 -- 1 for banned, 0 for free
 abbrev pub standingSays : Standing → Said
@@ -133,33 +115,23 @@ newOutcome c s =
 unfoldable pub NewMeets : PeerMessagePolicyConfig → List ℕ → Made → List ℕ → Type 0
 NewMeets c before r after = Meets r before after (limit c) (newOutcome c before)
 
--- the public answer merges the causes
-abbrev pub admissionOf : PeerMessagePolicy → Cause → PeerMessageAdmission
-admissionOf p Cause.Allowed = Admission.Allow p
-admissionOf p Cause.MessagesShort = Admission.Disconnect p
-admissionOf p (Cause.BytesShort k) = Admission.Disconnect p
-admissionOf p Cause.NoSlot = Admission.Disconnect p
-admissionOf p (Cause.CeilingShort k) = Admission.Disconnect p
-admissionOf p Cause.LiveBan = Admission.Ban p
-admissionOf p Cause.BanBegun = Admission.Ban p
-admissionOf p Cause.Overflow = Admission.Refused overflow
+-- a cause, with the policy
+abbrev pub admissionOf : PeerMessagePolicy → Cause → Admission
+admissionOf p cause = record { cause = cause; policy = p }
 
-abbrev pub admissionTurn : PeerMessagePolicy → Turn Cause → Outcome PeerMessageAdmission
+abbrev pub admissionTurn : PeerMessagePolicy → Turn Cause → Outcome Admission
 admissionTurn p t = record { answer = admissionOf (policyAfter p (t .ingress) (t .change)) (t .cause); change = t .change }
 
-unfoldable pub admitOutcome : PeerMessagePolicy → List ℕ → Pubkey → ℕ → ℕ → Outcome PeerMessageAdmission
+unfoldable pub admitOutcome : PeerMessagePolicy → List ℕ → Pubkey → ℕ → ℕ → Outcome Admission
 admitOutcome p s k size now =
     cond (sound p s) (admissionTurn p (admit (p .config) (p .ingress) (rowsOf p s) (k .bytes) size now))
-    (refuse (Admission.Refused unsound))
+    (refuse (admissionOf p (Cause.Refused unsound)))
 
-unfoldable pub AdmitMeets : PeerMessagePolicy → List ℕ → Pubkey → ℕ → ℕ → PeerMessageAdmission → List ℕ → Type 0
+unfoldable pub AdmitMeets : PeerMessagePolicy → List ℕ → Pubkey → ℕ → ℕ → Admission → List ℕ → Type 0
 AdmitMeets p before k size now r after = Meets r before after (p .rows) (admitOutcome p before k size now)
 
--- a ban, live or begun, is answered Banned
 abbrev pub invalidOf : PeerMessagePolicy → InvalidCause → Invalid
-invalidOf p InvalidCause.Noted = Invalid.Noted p
-invalidOf p InvalidCause.LiveBan = Invalid.Banned p
-invalidOf p InvalidCause.BanBegun = Invalid.Banned p
+invalidOf p cause = record { cause = cause; policy = p }
 
 abbrev pub invalidTurn : PeerMessagePolicy → Turn InvalidCause → Outcome Invalid
 invalidTurn p t = record { answer = invalidOf (policyAfter p (t .ingress) (t .change)) (t .cause); change = t .change }
@@ -167,7 +139,7 @@ invalidTurn p t = record { answer = invalidOf (policyAfter p (t .ingress) (t .ch
 unfoldable pub recordInvalidOutcome : PeerMessagePolicy → List ℕ → Pubkey → ℕ → Outcome Invalid
 recordInvalidOutcome p s k now =
     cond (sound p s) (invalidTurn p (recordInvalid (p .config) (p .ingress) (rowsOf p s) (k .bytes) now))
-    (refuse (Invalid.Refused unsound))
+    (refuse (invalidOf p (InvalidCause.Refused unsound)))
 
 unfoldable pub RecordInvalidMeets : PeerMessagePolicy → List ℕ → Pubkey → ℕ → Invalid → List ℕ → Type 0
 RecordInvalidMeets p before k now r after = Meets r before after (p .rows) (recordInvalidOutcome p before k now)

@@ -20,8 +20,8 @@ use Rattle.peer_verdict.specs.declared.verdict.InvalidCause.the-variants as Inv
 use Rattle.peer_verdict.specs.declared.verdict.InvalidDecision.{InvalidDecision}
 use Rattle.peer_settings.specs.Config.{limit}
 use Rattle.peer_state.specs.Entry.{entryNew, entryIsBanned, entryIsSpent, entryExpireWindows}
-use Rattle.peer_state.specs.Ingress.{ingressSound}
-use Rattle.peer_verdict.specs.Verdict.{decision, invalidDecision, overflows}
+use Rattle.peer_state.specs.Ingress.{tryReserve, ingressSound}
+use Rattle.peer_verdict.specs.Verdict.{decision, invalidDecision, refuses}
 use Rattle.peer_rows.specs.Rows.{rowWidth, Peers, peerLayout, peerSound}
 use Rattle.peer_table.specs.Room.{makeRoom}
 use Rattle.peer_message_policy.specs.declared.policy.PeerMessagePolicy.{PeerMessagePolicy}
@@ -90,15 +90,15 @@ abbrev pub turnOf : {C : Type 0} → FiberIngressBudget → C → (PeerMessagePo
 turnOf i live goOn banned = unchanged i live
 turnOf i live goOn (update e rs) = goOn e rs
 
--- a message's decision is carried out; refusal 4 undoes everything
+-- a message's decision is carried out; a refusal undoes everything
 unfoldable pub carriedOut : FiberIngressBudget → List ℕ → Peers → Decision → Turn Cause
 carriedOut i k rs d =
-    cond (overflows (d .cause)) (unchanged i (d .cause)) (inserted (d .ingress) k rs (d .cause) (d .entry))
+    cond (refuses (d .cause)) (unchanged i (d .cause)) (inserted (d .ingress) k rs (d .cause) (d .entry))
 
 -- admit
 unfoldable pub admit : PeerMessagePolicyConfig → FiberIngressBudget → Peers → List ℕ → ℕ → ℕ → Turn Cause
 admit c i rs k size now =
-    turnOf i Cause.LiveBan (λ e xs. carriedOut i k xs (decision c i e size now)) (entryForUpdate c now rs k (look k rs))
+    turnOf i Cause.LiveBan (λ e xs. carriedOut i k xs (decision c i e size now (tryReserve c i size))) (entryForUpdate c now rs k (look k rs))
 
 -- an invalid message's decision is carried out; the load stays as it is
 abbrev pub notedDown : FiberIngressBudget → List ℕ → Peers → InvalidDecision → Turn InvalidCause

@@ -1,6 +1,9 @@
-// What the calls answer. The policy comes back inside the answer; `Refused` carries the number of the refusal and nothing else,
-// since a refused call changes nothing.
+// What the calls answer. The policy comes back inside the answer; a refusal carries its number, and a refused call changes nothing.
+ghost use mathlib.Core.Path.{_≡_};
+ghost use Rattle.peer_message_policy.specs.Merged.{merge};
 use super::policy::PeerMessagePolicy;
+use peer_verdict::verdict::Cause;
+use peer_verdict::verdict::InvalidCause;
 
 // A policy was made.
 pub enum Made {
@@ -8,7 +11,13 @@ pub enum Made {
     Refused(u32),
 }
 
-// The Rust's three answers.
+// Why a message is admitted or not; after a refusal the policy is as it was.
+pub struct Admission {
+    pub cause: Cause,
+    pub policy: PeerMessagePolicy,
+}
+
+// The Rust's three answers, or a refusal.
 pub enum PeerMessageAdmission {
     Allow(PeerMessagePolicy),
     Disconnect(PeerMessagePolicy),
@@ -16,11 +25,27 @@ pub enum PeerMessageAdmission {
     Refused(u32),
 }
 
-// An invalid message was noted, or its sender is banned.
-pub enum Invalid {
-    Banned(PeerMessagePolicy),
-    Noted(PeerMessagePolicy),
-    Refused(u32),
+impl Admission {
+    // The answer that the Rust gives: which limit ran short is left out, and whether a ban is live or begins.
+    pub fn merge(self) -> PeerMessageAdmission
+        ensures { λ r. ⌜ r ≡ merge self ⌝ }
+    {
+        let cause = self.cause;
+        let policy = self.policy;
+        match cause {
+            Cause::Allowed => PeerMessageAdmission::Allow(policy),
+            Cause::Short(_) => PeerMessageAdmission::Disconnect(policy),
+            Cause::LiveBan => PeerMessageAdmission::Ban(policy),
+            Cause::BanBegun => PeerMessageAdmission::Ban(policy),
+            Cause::Refused(number) => PeerMessageAdmission::Refused(number),
+        }
+    }
+}
+
+// Why the sender of an invalid message is banned or not; after a refusal the policy is as it was.
+pub struct Invalid {
+    pub cause: InvalidCause,
+    pub policy: PeerMessagePolicy,
 }
 
 // Whether a peer is banned.

@@ -1,11 +1,10 @@
 // What the calls do once the policy is judged and the peer is found, or its place: decide, then write.
-ghost use mathlib.Core.Path.{_≡_};
 ghost use Rattle.peer_message_policy.specs.Calls.{AdmitMeets, RecordInvalidMeets, IsBannedMeets, OnDisconnectedMeets, HeldTimeMeets};
 ghost use Rattle.peer_message_policy.specs.Private.{Known, Unknown};
+use super::answer::Admission;
 use super::answer::Changed;
 use super::answer::HeldTime;
 use super::answer::Invalid;
-use super::answer::PeerMessageAdmission;
 use super::answer::Standing;
 use super::carry;
 use super::policy::PeerMessagePolicy;
@@ -21,7 +20,7 @@ pub(crate) fn admit_known(
     index: usize,
     bytes: u64,
     now_ms: u64,
-) -> PeerMessageAdmission
+) -> Admission
     requires { ⌜ Known p (now table) (peer .bytes) index ⌝ }
     ensures { λ r. ⌜ AdmitMeets p (now (table .entry)) peer bytes «now_ms» r (now (table .exit)) ⌝ }
 {
@@ -29,20 +28,24 @@ pub(crate) fn admit_known(
     let ingress = p.ingress;
     let entry = peer_rows::row::entry_at(table, index);
     if entry.is_banned(now_ms) {
-        return carry::admission_of(p, Cause::LiveBan);
+        return Admission {
+            cause: Cause::LiveBan,
+            policy: p,
+        };
     }
     let current = peer_state::entry::entry_to_update(config, entry, now_ms);
-    let d = peer_verdict::verdict::decide(config, ingress, current, bytes, now_ms);
+    let room = ingress.try_reserve(config, bytes);
+    let d = peer_verdict::verdict::decide(config, ingress, current, bytes, now_ms, room);
     let cause = d.cause;
-    if peer_verdict::verdict::overflows(cause) {
-        return carry::admission_of(p, cause);
+    if peer_verdict::verdict::refuses(cause) {
+        return Admission { cause, policy: p };
     }
     let after = d.entry;
     let load = d.ingress;
-    carry::admission_of(
-        carry::store_known(p, table, peer, index, after, load),
+    Admission {
         cause,
-    )
+        policy: carry::store_known(p, table, peer, index, after, load),
+    }
 }
 
 pub(crate) fn admit_new(
@@ -52,24 +55,25 @@ pub(crate) fn admit_new(
     gap: usize,
     bytes: u64,
     now_ms: u64,
-) -> PeerMessageAdmission
+) -> Admission
     requires { ⌜ Unknown p (now table) (peer .bytes) gap ⌝ }
     ensures { λ r. ⌜ AdmitMeets p (now (table .entry)) peer bytes «now_ms» r (now (table .exit)) ⌝ }
 {
     let config = p.config;
     let ingress = p.ingress;
     let entry = PeerMessagePolicyEntry::new(now_ms, config);
-    let d = peer_verdict::verdict::decide(config, ingress, entry, bytes, now_ms);
+    let room = ingress.try_reserve(config, bytes);
+    let d = peer_verdict::verdict::decide(config, ingress, entry, bytes, now_ms, room);
     let cause = d.cause;
-    if peer_verdict::verdict::overflows(cause) {
-        return carry::admission_of(p, cause);
+    if peer_verdict::verdict::refuses(cause) {
+        return Admission { cause, policy: p };
     }
     let after = d.entry;
     let load = d.ingress;
-    carry::admission_of(
-        carry::store_new(p, table, peer, gap, after, load, now_ms),
+    Admission {
         cause,
-    )
+        policy: carry::store_new(p, table, peer, gap, after, load, now_ms),
+    }
 }
 
 pub(crate) fn invalid_known(
@@ -86,16 +90,19 @@ pub(crate) fn invalid_known(
     let ingress = p.ingress;
     let entry = peer_rows::row::entry_at(table, index);
     if entry.is_banned(now_ms) {
-        return carry::invalid_of(p, InvalidCause::LiveBan);
+        return Invalid {
+            cause: InvalidCause::LiveBan,
+            policy: p,
+        };
     }
     let current = peer_state::entry::entry_to_update(config, entry, now_ms);
     let d = peer_verdict::verdict::decide_invalid(config, current, now_ms);
     let cause = d.cause;
     let after = d.entry;
-    carry::invalid_of(
-        carry::store_known(p, table, peer, index, after, ingress),
+    Invalid {
         cause,
-    )
+        policy: carry::store_known(p, table, peer, index, after, ingress),
+    }
 }
 
 pub(crate) fn invalid_new(
@@ -114,10 +121,10 @@ pub(crate) fn invalid_new(
     let d = peer_verdict::verdict::decide_invalid(config, entry, now_ms);
     let cause = d.cause;
     let after = d.entry;
-    carry::invalid_of(
-        carry::store_new(p, table, peer, gap, after, ingress, now_ms),
+    Invalid {
         cause,
-    )
+        policy: carry::store_new(p, table, peer, gap, after, ingress, now_ms),
+    }
 }
 
 pub(crate) fn standing_known(

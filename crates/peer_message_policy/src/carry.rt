@@ -1,47 +1,15 @@
 // Carrying a decision out: its entry is stored, and the policy goes on with the load in flight.
 ghost use mathlib.Core.Path.{_≡_};
-ghost use Rattle.peer_message_policy.specs.Calls.{admissionOf, invalidOf};
 ghost use Rattle.table.specs.Table.{store, erase};
 ghost use Rattle.peer_message_policy.specs.Private.{Known, Unknown, Left};
 ghost use Rattle.peer_state.specs.Entry.{entryExpireWindows};
 ghost use Rattle.peer_rows.specs.Private.{entryAt};
 ghost use Rattle.peer_table.specs.Room.{makeRoom};
 ghost use Rattle.peer_message_policy.specs.Policy.{rowsOf};
-use super::answer::Invalid;
-use super::answer::PeerMessageAdmission;
 use super::policy::PeerMessagePolicy;
 use peer_state::entry::PeerMessagePolicyEntry;
 use peer_state::ingress::FiberIngressBudget;
-use peer_verdict::verdict::Cause;
-use peer_verdict::verdict::InvalidCause;
 use pubkey::Pubkey;
-
-// The public answer merges the causes.
-pub(crate) fn admission_of(p: PeerMessagePolicy, cause: Cause) -> PeerMessageAdmission
-    ensures { λ r. ⌜ r ≡ admissionOf p cause ⌝ }
-{
-    match cause {
-        Cause::Allowed => PeerMessageAdmission::Allow(p),
-        Cause::MessagesShort => PeerMessageAdmission::Disconnect(p),
-        Cause::BytesShort(_) => PeerMessageAdmission::Disconnect(p),
-        Cause::NoSlot => PeerMessageAdmission::Disconnect(p),
-        Cause::CeilingShort(_) => PeerMessageAdmission::Disconnect(p),
-        Cause::LiveBan => PeerMessageAdmission::Ban(p),
-        Cause::BanBegun => PeerMessageAdmission::Ban(p),
-        Cause::Overflow => PeerMessageAdmission::Refused(refusal::OVERFLOW),
-    }
-}
-
-// Banned where a ban is live or begins, else noted.
-pub(crate) fn invalid_of(p: PeerMessagePolicy, cause: InvalidCause) -> Invalid
-    ensures { λ r. ⌜ r ≡ invalidOf p cause ⌝ }
-{
-    match cause {
-        InvalidCause::Noted => Invalid::Noted(p),
-        InvalidCause::LiveBan => Invalid::Banned(p),
-        InvalidCause::BanBegun => Invalid::Banned(p),
-    }
-}
 
 // Stores the decided entry of a peer that has a row. The peer is named for the contract: its key stands in the row already.
 pub(crate) fn store_known(

@@ -3,18 +3,20 @@ ghost use mathlib.Core.Path.{_≡_};
 ghost use Rattle.peer_settings.specs.Config.{configDefault, configWithLimits};
 ghost use Rattle.peer_message_policy.specs.Policy.{policySound, sound};
 ghost use Rattle.peer_message_policy.specs.Calls.{fresh, policyWith, NewMeets, AdmitMeets, RecordInvalidMeets, IsBannedMeets, OnDisconnectedMeets, ReleaseIngressMeets, InFlightMeets, HeldTimeMeets};
+use super::answer::Admission;
 use super::answer::Changed;
 use super::answer::HeldTime;
 use super::answer::InFlight;
 use super::answer::Invalid;
 use super::answer::Made;
-use super::answer::PeerMessageAdmission;
 use super::answer::Standing;
 use super::calls;
 use super::judge;
 use peer_rows::row::ROW_WIDTH;
 use peer_settings::config::PeerMessagePolicyConfig;
 use peer_state::ingress::FiberIngressBudget;
+use peer_verdict::verdict::Cause;
+use peer_verdict::verdict::InvalidCause;
 use pubkey::PUBKEY_SIZE;
 use pubkey::Pubkey;
 use table::seek::Seek;
@@ -93,19 +95,17 @@ impl PeerMessagePolicy {
         PeerMessagePolicy::new(config, table)
     }
 
-    // Judges one inbound message. Refused with 3, then with 4 where it would be an Allow and the numbers in flight have no room.
-    pub fn admit(
-        self,
-        table: &mut [u8],
-        peer: Pubkey,
-        bytes: u64,
-        now_ms: u64,
-    ) -> PeerMessageAdmission
+    // Judges one inbound message, and says why: where several limits run short, the first of messages, bytes and ceiling is named.
+    // Refused with 3, then with 4 where it would be an Allow and the numbers in flight have no room.
+    pub fn admit(self, table: &mut [u8], peer: Pubkey, bytes: u64, now_ms: u64) -> Admission
         ensures { λ r. ⌜ AdmitMeets self (now (table .entry)) peer bytes «now_ms» r (now (table .exit)) ⌝ }
     {
         let found = judge::sought(self, table, peer);
         match found {
-            Seek::Unsound => PeerMessageAdmission::Refused(refusal::UNSOUND),
+            Seek::Unsound => Admission {
+                cause: Cause::Refused(refusal::UNSOUND),
+                policy: self,
+            },
             Seek::At(index) => calls::admit_known(self, table, peer, index, bytes, now_ms),
             Seek::Gap(gap) => calls::admit_new(self, table, peer, gap, bytes, now_ms),
         }
@@ -117,7 +117,10 @@ impl PeerMessagePolicy {
     {
         let found = judge::sought(self, table, peer);
         match found {
-            Seek::Unsound => Invalid::Refused(refusal::UNSOUND),
+            Seek::Unsound => Invalid {
+                cause: InvalidCause::Refused(refusal::UNSOUND),
+                policy: self,
+            },
             Seek::At(index) => calls::invalid_known(self, table, peer, index, now_ms),
             Seek::Gap(gap) => calls::invalid_new(self, table, peer, gap, now_ms),
         }

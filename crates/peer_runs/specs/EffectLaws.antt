@@ -21,7 +21,7 @@ use Rattle.peer_laws.specs.CallLaws.{
   held-time-answer,
 }
 use Rattle.peer_runs.specs.Runs.{Call, admit, recordInvalid, isBanned, onDisconnected, releaseIngress, inFlight, heldTime, State, rowsIn}
-use Rattle.peer_runs.specs.Runs.{afterAdmit, afterInvalid, afterStanding, afterChanged, Step, KeyFits, CallFits}
+use Rattle.peer_runs.specs.Runs.{afterStanding, afterChanged, Step, KeyFits, CallFits}
 use Rattle.peer_runs.specs.SoundRunLaws.{StateLeaves, StateHolds, admit-left, record-invalid-left, is-banned-left, on-disconnected-left, release-ingress-left, same-left}
 use Rattle.peer_runs.specs.Effects.{effectBy, effectOf, CameTo}
 
@@ -48,13 +48,13 @@ module _ (s : State) (is-sound : sound (s .policy) (s .memory) ≡ true) (holds-
     admit-effect : (bytes now : ℕ) → Step s (admit k bytes now) said t → Comes (admit k bytes now)
     unfolding AdmitMeets
     admit-effect bytes now step =
-        met-effect admissionSays afterAdmit s said t (step .1) (admit-outcome (s .policy) (s .memory) is-sound k bytes now) (step .2) (step .3)
+        met-effect admissionSays (λ q a. a .policy) s said t (step .1) (admit-outcome (s .policy) (s .memory) is-sound k bytes now) (step .2) (step .3)
         (admit-left s here said t k key bytes now step)
 
     record-invalid-effect : (now : ℕ) → Step s (recordInvalid k now) said t → Comes (recordInvalid k now)
     unfolding RecordInvalidMeets
     record-invalid-effect now step =
-        met-effect invalidSays afterInvalid s said t (step .1) (record-invalid-outcome (s .policy) (s .memory) is-sound k now) (step .2) (step .3)
+        met-effect invalidSays (λ q a. a .policy) s said t (step .1) (record-invalid-outcome (s .policy) (s .memory) is-sound k now) (step .2) (step .3)
         (record-invalid-left s here said t k key now step)
 
     is-banned-effect : (now : ℕ) → Step s (isBanned k now) said t → Comes (isBanned k now)

@@ -12,7 +12,7 @@ use Rattle.peer_message_policy.specs.Policy.{Change, same, isBannedChange, disc
 use Rattle.peer_message_policy.specs.Calls.{policyAfter, Outcome, admissionSays, admissionTurn, invalidSays, invalidTurn, standingSays, standingChanged, changedSays, changedBy}
 use Rattle.peer_laws.specs.SoundLaws.{Leaves}
 use Rattle.peer_runs.specs.Runs.{Call, admit, recordInvalid, isBanned, onDisconnected, releaseIngress, inFlight, heldTime, State}
-use Rattle.peer_runs.specs.Runs.{afterAdmit, afterInvalid, afterStanding, afterChanged}
+use Rattle.peer_runs.specs.Runs.{afterStanding, afterChanged}
 
 -- what is said, the policy after it, and what becomes of the rows
 pub record Effect : Type 0 where
@@ -27,9 +27,9 @@ effectBy says next p o = record { says = says (o .answer); policy = next p (o .a
 -- the effect of a call on a policy with these rows
 abbrev pub effectOf : Call → PeerMessagePolicy → Peers → Effect
 effectOf (admit k bytes now) p rs =
-    effectBy admissionSays afterAdmit p (admissionTurn p (Policy.admit (p .config) (p .ingress) rs (k .bytes) bytes now))
+    effectBy admissionSays (λ q a. a .policy) p (admissionTurn p (Policy.admit (p .config) (p .ingress) rs (k .bytes) bytes now))
 effectOf (recordInvalid k now) p rs =
-    effectBy invalidSays afterInvalid p (invalidTurn p (Policy.recordInvalid (p .config) (p .ingress) rs (k .bytes) now))
+    effectBy invalidSays (λ q a. a .policy) p (invalidTurn p (Policy.recordInvalid (p .config) (p .ingress) rs (k .bytes) now))
 effectOf (isBanned k now) p rs =
     effectBy standingSays afterStanding p
     (standingChanged p (Policy.isBanned (look (k .bytes) rs) now) (isBannedChange rs (k .bytes) now (look (k .bytes) rs)))

@@ -11,10 +11,8 @@ use Rattle.peer_settings.specs.declared.config.PeerMessagePolicyConfig.{PeerMes
 use Rattle.peer_message_policy.specs.declared.policy.PeerMessagePolicy.{PeerMessagePolicy}
 use Rattle.peer_message_policy.specs.declared.answer.Made.{Made}
 use Rattle.peer_message_policy.specs.declared.answer.Made.the-variants as Made
-use Rattle.peer_message_policy.specs.declared.answer.PeerMessageAdmission.{PeerMessageAdmission}
-use Rattle.peer_message_policy.specs.declared.answer.PeerMessageAdmission.the-variants as Admission
+use Rattle.peer_message_policy.specs.declared.answer.Admission.{Admission}
 use Rattle.peer_message_policy.specs.declared.answer.Invalid.{Invalid}
-use Rattle.peer_message_policy.specs.declared.answer.Invalid.the-variants as Invalid
 use Rattle.peer_message_policy.specs.declared.answer.Standing.{Standing}
 use Rattle.peer_message_policy.specs.declared.answer.Standing.the-variants as Standing
 use Rattle.peer_message_policy.specs.declared.answer.Changed.{Changed}
@@ -45,18 +43,8 @@ pub record State : Type 0 where
 abbrev pub rowsIn : State → Peers
 rowsIn s = rowsOf (s .policy) (s .memory)
 
--- the policy that a caller goes on with: the one in the answer, or his own copy after a refusal
-abbrev pub afterAdmit : PeerMessagePolicy → PeerMessageAdmission → PeerMessagePolicy
-afterAdmit p (Admission.Allow q) = q
-afterAdmit p (Admission.Disconnect q) = q
-afterAdmit p (Admission.Ban q) = q
-afterAdmit p (Admission.Refused n) = p
-
-abbrev pub afterInvalid : PeerMessagePolicy → Invalid → PeerMessagePolicy
-afterInvalid p (Invalid.Banned q) = q
-afterInvalid p (Invalid.Noted q) = q
-afterInvalid p (Invalid.Refused n) = p
-
+-- the policy that a caller goes on with: the one in the answer, or his own copy after a refusal; the answers of admit and record_invalid
+-- always have one
 abbrev pub afterStanding : PeerMessagePolicy → Standing → PeerMessagePolicy
 afterStanding p (Standing.Banned q) = q
 afterStanding p (Standing.Free q) = q
@@ -69,15 +57,15 @@ afterChanged p (Changed.Refused n) = p
 -- one call, from a state to a state, with what it says: exactly what the call's contract allows
 abbrev pub Step : State → Call → Said → State → Type 0
 Step s (admit k bytes now) said t =
-    (r : PeerMessageAdmission)
+    (r : Admission)
     × AdmitMeets (s .policy) (s .memory) k bytes now r (t .memory)
     × (said ≡ admissionSays r)
-    × (t .policy ≡ afterAdmit (s .policy) r)
+    × (t .policy ≡ r .policy)
 Step s (recordInvalid k now) said t =
     (r : Invalid)
     × RecordInvalidMeets (s .policy) (s .memory) k now r (t .memory)
     × (said ≡ invalidSays r)
-    × (t .policy ≡ afterInvalid (s .policy) r)
+    × (t .policy ≡ r .policy)
 Step s (isBanned k now) said t =
     (r : Standing)
     × IsBannedMeets (s .policy) (s .memory) k now r (t .memory)

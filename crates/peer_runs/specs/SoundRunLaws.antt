@@ -9,10 +9,6 @@ use Rattle.refusal.specs.Refusal.{Said}
 use Rattle.table.specs.Table.{look}
 use Rattle.peer_settings.specs.declared.config.PeerMessagePolicyConfig.{PeerMessagePolicyConfig}
 use Rattle.peer_message_policy.specs.declared.policy.PeerMessagePolicy.{PeerMessagePolicy}
-use Rattle.peer_message_policy.specs.declared.answer.PeerMessageAdmission.{PeerMessageAdmission}
-use Rattle.peer_message_policy.specs.declared.answer.PeerMessageAdmission.the-variants as Admission
-use Rattle.peer_message_policy.specs.declared.answer.Invalid.{Invalid}
-use Rattle.peer_message_policy.specs.declared.answer.Invalid.the-variants as Invalid
 use Rattle.peer_message_policy.specs.declared.answer.Standing.{Standing}
 use Rattle.peer_message_policy.specs.declared.answer.Standing.the-variants as Standing
 use Rattle.peer_message_policy.specs.declared.answer.Changed.{Changed}
@@ -21,8 +17,6 @@ use Rattle.peer_message_policy.specs.Policy
 use Rattle.peer_message_policy.specs.Policy.{sound, Change, same}
 use Rattle.peer_laws.specs.SoundLaws.{Leaves}
 use Rattle.peer_laws.specs.CallLaws.{
-  OfAdmission,
-  OfInvalid,
   OfStanding,
   OfChanged,
   admit-leaves,
@@ -43,8 +37,6 @@ use Rattle.peer_runs.specs.Runs.{
   heldTime,
   State,
   rowsIn,
-  afterAdmit,
-  afterInvalid,
   afterStanding,
   afterChanged,
   Step,
@@ -59,17 +51,6 @@ use Rattle.peer_runs.specs.Runs.{
 
 -- what holds of an answer's policy, or of the caller's own after a refusal, holds of the policy that he goes on with
 module _ (p : PeerMessagePolicy) (P : PeerMessagePolicy → Type 0) where
-  pub after-admit : (r : PeerMessageAdmission) → OfAdmission p P r → P (afterAdmit p r)
-  after-admit (Admission.Allow q) h = h
-  after-admit (Admission.Disconnect q) h = h
-  after-admit (Admission.Ban q) h = h
-  after-admit (Admission.Refused n) h = h
-
-  pub after-invalid : (r : Invalid) → OfInvalid p P r → P (afterInvalid p r)
-  after-invalid (Invalid.Banned q) h = h
-  after-invalid (Invalid.Noted q) h = h
-  after-invalid (Invalid.Refused n) h = h
-
   pub after-standing : (r : Standing) → OfStanding p P r → P (afterStanding p r)
   after-standing (Standing.Banned q) h = h
   after-standing (Standing.Free q) h = h
@@ -98,14 +79,12 @@ module _ {c : PeerMessagePolicyConfig} (s : State) (here : StateHolds c s) (said
     pub admit-left : (size now : ℕ) → Step s (admit k size now) said t
         → StateLeaves s (Policy.admit (s .policy .config) (s .policy .ingress) (rowsIn s) (k .bytes) size now .change) t
     admit-left size now step =
-        rw (step .3) (after-admit (s .policy) (Left _ (t .memory)) (step .0)
-        (admit-leaves (s .policy) (s .memory) (here .is-sound) (here .holds-bytes) k key size now (step .0) (t .memory) (step .1)))
+        rw (step .3) (admit-leaves (s .policy) (s .memory) (here .is-sound) (here .holds-bytes) k key size now (step .0) (t .memory) (step .1))
 
     pub record-invalid-left : (now : ℕ) → Step s (recordInvalid k now) said t
         → StateLeaves s (Policy.recordInvalid (s .policy .config) (s .policy .ingress) (rowsIn s) (k .bytes) now .change) t
     record-invalid-left now step =
-        rw (step .3) (after-invalid (s .policy) (Left _ (t .memory)) (step .0)
-        (record-invalid-leaves (s .policy) (s .memory) (here .is-sound) (here .holds-bytes) k key now (step .0) (t .memory) (step .1)))
+        rw (step .3) (record-invalid-leaves (s .policy) (s .memory) (here .is-sound) (here .holds-bytes) k key now (step .0) (t .memory) (step .1))
 
     pub is-banned-left : (now : ℕ) → Step s (isBanned k now) said t
         → StateLeaves s (Policy.isBannedChange (rowsIn s) (k .bytes) now (look (k .bytes) (rowsIn s))) t

@@ -6,10 +6,11 @@ use native.Mathlib.Omega.{arith}
 use borrow.Author.Tests.{leb-true, leb-false, ltb-true, ltb-false, le-leb}
 use lib.Dec.{ltb, leb, eqb}
 use Rattle.truths.specs.TruthLaws.{chosen, or-else}
+use Rattle.refusal.specs.Refusal.{overflow}
 use Rattle.peer_settings.specs.declared.config.PeerMessagePolicyConfig.{PeerMessagePolicyConfig}
 use Rattle.peer_state.specs.declared.ingress.FiberIngressBudget.{FiberIngressBudget}
 use Rattle.peer_state.specs.declared.ingress.Reservation.{Reservation}
-use Rattle.peer_state.specs.declared.ingress.Reservation.the-variants.{Reserved, NoSlot, BytesShort, Overflow}
+use Rattle.peer_state.specs.declared.ingress.Reservation.the-variants.{Reserved, NoSlot, BytesShort, Refused}
 use Rattle.peer_settings.specs.Config.{unlimited}
 use Rattle.peer_state.specs.Ingress.{ingressReserved, tryReserve, ingressReleased, ingressSound}
 
@@ -36,13 +37,13 @@ released-sound c i size h =
     record { messages = omega (arith, w .messages); bytes = omega (arith, w .bytes) })
 
 -- what holds of each answer of the ceiling: room is for this message, and stays within the ceiling; only a load without a
--- ceiling outgrows its numbers
+-- ceiling outgrows its numbers, which is refusal 4
 abbrev pub ReservationHolds : PeerMessagePolicyConfig → FiberIngressBudget → ℕ → Reservation → Type 0
 ReservationHolds c i size (Reserved after) =
     (after ≡ ingressReserved i size) × (ingressSound c i ≡ true → ingressSound c after ≡ true)
 ReservationHolds c i size NoSlot = unlimited c ≡ false
 ReservationHolds c i size (BytesShort k) = (unlimited c ≡ false) × (1 ≤ k)
-ReservationHolds c i size Overflow = unlimited c ≡ true
+ReservationHolds c i size (Refused n) = (unlimited c ≡ true) × (n ≡ overflow)
 
 pub reservation-holds : (c : PeerMessagePolicyConfig) (i : FiberIngressBudget) (size : ℕ) → ReservationHolds c i size (tryReserve c i size)
 unfolding tryReserve
@@ -51,7 +52,7 @@ reservation-holds c i size =
     (λ u.
     chosen (ReservationHolds c i size)
     (eqb (i .«in_flight_messages») 4294967295 || ltb 18446744073709551615 (i .«in_flight_bytes» + size))
-    (λ o. u)
+    (λ o. (u, refl))
     (λ o. (refl, λ h. within-sound c (ingressReserved i size) (λ f. absurd (true≢false (sym u ∙ f))))))
     (λ u.
     chosen (ReservationHolds c i size) (leb (c .«max_in_flight_messages») (i .«in_flight_messages»))

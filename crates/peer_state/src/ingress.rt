@@ -15,20 +15,21 @@ pub enum Reservation {
     Reserved(FiberIngressBudget),
     NoSlot,
     BytesShort(u64),
-    Overflow,
+    Refused(u32),
 }
 
 impl FiberIngressBudget {
-    // Room for one message of this size: a slot first, then the bytes. Without a ceiling the load may outgrow its numbers.
+    // Room for one message of this size: a slot first, then the bytes. Without a ceiling the load may outgrow its numbers, and is
+    // then refused with 4.
     pub fn try_reserve(self, config: PeerMessagePolicyConfig, size: u64) -> Reservation
         ensures { λ r. ⌜ r ≡ tryReserve config self size ⌝ }
     {
         if config.is_unlimited() {
             if self.in_flight_messages == 4_294_967_295 {
-                return Reservation::Overflow;
+                return Reservation::Refused(refusal::OVERFLOW);
             }
             if size > 18_446_744_073_709_551_615 - self.in_flight_bytes {
-                return Reservation::Overflow;
+                return Reservation::Refused(refusal::OVERFLOW);
             }
             return Reservation::Reserved(reserved(self, size));
         }

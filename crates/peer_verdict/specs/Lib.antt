@@ -1,3 +1,4 @@
 pub mod TakeLaws
 pub mod Verdict
+pub mod Causes
 pub mod VerdictLaws

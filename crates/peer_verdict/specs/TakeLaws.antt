@@ -1,5 +1,5 @@
--- Laws of a take out of a bucket: no level passes its capacity, and a byte bucket that does not pass falls short by something. They
--- ask for no range of the numbers. Assumes nothing.
+-- Laws of a take out of a bucket: no level passes its capacity, a message bucket that does not pass falls short by one message, and a
+-- byte bucket that does not by something. They ask for no range of the numbers. Assumes nothing.
 use mathlib.Core.Path.{_≡_, refl}
 use mathlib.Core.Bool.{true, false, _||_, true≢false}
 use Prim.Native.Nat.{ℕ, zero, suc, _+_, _-_, _*_, _/_, _%_, _^_, _≤_, _<_, min}
@@ -51,6 +51,20 @@ message-level c l now h =
     (λ on.
     let refilled = discreteRefill (messageBucket c l) now in
     omega (arith, discrete-take-less refilled, discrete-refill-bounded (messageBucket c l) now h))
+
+discrete-take-missing : (b : DiscreteTokenBucket) → passes (discreteTake b .answer) ≡ false → missing (discreteTake b .answer) ≡ 1
+unfolding discreteTake
+discrete-take-missing b =
+    chosen (λ (r : DiscreteConsumed). passes (r .answer) ≡ false → missing (r .answer) ≡ 1) (eqb (b .available) 0) (λ t no. refl)
+    (λ t no. absurd (true≢false no))
+
+-- a message bucket that does not pass falls short by one message
+pub message-missing : (c : PeerMessagePolicyConfig) (l : Level) (now : ℕ) → passes (takeMessage c l now .answer) ≡ false → missing (takeMessage c l now .answer) ≡ 1
+unfolding takeMessage discreteTryConsume
+message-missing c l now =
+    chosen (λ (r : DiscreteConsumed). passes (r .answer) ≡ false → missing (r .answer) ≡ 1) (messageLimitDisabled c)
+    (λ off no. absurd (true≢false no))
+    (λ on. discrete-take-missing (discreteRefill (messageBucket c l) now))
 
 -- ════ The byte bucket ════
 

@@ -19,6 +19,7 @@ use Rattle.peer_state.specs.declared.entry.PeerMessagePolicyEntry.{PeerMessageP
 use Rattle.peer_state.specs.declared.ingress.FiberIngressBudget.{FiberIngressBudget}
 use Rattle.peer_state.specs.declared.ingress.Reservation.{Reservation}
 use Rattle.peer_state.specs.declared.ingress.Reservation.the-variants as Reservation
+use Rattle.peer_verdict.specs.declared.verdict.Shortage.the-variants as Shortage
 use Rattle.peer_verdict.specs.declared.verdict.Cause.{Cause}
 use Rattle.peer_verdict.specs.declared.verdict.Cause.the-variants as Cause
 use Rattle.peer_verdict.specs.declared.verdict.InvalidCause.the-variants as InvalidCause
@@ -26,7 +27,6 @@ use Rattle.peer_verdict.specs.declared.verdict.Decision.{Decision}
 use Rattle.peer_verdict.specs.declared.verdict.InvalidDecision.{InvalidDecision}
 use Rattle.peer_settings.specs.Config.{messageLimitDisabled, banDisabled, bytesOf}
 use Rattle.peer_state.specs.Entry.{level, windowRecord, entryBan, entryUsed}
-use Rattle.peer_state.specs.Ingress.{tryReserve}
 
 -- ════ The two buckets, on copies ════
 
@@ -126,9 +126,9 @@ violated c i e now cause =
 -- and no violation is counted
 abbrev pub ceilingDecides : FiberIngressBudget → PeerMessagePolicyEntry → PeerMessagePolicyEntry → Reservation → Decision
 ceilingDecides i e charged (Reservation.Reserved after) = record { cause = Cause.Allowed; entry = charged; ingress = after }
-ceilingDecides i e charged Reservation.NoSlot = record { cause = Cause.NoSlot; entry = e; ingress = i }
-ceilingDecides i e charged (Reservation.BytesShort k) = record { cause = Cause.CeilingShort k; entry = e; ingress = i }
-ceilingDecides i e charged Reservation.Overflow = record { cause = Cause.Overflow; entry = e; ingress = i }
+ceilingDecides i e charged Reservation.NoSlot = record { cause = Cause.Short Shortage.Slot; entry = e; ingress = i }
+ceilingDecides i e charged (Reservation.BytesShort k) = record { cause = Cause.Short (Shortage.CeilingBytes k); entry = e; ingress = i }
+ceilingDecides i e charged (Reservation.Refused n) = record { cause = Cause.Refused n; entry = e; ingress = i }
 
 -- an entry whose windows are expired and whose last use is now: the message bucket, the byte bucket, the ceiling, in this order; the
 -- room that the ceiling has is given
@@ -139,12 +139,12 @@ weighedIn c i e size now reservation =
     in cond (passes (m .answer))
     (cond (passes (b .answer))
     (ceilingDecides i e (withBuckets e (m .bucket) (b .bucket)) reservation)
-    (violated c i e now (Cause.BytesShort (missing (b .answer)))))
-    (violated c i e now Cause.MessagesShort)
+    (violated c i e now (Cause.Short (Shortage.Bytes (missing (b .answer))))))
+    (violated c i e now (Cause.Short Shortage.Messages))
 
--- admit on an entry that is not banned, with the room that the load in flight leaves
-unfoldable pub decision : PeerMessagePolicyConfig → FiberIngressBudget → PeerMessagePolicyEntry → ℕ → ℕ → Decision
-decision c i e size now = weighedIn c i (entryUsed e now (c .«ban_duration_ms»)) size now (tryReserve c i size)
+-- admit on an entry that is not banned, with what the ceiling says to the message
+unfoldable pub decision : PeerMessagePolicyConfig → FiberIngressBudget → PeerMessagePolicyEntry → ℕ → ℕ → Reservation → Decision
+decision c i e size now reservation = weighedIn c i (entryUsed e now (c .«ban_duration_ms»)) size now reservation
 
 -- an invalid message counted on an entry whose windows are expired and whose last use is now
 unfoldable pub noted : PeerMessagePolicyConfig → PeerMessagePolicyEntry → ℕ → InvalidDecision
@@ -158,13 +158,10 @@ noted c e now =
 unfoldable pub invalidDecision : PeerMessagePolicyConfig → PeerMessagePolicyEntry → ℕ → InvalidDecision
 invalidDecision c e now = noted c (entryUsed e now (c .«ban_duration_ms»)) now
 
--- whether the decision is refusal 4: it would be an Allow, and a number in flight would overflow
-abbrev pub overflows : Cause → Bool
-overflows Cause.Allowed = false
-overflows Cause.MessagesShort = false
-overflows (Cause.BytesShort k) = false
-overflows Cause.NoSlot = false
-overflows (Cause.CeilingShort k) = false
-overflows Cause.LiveBan = false
-overflows Cause.BanBegun = false
-overflows Cause.Overflow = true
+-- whether a cause is a refusal
+abbrev pub refuses : Cause → Bool
+refuses Cause.Allowed = false
+refuses (Cause.Short shortage) = false
+refuses Cause.LiveBan = false
+refuses Cause.BanBegun = false
+refuses (Cause.Refused n) = true

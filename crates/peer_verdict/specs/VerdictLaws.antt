@@ -4,12 +4,14 @@ use mathlib.Core.Bool.{true, false, and-eq-true-iff}
 use Prim.Native.Nat.{ℕ, _≤_}
 use borrow.Author.Tests.{not-true}
 use Rattle.truths.specs.TruthLaws.{chosen}
+use Rattle.refusal.specs.Refusal.{overflow}
 use Rattle.peer_settings.specs.declared.config.PeerMessagePolicyConfig.{PeerMessagePolicyConfig}
 use Rattle.peer_state.specs.declared.entry.ViolationWindow.{ViolationWindow}
 use Rattle.peer_state.specs.declared.entry.PeerMessagePolicyEntry.{PeerMessagePolicyEntry}
 use Rattle.peer_state.specs.declared.ingress.FiberIngressBudget.{FiberIngressBudget}
 use Rattle.peer_state.specs.declared.ingress.Reservation.{Reservation}
 use Rattle.peer_state.specs.declared.ingress.Reservation.the-variants as Reservation
+use Rattle.peer_verdict.specs.declared.verdict.Shortage.the-variants as Shortage
 use Rattle.peer_verdict.specs.declared.verdict.Cause.{Cause}
 use Rattle.peer_verdict.specs.declared.verdict.Cause.the-variants as Cause
 use Rattle.peer_verdict.specs.declared.verdict.InvalidCause.the-variants as InvalidCause
@@ -17,7 +19,7 @@ use Rattle.peer_verdict.specs.declared.verdict.Decision.{Decision}
 use Rattle.peer_verdict.specs.declared.verdict.InvalidDecision.{InvalidDecision}
 use Rattle.peer_settings.specs.Config.{banDisabled, unlimited}
 use Rattle.peer_state.specs.Entry.{windowRecord, entryBan, entryUsed, entrySound}
-use Rattle.peer_state.specs.Ingress.{ingressReserved, tryReserve, ingressSound}
+use Rattle.peer_state.specs.Ingress.{ingressReserved, ingressSound}
 use Rattle.peer_verdict.specs.Verdict.{
   passes,
   missing,
@@ -35,7 +37,7 @@ use Rattle.peer_verdict.specs.Verdict.{
   invalidDecision,
 }
 use Rattle.peer_state.specs.EntryLaws.{EntryHolds, sound-holds, holds-sound, ban-holds, used-holds, count-record}
-use Rattle.peer_state.specs.IngressLaws.{ReservationHolds, reservation-holds}
+use Rattle.peer_state.specs.IngressLaws.{ReservationHolds}
 use Rattle.peer_verdict.specs.TakeLaws.{message-level, bytes-level, bytes-missing}
 
 -- ════ The ways it goes ════
@@ -62,9 +64,9 @@ module _ (P : Decision → Type 0) (c : PeerMessagePolicyConfig) (i : FiberIngre
   violated-ways now cause begun counted = chosen P (reachesBan c (rateCounted c e now)) begun counted
 
   pub weighed-in-ways : (size now : ℕ) (reservation : Reservation)
-      → (passes (takeMessage c (e .messages) now .answer) ≡ false → P (violated c i e now Cause.MessagesShort))
+      → (passes (takeMessage c (e .messages) now .answer) ≡ false → P (violated c i e now (Cause.Short Shortage.Messages)))
       → (passes (takeMessage c (e .messages) now .answer) ≡ true → passes (takeBytes c (e .bytes) size now .answer) ≡ false
-      → P (violated c i e now (Cause.BytesShort (missing (takeBytes c (e .bytes) size now .answer)))))
+      → P (violated c i e now (Cause.Short (Shortage.Bytes (missing (takeBytes c (e .bytes) size now .answer))))))
       → (passes (takeMessage c (e .messages) now .answer) ≡ true → passes (takeBytes c (e .bytes) size now .answer) ≡ true
       → P (ceilingDecides i e (bothCharged c e size now) reservation))
       → P (weighedIn c i e size now reservation)
@@ -114,13 +116,13 @@ ceiling-holds : {c : PeerMessagePolicyConfig} (i : FiberIngressBudget) {e charge
 ceiling-holds i (Reservation.Reserved after) h taken = taken
 ceiling-holds i Reservation.NoSlot h taken = h
 ceiling-holds i (Reservation.BytesShort k) h taken = h
-ceiling-holds i Reservation.Overflow h taken = h
+ceiling-holds i (Reservation.Refused n) h taken = h
 
 weighed-holds : (c : PeerMessagePolicyConfig) (i : FiberIngressBudget) (e : PeerMessagePolicyEntry) (size now : ℕ) (reservation : Reservation) → EntryHolds c e → Keeps c (weighedIn c i e size now reservation)
 weighed-holds c i e size now reservation h =
     weighed-in-ways (Keeps c) c i e size now reservation
-    (λ m. violated-holds c i e now Cause.MessagesShort h)
-    (λ m b. violated-holds c i e now (Cause.BytesShort (missing (takeBytes c (e .bytes) size now .answer))) h)
+    (λ m. violated-holds c i e now (Cause.Short Shortage.Messages) h)
+    (λ m b. violated-holds c i e now (Cause.Short (Shortage.Bytes (missing (takeBytes c (e .bytes) size now .answer)))) h)
     (λ m b.
     ceiling-holds i reservation h
     (record {
@@ -131,11 +133,11 @@ weighed-holds c i e size now reservation h =
       ban = h .ban;
     }))
 
-pub decision-sound : (c : PeerMessagePolicyConfig) (i : FiberIngressBudget) (e : PeerMessagePolicyEntry) (size now : ℕ) → entrySound c e ≡ true → entrySound c (decision c i e size now .entry) ≡ true
+pub decision-sound : (c : PeerMessagePolicyConfig) (i : FiberIngressBudget) (e : PeerMessagePolicyEntry) (size now : ℕ) (reservation : Reservation) → entrySound c e ≡ true → entrySound c (decision c i e size now reservation .entry) ≡ true
 unfolding decision
-decision-sound c i e size now h =
+decision-sound c i e size now reservation h =
     let used = entryUsed e now (c .«ban_duration_ms») in
-    holds-sound (weighed-holds c i used size now (tryReserve c i size) (used-holds now (c .«ban_duration_ms») (sound-holds h)))
+    holds-sound (weighed-holds c i used size now reservation (used-holds now (c .«ban_duration_ms») (sound-holds h)))
 
 pub invalid-decision-sound : (c : PeerMessagePolicyConfig) (e : PeerMessagePolicyEntry) (now : ℕ) → entrySound c e ≡ true → entrySound c (invalidDecision c e now .entry) ≡ true
 unfolding invalidDecision
@@ -148,23 +150,20 @@ invalid-decision-sound c e now h =
 -- which causes a verdict on a message names, and what each says of the settings
 abbrev pub CauseHolds : PeerMessagePolicyConfig → Cause → Type 0
 CauseHolds c Cause.Allowed = Unit {0}
-CauseHolds c Cause.MessagesShort = Unit {0}
-CauseHolds c (Cause.BytesShort k) = 1 ≤ k
-CauseHolds c Cause.NoSlot = unlimited c ≡ false
-CauseHolds c (Cause.CeilingShort k) = (unlimited c ≡ false) × (1 ≤ k)
+CauseHolds c (Cause.Short Shortage.Messages) = Unit {0}
+CauseHolds c (Cause.Short (Shortage.Bytes k)) = 1 ≤ k
+CauseHolds c (Cause.Short Shortage.Slot) = unlimited c ≡ false
+CauseHolds c (Cause.Short (Shortage.CeilingBytes k)) = (unlimited c ≡ false) × (1 ≤ k)
 CauseHolds c Cause.LiveBan = ⊥
 CauseHolds c Cause.BanBegun = banDisabled c ≡ false
-CauseHolds c Cause.Overflow = unlimited c ≡ true
+CauseHolds c (Cause.Refused n) = (unlimited c ≡ true) × (n ≡ overflow)
 
 abbrev pub NotAllowed : Cause → Type 0
 NotAllowed Cause.Allowed = ⊥
-NotAllowed Cause.MessagesShort = Unit {0}
-NotAllowed (Cause.BytesShort k) = Unit {0}
-NotAllowed Cause.NoSlot = Unit {0}
-NotAllowed (Cause.CeilingShort k) = Unit {0}
+NotAllowed (Cause.Short shortage) = Unit {0}
 NotAllowed Cause.LiveBan = Unit {0}
 NotAllowed Cause.BanBegun = Unit {0}
-NotAllowed Cause.Overflow = Unit {0}
+NotAllowed (Cause.Refused n) = Unit {0}
 
 -- an admitted message: both buckets passed, are charged, and the load is one message more
 pub record Admitted (c : PeerMessagePolicyConfig) (i : FiberIngressBudget) (e : PeerMessagePolicyEntry) (size now : ℕ) (d : Decision) : Type 0 where
@@ -221,29 +220,30 @@ ceiling-orderly c i e size now m b Reservation.NoSlot h =
     kept-orderly h tt (record { messages = refl; bytes = refl; ingress = refl })
 ceiling-orderly c i e size now m b (Reservation.BytesShort k) h =
     kept-orderly h tt (record { messages = refl; bytes = refl; ingress = refl })
-ceiling-orderly c i e size now m b Reservation.Overflow h =
+ceiling-orderly c i e size now m b (Reservation.Refused n) h =
     kept-orderly h tt (record { messages = refl; bytes = refl; ingress = refl })
 
-weighed-orderly : (c : PeerMessagePolicyConfig) (i : FiberIngressBudget) (e : PeerMessagePolicyEntry) (size now : ℕ) → Orderly c i e size now (weighedIn c i e size now (tryReserve c i size))
-weighed-orderly c i e size now =
-    weighed-in-ways (Orderly c i e size now) c i e size now (tryReserve c i size)
-    (λ m. violated-orderly c i e size now Cause.MessagesShort tt tt)
-    (λ m b. violated-orderly c i e size now (Cause.BytesShort (missing (takeBytes c (e .bytes) size now .answer))) (bytes-missing c (e .bytes) size now b) tt)
-    (λ m b. ceiling-orderly c i e size now m b (tryReserve c i size) (reservation-holds c i size))
+weighed-orderly : (c : PeerMessagePolicyConfig) (i : FiberIngressBudget) (e : PeerMessagePolicyEntry) (size now : ℕ) (reservation : Reservation) → ReservationHolds c i size reservation → Orderly c i e size now (weighedIn c i e size now reservation)
+weighed-orderly c i e size now reservation holds =
+    weighed-in-ways (Orderly c i e size now) c i e size now reservation
+    (λ m. violated-orderly c i e size now (Cause.Short Shortage.Messages) tt tt)
+    (λ m b. violated-orderly c i e size now (Cause.Short (Shortage.Bytes (missing (takeBytes c (e .bytes) size now .answer)))) (bytes-missing c (e .bytes) size now b) tt)
+    (λ m b. ceiling-orderly c i e size now m b reservation holds)
 
 -- of a verdict on a message, with the entry as it finds it
-pub decision-orderly : (c : PeerMessagePolicyConfig) (i : FiberIngressBudget) (e : PeerMessagePolicyEntry) (size now : ℕ) → Orderly c i (entryUsed e now (c .«ban_duration_ms»)) size now (decision c i e size now)
-unfolding decision
-decision-orderly c i e size now = weighed-orderly c i (entryUsed e now (c .«ban_duration_ms»)) size now
+module _ (c : PeerMessagePolicyConfig) (i : FiberIngressBudget) (e : PeerMessagePolicyEntry) (size now : ℕ) (reservation : Reservation) (holds : ReservationHolds c i size reservation) where
+  pub decision-orderly : Orderly c i (entryUsed e now (c .«ban_duration_ms»)) size now (decision c i e size now reservation)
+  unfolding decision
+  decision-orderly = weighed-orderly c i (entryUsed e now (c .«ban_duration_ms»)) size now reservation holds
 
--- a sound load stays sound
-pub decision-load : (c : PeerMessagePolicyConfig) (i : FiberIngressBudget) (e : PeerMessagePolicyEntry) (size now : ℕ) → ingressSound c i ≡ true → ingressSound c (decision c i e size now .ingress) ≡ true
-decision-load c i e size now = decision-orderly c i e size now .load
+  -- a sound load stays sound
+  pub decision-load : ingressSound c i ≡ true → ingressSound c (decision c i e size now reservation .ingress) ≡ true
+  decision-load = decision-orderly .load
 
--- no verdict names a live ban
-pub decision-no-live-ban : (c : PeerMessagePolicyConfig) (i : FiberIngressBudget) (e : PeerMessagePolicyEntry) (size now : ℕ) → decision c i e size now .cause ≡ Cause.LiveBan → ⊥
-decision-no-live-ban c i e size now h = subst (CauseHolds c) h (decision-orderly c i e size now .cause)
+  -- no verdict names a live ban
+  pub decision-no-live-ban : decision c i e size now reservation .cause ≡ Cause.LiveBan → ⊥
+  decision-no-live-ban h = subst (CauseHolds c) h (decision-orderly .cause)
 
--- the load overflows its numbers only where there is no ceiling
-pub decision-overflow : (c : PeerMessagePolicyConfig) (i : FiberIngressBudget) (e : PeerMessagePolicyEntry) (size now : ℕ) → decision c i e size now .cause ≡ Cause.Overflow → unlimited c ≡ true
-decision-overflow c i e size now h = subst (CauseHolds c) h (decision-orderly c i e size now .cause)
+  -- the one refusal is 4, and the load overflows its numbers only where there is no ceiling
+  pub decision-refused : {n : ℕ} → decision c i e size now reservation .cause ≡ Cause.Refused n → (unlimited c ≡ true) × (n ≡ overflow)
+  decision-refused h = subst (CauseHolds c) h (decision-orderly .cause)

@@ -5,7 +5,7 @@ ghost use Prim.Native.Nat.{_≤_, _<_};
 ghost use Rattle.amount.specs.Amount.{value, natural};
 ghost use Rattle.peer_state.specs.Entry.{entrySound};
 ghost use Rattle.peer_verdict.specs.Verdict.{passes, missing, takeMessage, takeBytes, withRateWindow, withInvalidWindow, withBuckets};
-ghost use Rattle.peer_verdict.specs.Verdict.{reachesBan, violated, ceilingDecides, decision, invalidDecision, overflows};
+ghost use Rattle.peer_verdict.specs.Verdict.{reachesBan, violated, ceilingDecides, decision, invalidDecision, refuses};
 use amount::Amount;
 use peer_settings::config::PeerMessagePolicyConfig;
 use peer_state::entry::Level;
@@ -20,23 +20,31 @@ use token_bucket::bytes::ByteTokenBucket;
 use token_bucket::discrete::DiscreteConsumed;
 use token_bucket::discrete::DiscreteTokenBucket;
 
-// Why a message is admitted or not, in the order in which the limits decide.
-pub enum Cause {
-    Allowed,
-    MessagesShort,
-    BytesShort(u64),
-    NoSlot,
-    CeilingShort(u64),
-    LiveBan,
-    BanBegun,
-    Overflow,
+// Which limit ran short, in the order in which they decide: the message bucket by one message, the byte bucket by bytes beyond
+// what is left in it, the ceiling by one slot or by bytes beyond what is left under it.
+pub enum Shortage {
+    Messages,
+    Bytes(u64),
+    Slot,
+    CeilingBytes(u64),
 }
 
-// Whether an invalid message is only noted, or its sender is banned: since an earlier call, or from now on.
+// Why a message is admitted or not: a limit ran short, its sender is banned, since an earlier call or from now on, or the call is
+// refused with this number.
+pub enum Cause {
+    Allowed,
+    Short(Shortage),
+    LiveBan,
+    BanBegun,
+    Refused(u32),
+}
+
+// Why the sender of an invalid message is banned or not.
 pub enum InvalidCause {
     Noted,
     LiveBan,
     BanBegun,
+    Refused(u32),
 }
 
 // The cause, the entry as it is to be stored, and the load in flight.
@@ -221,40 +229,47 @@ fn ceiling_decides(
             ingress: after,
         },
         Reservation::NoSlot => Decision {
-            cause: Cause::NoSlot,
+            cause: Cause::Short(Shortage::Slot),
             entry,
             ingress,
         },
         Reservation::BytesShort(short) => Decision {
-            cause: Cause::CeilingShort(short),
+            cause: Cause::Short(Shortage::CeilingBytes(short)),
             entry,
             ingress,
         },
-        Reservation::Overflow => Decision {
-            cause: Cause::Overflow,
+        Reservation::Refused(number) => Decision {
+            cause: Cause::Refused(number),
             entry,
             ingress,
         },
     }
 }
 
-// A message on an entry that is not banned: the message bucket, then the byte bucket, then the ceiling.
+// A message on an entry that is not banned: the message bucket, then the byte bucket, then the ceiling, whose answer is given.
 pub fn decide(
     config: PeerMessagePolicyConfig,
     ingress: FiberIngressBudget,
     entry: PeerMessagePolicyEntry,
     size: u64,
     now_ms: u64,
+    reservation: Reservation,
 ) -> Decision
     requires { ⌜ entrySound config entry ≡ true ⌝ }
-    ensures { λ r. ⌜ r ≡ decision config ingress entry size «now_ms» ⌝ }
+    ensures { λ r. ⌜ r ≡ decision config ingress entry size «now_ms» reservation ⌝ }
 {
     let used = entry.used(now_ms, config.ban_duration_ms);
     let message_level = used.messages;
     let messages = take_message(config, message_level, now_ms);
     let message_answer = messages.answer;
     if !passes(message_answer) {
-        return violated(config, ingress, used, now_ms, Cause::MessagesShort);
+        return violated(
+            config,
+            ingress,
+            used,
+            now_ms,
+            Cause::Short(Shortage::Messages),
+        );
     }
     let byte_level = used.bytes;
     let bytes = take_bytes(config, byte_level, size, now_ms);
@@ -263,10 +278,10 @@ pub fn decide(
     let charged = with_buckets(used, message_bucket, byte_bucket);
     let byte_answer = bytes.answer;
     if !passes(byte_answer) {
-        let cause = Cause::BytesShort(missing(byte_answer));
+        let cause = Cause::Short(Shortage::Bytes(missing(byte_answer)));
         return violated(config, ingress, used, now_ms, cause);
     }
-    ceiling_decides(ingress, used, charged, ingress.try_reserve(config, size))
+    ceiling_decides(ingress, used, charged, reservation)
 }
 
 // An invalid message on an entry that is not banned: it is counted in a window of its own, and may begin a ban too.
@@ -294,18 +309,15 @@ pub fn decide_invalid(
     }
 }
 
-// Whether the decision is refusal 4.
-pub fn overflows(cause: Cause) -> bool
-    ensures { λ r. ⌜ r ≡ overflows cause ⌝ }
+// Whether a cause is a refusal.
+pub fn refuses(cause: Cause) -> bool
+    ensures { λ r. ⌜ r ≡ refuses cause ⌝ }
 {
     match cause {
         Cause::Allowed => false,
-        Cause::MessagesShort => false,
-        Cause::BytesShort(_) => false,
-        Cause::NoSlot => false,
-        Cause::CeilingShort(_) => false,
+        Cause::Short(_) => false,
         Cause::LiveBan => false,
         Cause::BanBegun => false,
-        Cause::Overflow => true,
+        Cause::Refused(_) => true,
     }
 }

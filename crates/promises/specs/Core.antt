@@ -14,14 +14,14 @@ use Rattle.peer_verdict.specs.declared.verdict.Cause.{Cause}
 use Rattle.peer_verdict.specs.declared.verdict.Cause.the-variants as Cause
 use Rattle.peer_verdict.specs.declared.verdict.Decision.{Decision}
 use Rattle.peer_verdict.specs.declared.verdict.InvalidCause.{InvalidCause}
-use Rattle.peer_state.specs.Entry.{entryUsed}
 use Rattle.peer_state.specs.Ingress.{inFlight}
-use Rattle.peer_verdict.specs.Verdict.{weighedIn}
+use Rattle.peer_verdict.specs.Verdict.{decision}
+use Rattle.peer_verdict.specs.Causes.{causeSays, invalidCauseSays}
 use Rattle.peer_rows.specs.Rows.{Peers}
 use Rattle.peer_message_policy.specs.declared.answer.Changed.the-variants as Changed
 use Rattle.peer_message_policy.specs.Policy as Policy
 use Rattle.peer_message_policy.specs.Policy.{Change, Turn, turnOf, carriedOut, entryForUpdate, isBannedChange, disconnectedChange}
-use Rattle.peer_message_policy.specs.Calls.{changedRows, fresh, admissionOf, admissionSays, invalidOf, invalidSays, standingOf, standingSays, changedSays}
+use Rattle.peer_message_policy.specs.Calls.{changedRows, fresh, standingOf, standingSays, changedSays}
 use Rattle.promises.specs.Trails.{CoreCall, admit, recordInvalid, isBanned, onDisconnected, Event, seen}
 
 -- ════ One call ════
@@ -32,7 +32,7 @@ idle = inFlight 0 0
 
 -- what admit decides on an entry that is not banned
 abbrev pub admits : PeerMessagePolicyConfig → ℕ → ℕ → Reservation → PeerMessagePolicyEntry → Decision
-admits c size now reservation e = weighedIn c idle (entryUsed e now (c .«ban_duration_ms»)) size now reservation
+admits c size now reservation e = decision c idle e size now reservation
 
 -- a message's turn: its peer's entry is found or made, and what admit decides on it is carried out
 abbrev pub messageTurn : PeerMessagePolicyConfig → Pubkey → ℕ → ℕ → Reservation → Peers → Turn Cause
@@ -52,8 +52,8 @@ changeIn c (onDisconnected k now) rs = disconnectedChange c rs (k .bytes) now (l
 
 -- what it says; the policy that an answer carries says nothing
 abbrev pub saysIn : PeerMessagePolicyConfig → CoreCall → Peers → Said
-saysIn c (admit k size now reservation) rs = admissionSays (admissionOf (fresh c) (messageTurn c k size now reservation rs .cause))
-saysIn c (recordInvalid k now) rs = invalidSays (invalidOf (fresh c) (invalidTurn c k now rs .cause))
+saysIn c (admit k size now reservation) rs = causeSays (messageTurn c k size now reservation rs .cause)
+saysIn c (recordInvalid k now) rs = invalidCauseSays (invalidTurn c k now rs .cause)
 saysIn c (isBanned k now) rs = standingSays (standingOf (Policy.isBanned (look (k .bytes) rs) now) (fresh c))
 saysIn c (onDisconnected k now) rs = changedSays (Changed.Policy (fresh c))
 

@@ -20,18 +20,20 @@ use Rattle.peer_verdict.specs.declared.verdict.Decision.{Decision}
 use Rattle.peer_verdict.specs.declared.verdict.InvalidCause.{InvalidCause}
 use Rattle.peer_verdict.specs.declared.verdict.InvalidCause.the-variants as InvalidCause
 use Rattle.peer_state.specs.Entry.{entryIsBanned, entryIsSpent, entryExpireWindows}
-use Rattle.peer_verdict.specs.Verdict.{invalidDecision, overflows}
+use Rattle.peer_verdict.specs.Verdict.{invalidDecision, refuses}
+use Rattle.peer_verdict.specs.Causes.{invalidCauseSays}
 use Rattle.peer_rows.specs.Rows.{Peers}
 use Rattle.peer_table.specs.RoomLaws.{sub-makeRoom}
 use Rattle.peer_message_policy.specs.Policy
 use Rattle.peer_message_policy.specs.Policy.{Change, same, Turn, carriedOut, notedDown, Update, banned, update, turnOf, entryForUpdate, isBannedChange, disconnectedChange}
-use Rattle.peer_message_policy.specs.Calls.{changedRows, fresh, invalidOf, invalidSays, standingOf, standingSays}
+use Rattle.peer_message_policy.specs.Calls.{changedRows, fresh, standingOf, standingSays}
+use Rattle.peer_laws.specs.RefusedLaws.{NotRefused, invalid-not-refused}
 use Rattle.peer_laws.specs.PeerLaws.{Fate, stayed, gone, expired, Own, live, undone, carried, OwnInvalid, barred, counted}
 use Rattle.promises.specs.Core.{idle, admits, messageTurn, invalidTurn, changeIn, saysIn, after, coreTime, trailOf}
 use Rattle.promises.specs.Trails.{CoreCall, admit, recordInvalid, isBanned, onDisconnected, Event, seen, rowsAt}
 use Rattle.promises.specs.Lives.{sameKey, lastUsed}
 use Rattle.promises.specs.DecisionLaws.{decided, invalid-decision-noted}
-use Rattle.promises.specs.CoreStepLaws.{gives-is-not-refused, overflow-either, same-key, leftIn, own-here, own-invalid-here, other-here, other-invalid-here, is-banned-here, disconnected-here}
+use Rattle.promises.specs.CoreStepLaws.{gives-is-not-refused, refused-either, same-key, leftIn, own-here, own-invalid-here, other-here, other-invalid-here, is-banned-here, disconnected-here}
 
 -- ════ Keys ascend ════
 
@@ -58,7 +60,7 @@ module _ (c : PeerMessagePolicyConfig) (rs : Peers) (order : ascending rs ≡ tr
   unfolding carriedOut
   message-ascends k decide banned h = order
   message-ascends k decide (update e xs) h =
-      chosen (λ (t : Turn Cause). Ascends (t .change)) (overflows (decide e .cause)) (λ o. order) (λ o. ascending-store k (decide e .entry) xs h)
+      chosen (λ (t : Turn Cause). Ascends (t .change)) (refuses (decide e .cause)) (λ o. order) (λ o. ascending-store k (decide e .entry) xs h)
 
   invalid-ascends : (k : List ℕ) (now : ℕ) (u : Update) → UpdateAscends u
       → Ascends (turnOf idle InvalidCause.LiveBan (λ e xs. notedDown idle k xs (invalidDecision c e now)) u .change)
@@ -98,19 +100,20 @@ after-ascends c (call ∷ h) = step-ascends c (after c h) (after-ascends c h) ca
 -- ════ A refused call leaves the rows ════
 
 turn-undone : (k : List ℕ) (decide : PeerMessagePolicyEntry → Decision) (u : Update)
-    → overflows (turnOf idle Cause.LiveBan (λ e xs. carriedOut idle k xs (decide e)) u .cause) ≡ true
+    → refuses (turnOf idle Cause.LiveBan (λ e xs. carriedOut idle k xs (decide e)) u .cause) ≡ true
     → turnOf idle Cause.LiveBan (λ e xs. carriedOut idle k xs (decide e)) u .change ≡ same
 unfolding carriedOut
 turn-undone k decide banned = λ o. refl
 turn-undone k decide (update e xs) =
-    chosen (λ (t : Turn Cause). overflows (t .cause) ≡ true → t .change ≡ same) (overflows (decide e .cause)) (λ o p. refl)
+    chosen (λ (t : Turn Cause). refuses (t .cause) ≡ true → t .change ≡ same) (refuses (decide e .cause)) (λ o p. refl)
     (λ o p. absurd (true-is-not-false p o))
 
 -- record_invalid and is_banned are not refused
-invalid-gives : (c : PeerMessagePolicyConfig) (cause : InvalidCause) {n : ℕ} → invalidSays (invalidOf (fresh c) cause) ≡ refused n → ⊥
-invalid-gives c InvalidCause.Noted h = gives-is-not-refused h
-invalid-gives c InvalidCause.LiveBan h = gives-is-not-refused h
-invalid-gives c InvalidCause.BanBegun h = gives-is-not-refused h
+invalid-gives : (cause : InvalidCause) → NotRefused cause → {n : ℕ} → invalidCauseSays cause ≡ refused n → ⊥
+invalid-gives InvalidCause.Noted not-refused h = gives-is-not-refused h
+invalid-gives InvalidCause.LiveBan not-refused h = gives-is-not-refused h
+invalid-gives InvalidCause.BanBegun not-refused h = gives-is-not-refused h
+invalid-gives (InvalidCause.Refused m) not-refused h = not-refused
 
 standing-gives : (c : PeerMessagePolicyConfig) (b : Bool) {n : ℕ} → standingSays (standingOf b (fresh c)) ≡ refused n → ⊥
 standing-gives c true h = gives-is-not-refused h
@@ -122,8 +125,8 @@ refused-leaves c rs (admit k size now reservation) h =
     ⊎-elim
     (λ over. ap (changedRows rs) (turn-undone (k .bytes) (admits c size now reservation) (entryForUpdate c now rs (k .bytes) (look (k .bytes) rs)) (over .0)))
     (λ other. absurd (gives-is-not-refused (sym (other .1 .1) ∙ h)))
-    (overflow-either c (messageTurn c k size now reservation rs .cause))
-refused-leaves c rs (recordInvalid k now) h = absurd (invalid-gives c (invalidTurn c k now rs .cause) h)
+    (refused-either (messageTurn c k size now reservation rs .cause))
+refused-leaves c rs (recordInvalid k now) h = absurd (invalid-gives (invalidTurn c k now rs .cause) (invalid-not-refused c idle rs (k .bytes) now) h)
 refused-leaves c rs (isBanned k now) h = absurd (standing-gives c (Policy.isBanned (look (k .bytes) rs) now) h)
 refused-leaves c rs (onDisconnected k now) h = absurd (gives-is-not-refused h)
 

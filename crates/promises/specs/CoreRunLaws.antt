@@ -19,13 +19,14 @@ use Rattle.peer_verdict.specs.declared.verdict.InvalidCause.{InvalidCause}
 use Rattle.peer_verdict.specs.declared.verdict.InvalidCause.the-variants as InvalidCause
 use Rattle.peer_verdict.specs.declared.verdict.InvalidDecision.{InvalidDecision}
 use Rattle.peer_state.specs.Ingress.{tryReserve}
-use Rattle.peer_verdict.specs.Verdict.{invalidDecision, overflows}
+use Rattle.peer_verdict.specs.Verdict.{invalidDecision, refuses}
+use Rattle.peer_verdict.specs.Causes.{causeSays, invalidCauseSays}
 use Rattle.peer_rows.specs.Rows.{Peers}
 use Rattle.peer_message_policy.specs.declared.policy.PeerMessagePolicy.{PeerMessagePolicy}
 use Rattle.peer_message_policy.specs.declared.answer.Made.the-variants as Made
 use Rattle.peer_message_policy.specs.Policy
 use Rattle.peer_message_policy.specs.Policy.{rowsOf, Turn, carriedOut, notedDown, Update, banned, update, turnOf, entryForUpdate, isBannedChange}
-use Rattle.peer_message_policy.specs.Calls.{changedRows, policyAfter, fresh, admissionOf, admissionSays, invalidOf, invalidSays, standingOf, standingSays, changedSays, NewMeets, IsBannedMeets, OnDisconnectedMeets}
+use Rattle.peer_message_policy.specs.Calls.{changedRows, policyAfter, fresh, admissionSays, invalidSays, standingOf, standingSays, changedSays, NewMeets, IsBannedMeets, OnDisconnectedMeets}
 use Rattle.peer_laws.specs.CallLaws.{admit-answer, record-invalid-answer, is-banned-outcome, on-disconnected-outcome, new-fresh}
 use Rattle.promises.specs.Trails as Trails
 use Rattle.promises.specs.Core.{idle, messageTurn, invalidTurn, after, trailOf}
@@ -41,21 +42,6 @@ use Rattle.peer_runs.specs.SoundRunLaws.{StateHolds, admit-left, record-invalid
 -- ════ What an answer says ════
 
 module _ (p q : PeerMessagePolicy) where
-  admission-says : (cause : Cause) → admissionSays (admissionOf p cause) ≡ admissionSays (admissionOf q cause)
-  admission-says Cause.Allowed = refl
-  admission-says Cause.MessagesShort = refl
-  admission-says (Cause.BytesShort k) = refl
-  admission-says Cause.NoSlot = refl
-  admission-says (Cause.CeilingShort k) = refl
-  admission-says Cause.LiveBan = refl
-  admission-says Cause.BanBegun = refl
-  admission-says Cause.Overflow = refl
-
-  invalid-says : (cause : InvalidCause) → invalidSays (invalidOf p cause) ≡ invalidSays (invalidOf q cause)
-  invalid-says InvalidCause.Noted = refl
-  invalid-says InvalidCause.LiveBan = refl
-  invalid-says InvalidCause.BanBegun = refl
-
   standing-says : (b : Bool) → standingSays (standingOf b p) ≡ standingSays (standingOf b q)
   standing-says true = refl
   standing-says false = refl
@@ -76,7 +62,7 @@ module _ (i j : FiberIngressBudget) (k : List ℕ) where
   unfolding carriedOut
   carried-alike rs {a} {b} h =
       rw (h .cause, h .entry)
-      (same-chosen (overflows (b .cause)) (record { cause = refl; change = refl }) (record { cause = refl; change = refl }))
+      (same-chosen (refuses (b .cause)) (record { cause = refl; change = refl }) (record { cause = refl; change = refl }))
 
   message-alike : {f g : PeerMessagePolicyEntry → Decision} → ((e : PeerMessagePolicyEntry) → Alike (f e) (g e)) → (u : Update)
       → SameTurn (turnOf i Cause.LiveBan (λ e xs. carriedOut i k xs (f e)) u) (turnOf j Cause.LiveBan (λ e xs. carriedOut j k xs (g e)) u)
@@ -93,7 +79,7 @@ module _ (c : PeerMessagePolicyConfig) (i : FiberIngressBudget) (rs : Peers) (k 
   admit-core : (size : ℕ) → SameTurn (Policy.admit c i rs (k .bytes) size now) (messageTurn c k size now (tryReserve c i size) rs)
   unfolding Policy.admit
   admit-core size =
-      message-alike i idle (k .bytes) (λ e. decision-alike c i idle now e size) (entryForUpdate c now rs (k .bytes) (look (k .bytes) rs))
+      message-alike i idle (k .bytes) (λ e. decision-alike c i idle now e size (tryReserve c i size)) (entryForUpdate c now rs (k .bytes) (look (k .bytes) rs))
 
   invalid-core : SameTurn (Policy.recordInvalid c i rs (k .bytes) now) (invalidTurn c k now rs)
   unfolding Policy.recordInvalid
@@ -118,8 +104,7 @@ module _ (s : State) (said : Said) (t : State) where
           says =
               step .2
               ∙ ap admissionSays (admit-answer p (s .memory) (here .is-sound) k size now (step .0) (t .memory) (step .1))
-              ∙ admission-says (policyAfter p (turn .ingress) (turn .change)) (fresh (p .config)) (turn .cause)
-              ∙ ap (λ cause. admissionSays (admissionOf (fresh (p .config)) cause)) (core .cause);
+              ∙ ap causeSays (core .cause);
           rows = admit-left s here said t k key size now step .rows ∙ ap (changedRows (rowsIn s)) (core .change);
         }
 
@@ -134,8 +119,7 @@ module _ (s : State) (said : Said) (t : State) where
           says =
               step .2
               ∙ ap invalidSays (record-invalid-answer p (s .memory) (here .is-sound) k now (step .0) (t .memory) (step .1))
-              ∙ invalid-says (policyAfter p (turn .ingress) (turn .change)) (fresh (p .config)) (turn .cause)
-              ∙ ap (λ cause. invalidSays (invalidOf (fresh (p .config)) cause)) (core .cause);
+              ∙ ap invalidCauseSays (core .cause);
           rows = record-invalid-left s here said t k key now step .rows ∙ ap (changedRows (rowsIn s)) (core .change);
         }
 

@@ -12,29 +12,30 @@ use Rattle.truths.specs.TruthLaws.{by-test, true-is-not-false}
 use Rattle.pubkey.specs.declared.Pubkey.{Pubkey}
 use Rattle.pubkey.specs.Order.{compareBytes}
 use Rattle.pubkey.specs.OrderLaws.{compare-self, compare-equal, pubkey-fields}
-use Rattle.refusal.specs.Refusal.{Said, gives, refused, overflow}
+use Rattle.refusal.specs.Refusal.{gives, refused}
 use Rattle.table.specs.Table.{look, ascending}
 use Rattle.table.specs.TableLaws.{by-answer}
 use Rattle.peer_settings.specs.declared.config.PeerMessagePolicyConfig.{PeerMessagePolicyConfig}
 use Rattle.peer_state.specs.declared.entry.PeerMessagePolicyEntry.{PeerMessagePolicyEntry}
 use Rattle.peer_state.specs.declared.ingress.Reservation.{Reservation}
-use Rattle.peer_state.specs.declared.ingress.Reservation.the-variants as Reservation
+use Rattle.peer_verdict.specs.declared.verdict.Shortage.the-variants as Shortage
 use Rattle.peer_verdict.specs.declared.verdict.Cause.{Cause}
 use Rattle.peer_verdict.specs.declared.verdict.Cause.the-variants as Cause
 use Rattle.peer_verdict.specs.declared.verdict.InvalidCause.{InvalidCause}
 use Rattle.peer_settings.specs.Fits.{ConfigFits}
 use Rattle.peer_state.specs.Entry.{entryNew, entryIsBanned, entryExpireWindows}
-use Rattle.peer_verdict.specs.Verdict.{overflows}
+use Rattle.peer_verdict.specs.Verdict.{refuses}
 use Rattle.peer_verdict.specs.VerdictLaws.{NotAllowed}
 use Rattle.peer_rows.specs.Rows.{Peers}
 use Rattle.peer_message_policy.specs.Policy
-use Rattle.peer_message_policy.specs.Calls.{changedRows, fresh, admissionOf, admissionSays}
+use Rattle.peer_verdict.specs.Causes.{causeSays}
+use Rattle.peer_message_policy.specs.Calls.{changedRows}
 use Rattle.peer_laws.specs.PeerLaws.{Fate, stayed, gone, expired, Lands, kept, absent, remade, Own, live, undone, carried, OwnInvalid, barred, counted, live-not-spent, own-message, own-invalid, message-fate, record-invalid-fate, is-banned-fate, disconnected-fate}
 use Rattle.promises.specs.Core.{idle, admits, messageTurn, invalidTurn, changeIn, saysIn, SizeFits}
 use Rattle.promises.specs.Trails.{CoreCall, admit, recordInvalid, isBanned, onDisconnected}
 use Rattle.promises.specs.Lives.{Allow, sameKey, ownOf, OwnTime, logFor, logged, keptLog, logAfter, lastUsed, Within, ceilingSays}
 use Rattle.promises.specs.FairLaws.{NotAfter, Fair, fair-new, fair-allow, fair-least}
-use Rattle.promises.specs.DecisionLaws.{reservationCause, decided, invalid-decision-noted}
+use Rattle.promises.specs.DecisionLaws.{decided, invalid-decision-noted}
 
 -- ════ The invariant ════
 
@@ -68,35 +69,24 @@ module _ (c : PeerMessagePolicyConfig) (fits : ConfigFits c) where
 
 -- ════ The lower bound ════
 
--- what admit says for a cause
-abbrev pub says : PeerMessagePolicyConfig → Cause → Said
-says c cause = admissionSays (admissionOf (fresh c) cause)
-
--- what admit says where the ceiling decides
-reservation-says : (c : PeerMessagePolicyConfig) (reservation : Reservation) → says c (reservationCause reservation) ≡ ceilingSays reservation
-reservation-says c (Reservation.Reserved after) = refl
-reservation-says c Reservation.NoSlot = refl
-reservation-says c (Reservation.BytesShort n) = refl
-reservation-says c Reservation.Overflow = refl
-
 module _ (c : PeerMessagePolicyConfig) (fits : ConfigFits c) (size now : ℕ) (size-fits : size < 2 ^ 64) (reservation : Reservation) where
   -- within the smaller allowance both buckets of the entry that a call lands on pass, and the ceiling decides
   passes-says : (found : Option PeerMessagePolicyEntry) (e : PeerMessagePolicyEntry) (log : List Allow) → Lands c now found e → EntryFair c found log
-      → lastUsed found ≤ now → Within c now size (logFor found now log) → says c (admits c size now reservation e .cause) ≡ ceilingSays reservation
+      → lastUsed found ≤ now → Within c now size (logFor found now log) → causeSays (admits c size now reservation e .cause) ≡ ceilingSays reservation
   passes-says found e log lands fair used within =
       let ready = lands-ready c fits now found e log lands fair used in
       let passes = fair-least c fits (e .messages) (e .bytes) (logFor found now log) size now size-fits (ready .0) (ready .1) within in
-      ap (says c) (decided c idle e size now reservation .passed (passes .0) (passes .1)) ∙ reservation-says c reservation
+      ap causeSays (decided c idle e size now reservation .passed (passes .0) (passes .1))
 
   own-least : {found left : Option PeerMessagePolicyEntry} {cause : Cause} (log : List Allow) → Own c now (admits c size now reservation) found left cause
       → EntryFair c found log → lastUsed found ≤ now → Policy.isBanned found now ≡ false → Within c now size (logFor found now log)
-      → says c cause ≡ ceilingSays reservation
+      → causeSays cause ≡ ceilingSays reservation
   own-least log (live e q ban why same-entry) fair used free within =
       absurd (true-is-not-false ban (subst (λ o. Policy.isBanned o now ≡ false) q free))
   own-least {found} log (undone e lands o why same-entry) fair used free within =
-      ap (says c) why ∙ passes-says found e log lands fair used within
+      ap causeSays why ∙ passes-says found e log lands fair used within
   own-least {found} log (carried e lands o why now-entry) fair used free within =
-      ap (says c) why ∙ passes-says found e log lands fair used within
+      ap causeSays why ∙ passes-says found e log lands fair used within
 
   -- a call within the smaller allowance gets the ceiling's answer
   pub least-here : (k : Pubkey) (rs : Peers) (log : List Allow) → EntryFair c (look (k .bytes) rs) log → lastUsed (look (k .bytes) rs) ≤ now
@@ -109,17 +99,16 @@ module _ (c : PeerMessagePolicyConfig) (fits : ConfigFits c) (size now : ℕ) (s
 pub gives-is-not-refused : {xs : List ℕ} {n : ℕ} → gives xs ≡ refused n → ⊥
 gives-is-not-refused h = let z : _≡_ {A = ℕ} 0 1 = cc in omega arith
 
--- admit is refused where the numbers in flight would overflow, and nowhere else
-pub overflow-either : (c : PeerMessagePolicyConfig) (cause : Cause)
-    → ((overflows cause ≡ true) × (says c cause ≡ refused overflow)) ⊎ ((overflows cause ≡ false) × ((xs : List ℕ) × (says c cause ≡ gives xs)))
-overflow-either c Cause.Allowed = inr (refl, (_, refl))
-overflow-either c Cause.MessagesShort = inr (refl, (_, refl))
-overflow-either c (Cause.BytesShort k) = inr (refl, (_, refl))
-overflow-either c Cause.NoSlot = inr (refl, (_, refl))
-overflow-either c (Cause.CeilingShort k) = inr (refl, (_, refl))
-overflow-either c Cause.LiveBan = inr (refl, (_, refl))
-overflow-either c Cause.BanBegun = inr (refl, (_, refl))
-overflow-either c Cause.Overflow = inl (refl, refl)
+-- admit says a refusal where its cause is one, and nowhere else
+pub refused-either : (cause : Cause) → ((refuses cause ≡ true) × ((n : ℕ) × (causeSays cause ≡ refused n))) ⊎ ((refuses cause ≡ false) × ((xs : List ℕ) × (causeSays cause ≡ gives xs)))
+refused-either Cause.Allowed = inr (refl, (_, refl))
+refused-either (Cause.Short Shortage.Messages) = inr (refl, (_, refl))
+refused-either (Cause.Short (Shortage.Bytes k)) = inr (refl, (_, refl))
+refused-either (Cause.Short Shortage.Slot) = inr (refl, (_, refl))
+refused-either (Cause.Short (Shortage.CeilingBytes k)) = inr (refl, (_, refl))
+refused-either Cause.LiveBan = inr (refl, (_, refl))
+refused-either Cause.BanBegun = inr (refl, (_, refl))
+refused-either (Cause.Refused n) = inl (refl, (n, refl))
 
 module _ (c : PeerMessagePolicyConfig) (fits : ConfigFits c) where
   -- under a live ban nothing changes, and the log is that of the same life
@@ -149,26 +138,26 @@ module _ (c : PeerMessagePolicyConfig) (fits : ConfigFits c) where
           rw (left .0, left .1, d .used) ready
 
       carried-fair : (cause : Cause) → admits c size now reservation e .cause ≡ cause
-          → EntryFair c (some (admits c size now reservation e .entry)) (logged (says c cause) asked log)
+          → EntryFair c (some (admits c size now reservation e .entry)) (logged (causeSays cause) asked log)
       carried-fair Cause.Allowed q = allowed-fair q
-      carried-fair Cause.MessagesShort q = other-fair (subst NotAllowed (sym q) tt)
-      carried-fair (Cause.BytesShort k) q = other-fair (subst NotAllowed (sym q) tt)
-      carried-fair Cause.NoSlot q = other-fair (subst NotAllowed (sym q) tt)
-      carried-fair (Cause.CeilingShort k) q = other-fair (subst NotAllowed (sym q) tt)
+      carried-fair (Cause.Short Shortage.Messages) q = other-fair (subst NotAllowed (sym q) tt)
+      carried-fair (Cause.Short (Shortage.Bytes k)) q = other-fair (subst NotAllowed (sym q) tt)
+      carried-fair (Cause.Short Shortage.Slot) q = other-fair (subst NotAllowed (sym q) tt)
+      carried-fair (Cause.Short (Shortage.CeilingBytes k)) q = other-fair (subst NotAllowed (sym q) tt)
       carried-fair Cause.LiveBan q = other-fair (subst NotAllowed (sym q) tt)
       carried-fair Cause.BanBegun q = other-fair (subst NotAllowed (sym q) tt)
-      carried-fair Cause.Overflow q = other-fair (subst NotAllowed (sym q) tt)
+      carried-fair (Cause.Refused n) q = other-fair (subst NotAllowed (sym q) tt)
 
     -- the peer's own admit, where it is not refused
     admit-fair : {found left : Option PeerMessagePolicyEntry} {cause : Cause} (log : List Allow)
-        → Own c now (admits c size now reservation) found left cause → (xs : List ℕ) → says c cause ≡ gives xs → EntryFair c found log
-        → lastUsed found ≤ now → EntryFair c left (keptLog left (logged (says c cause) asked (logFor found now log)))
+        → Own c now (admits c size now reservation) found left cause → (xs : List ℕ) → causeSays cause ≡ gives xs → EntryFair c found log
+        → lastUsed found ≤ now → EntryFair c left (keptLog left (logged (causeSays cause) asked (logFor found now log)))
     admit-fair {found} {left} log (live e q ban why same-entry) xs given h used = rw why (live-fair now found left e log q ban same-entry h)
     admit-fair {cause = cause} log (undone e lands o why same-entry) xs given h used =
         absurd (⊎-elim
-        (λ over. gives-is-not-refused (sym given ∙ over .1))
-        (λ other. true-is-not-false (ap overflows why ∙ o) (other .0))
-        (overflow-either c cause))
+        (λ over. gives-is-not-refused (sym given ∙ over .1 .1))
+        (λ other. true-is-not-false (ap refuses why ∙ o) (other .0))
+        (refused-either cause))
     admit-fair {found} {cause = cause} log (carried e lands o why now-entry) xs given h used =
         rw now-entry (carried-fair e (logFor found now log) (lands-ready c fits now found e log lands h used) cause (sym why))
 

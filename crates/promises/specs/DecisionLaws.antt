@@ -10,23 +10,17 @@ use Rattle.peer_state.specs.declared.entry.PeerMessagePolicyEntry.{PeerMessageP
 use Rattle.peer_state.specs.declared.ingress.FiberIngressBudget.{FiberIngressBudget}
 use Rattle.peer_state.specs.declared.ingress.Reservation.{Reservation}
 use Rattle.peer_state.specs.declared.ingress.Reservation.the-variants as Reservation
+use Rattle.peer_verdict.specs.declared.verdict.Shortage.the-variants as Shortage
 use Rattle.peer_verdict.specs.declared.verdict.Cause.{Cause}
 use Rattle.peer_verdict.specs.declared.verdict.Cause.the-variants as Cause
 use Rattle.peer_verdict.specs.declared.verdict.Decision.{Decision}
 use Rattle.peer_verdict.specs.declared.verdict.InvalidDecision.{InvalidDecision}
 use Rattle.peer_state.specs.Entry.{entryBan, entryUsed}
-use Rattle.peer_state.specs.Ingress.{tryReserve}
 use Rattle.peer_verdict.specs.Verdict.{passes, missing, messagesLeft, bytesLeft, takeMessage, takeBytes, reachesBan, violated, ceilingDecides, weighedIn, decision, invalidDecision}
 use Rattle.peer_verdict.specs.VerdictLaws.{NotAllowed, rateCounted, bothCharged, violated-ways, noted-ways, weighed-in-ways}
+use Rattle.promises.specs.Lives.{ceilingCause}
 
 -- ════ A message ════
-
--- the cause that the ceiling gives
-abbrev pub reservationCause : Reservation → Cause
-reservationCause (Reservation.Reserved after) = Cause.Allowed
-reservationCause Reservation.NoSlot = Cause.NoSlot
-reservationCause (Reservation.BytesShort k) = Cause.CeilingShort k
-reservationCause Reservation.Overflow = Cause.Overflow
 
 -- an Allow: both buckets passed and are charged
 pub record Charged (c : PeerMessagePolicyConfig) (e : PeerMessagePolicyEntry) (size now : ℕ) (d : Decision) : Type 0 where
@@ -40,12 +34,12 @@ pub record Decided (c : PeerMessagePolicyConfig) (e : PeerMessagePolicyEntry) (s
   pub used : d .entry .«last_used_ms» ≡ now
   pub allowed : d .cause ≡ Cause.Allowed → Charged c e size now d
   pub other : NotAllowed (d .cause) → (d .entry .messages ≡ e .messages) × (d .entry .bytes ≡ e .bytes)
-  pub passed : passes (takeMessage c (e .messages) now .answer) ≡ true → passes (takeBytes c (e .bytes) size now .answer) ≡ true → d .cause ≡ reservationCause reservation
+  pub passed : passes (takeMessage c (e .messages) now .answer) ≡ true → passes (takeBytes c (e .bytes) size now .answer) ≡ true → d .cause ≡ ceilingCause reservation
 
 -- a decision for this cause, other than Allow, that leaves the buckets
 kept-decided : {c : PeerMessagePolicyConfig} {e : PeerMessagePolicyEntry} {size now : ℕ} {reservation : Reservation} (d : Decision) → NotAllowed (d .cause)
     → d .entry .«last_used_ms» ≡ now → d .entry .messages ≡ e .messages → d .entry .bytes ≡ e .bytes
-    → (passes (takeMessage c (e .messages) now .answer) ≡ true → passes (takeBytes c (e .bytes) size now .answer) ≡ true → d .cause ≡ reservationCause reservation)
+    → (passes (takeMessage c (e .messages) now .answer) ≡ true → passes (takeBytes c (e .bytes) size now .answer) ≡ true → d .cause ≡ ceilingCause reservation)
     → Decided c e size now reservation d
 kept-decided d n used messages bytes passed =
     record { used = used; allowed = λ q. absurd (subst NotAllowed q n); other = λ m. (messages, bytes); passed = passed }
@@ -75,19 +69,19 @@ module _ (c : PeerMessagePolicyConfig) (i : FiberIngressBudget) (e : PeerMessage
           }
       by-reservation Reservation.NoSlot = kept-decided _ tt used refl refl (λ x y. refl)
       by-reservation (Reservation.BytesShort k) = kept-decided _ tt used refl refl (λ x y. refl)
-      by-reservation Reservation.Overflow = kept-decided _ tt used refl refl (λ x y. refl)
+      by-reservation (Reservation.Refused n) = kept-decided _ tt used refl refl (λ x y. refl)
 
   weighed-decided : Decided c e size now reservation (weighedIn c i e size now reservation)
   weighed-decided =
       weighed-in-ways (Decided c e size now reservation) c i e size now reservation
-      (λ no. violated-decided Cause.MessagesShort tt (λ m b. true-is-not-false m no))
-      (λ m no. violated-decided (Cause.BytesShort (missing (takeBytes c (e .bytes) size now .answer))) tt (λ x b. true-is-not-false b no))
+      (λ no. violated-decided (Cause.Short Shortage.Messages) tt (λ m b. true-is-not-false m no))
+      (λ m no. violated-decided (Cause.Short (Shortage.Bytes (missing (takeBytes c (e .bytes) size now .answer)))) tt (λ x b. true-is-not-false b no))
       ceilingDecides-decided
 
 -- with the entry as a call finds it
 pub decided : (c : PeerMessagePolicyConfig) (i : FiberIngressBudget) (e : PeerMessagePolicyEntry) (size now : ℕ) (reservation : Reservation)
-    → Decided c e size now reservation (weighedIn c i (entryUsed e now (c .«ban_duration_ms»)) size now reservation)
-unfolding entryUsed
+    → Decided c e size now reservation (decision c i e size now reservation)
+unfolding decision entryUsed
 decided c i e size now reservation =
     let d = weighed-decided c i (entryUsed e now (c .«ban_duration_ms»)) size now reservation refl in
     record {
@@ -137,17 +131,17 @@ module _ (c : PeerMessagePolicyConfig) (i j : FiberIngressBudget) (now : ℕ) wh
   ceilingDecides-alike e size (Reservation.Reserved after) = record { cause = refl; entry = refl }
   ceilingDecides-alike e size Reservation.NoSlot = record { cause = refl; entry = refl }
   ceilingDecides-alike e size (Reservation.BytesShort k) = record { cause = refl; entry = refl }
-  ceilingDecides-alike e size Reservation.Overflow = record { cause = refl; entry = refl }
+  ceilingDecides-alike e size (Reservation.Refused n) = record { cause = refl; entry = refl }
 
   weighed-alike : (e : PeerMessagePolicyEntry) (size : ℕ) (reservation : Reservation) → Alike (weighedIn c i e size now reservation) (weighedIn c j e size now reservation)
   weighed-alike e size reservation =
       alike-chosen (passes (takeMessage c (e .messages) now .answer))
       (alike-chosen (passes (takeBytes c (e .bytes) size now .answer)) (ceilingDecides-alike e size reservation)
-      (violated-alike e (Cause.BytesShort (missing (takeBytes c (e .bytes) size now .answer)))))
-      (violated-alike e Cause.MessagesShort)
+      (violated-alike e (Cause.Short (Shortage.Bytes (missing (takeBytes c (e .bytes) size now .answer))))))
+      (violated-alike e (Cause.Short Shortage.Messages))
 
-  -- admit's decision is that in the room which its load leaves, whatever load is carried
-  pub decision-alike : (e : PeerMessagePolicyEntry) (size : ℕ)
-      → Alike (decision c i e size now) (weighedIn c j (entryUsed e now (c .«ban_duration_ms»)) size now (tryReserve c i size))
+  -- two decisions on the same answer of the ceiling
+  pub decision-alike : (e : PeerMessagePolicyEntry) (size : ℕ) (reservation : Reservation)
+      → Alike (decision c i e size now reservation) (decision c j e size now reservation)
   unfolding decision
-  decision-alike e size = weighed-alike (entryUsed e now (c .«ban_duration_ms»)) size (tryReserve c i size)
+  decision-alike e size reservation = weighed-alike (entryUsed e now (c .«ban_duration_ms»)) size reservation

@@ -7,8 +7,8 @@ use lib.ListN.{replicate}
 use Rattle.pubkey.specs.declared.Pubkey.{Pubkey}
 use Rattle.refusal.specs.Refusal.{Said}
 use Rattle.peer_settings.specs.declared.config.PeerMessagePolicyConfig.{PeerMessagePolicyConfig}
-use Rattle.peer_message_policy.specs.Calls.{allow}
 use Rattle.peer_runs.specs.Runs.{Call, admit, State, Step, Run}
+use Rattle.promises.specs.Lives.{allow}
 use Rattle.promises.specs.RunLives.{Ordered, logOf, Entitled}
 
 -- a message a second and one at once, ten bytes a second and ten at once, a ban at the first violation, one tracked peer, and a ceiling

@@ -30,13 +30,13 @@ use Rattle.table.specs.Room.{roomMade}
 use Rattle.peer_table.specs.Room.{evict, makeRoom}
 use Rattle.peer_message_policy.specs.declared.policy.PeerMessagePolicy.{PeerMessagePolicy}
 use Rattle.peer_message_policy.specs.declared.answer.Made.the-variants as Made
-use Rattle.peer_message_policy.specs.declared.answer.PeerMessageAdmission.{PeerMessageAdmission}
+use Rattle.peer_message_policy.specs.declared.answer.Admission.{Admission}
 use Rattle.peer_message_policy.specs.Policy
 use Rattle.peer_message_policy.specs.Policy.{sound, become, Turn, carriedOut, entryForUpdate}
-use Rattle.peer_message_policy.specs.Calls.{Memory, policyAfter, fresh, newOutcome, NewMeets, admissionOf, admissionSays, AdmitMeets, allow}
+use Rattle.peer_message_policy.specs.Calls.{Memory, policyAfter, fresh, newOutcome, NewMeets, admissionOf, admissionSays, AdmitMeets}
 use Rattle.peer_laws.specs.CallLaws.{admit-outcome}
-use Rattle.promises.specs.Lives.{Allow, keptLog, logFor, logIn, FromEvery, Near, Within}
-use Rattle.peer_runs.specs.Runs.{admit, State, rowsIn, afterAdmit, Step, KeyFits, CallFits, Run, made, then}
+use Rattle.promises.specs.Lives.{Allow, allow, keptLog, logFor, logIn, FromEvery, Near, Within}
+use Rattle.peer_runs.specs.Runs.{admit, State, rowsIn, Step, KeyFits, CallFits, Run, made, then}
 use Rattle.promises.specs.RunLives.{latest, Ordered, entryIn, trail, logOf, Entitled}
 use Rattle.promises.specs.Example.{oneASecond, peer, lent, first, second, Example}
 use Rattle.promises.specs.Promises as Promises
@@ -67,18 +67,18 @@ settings-fit =
 -- ════ One admit ════
 
 -- the state after an answer, with this memory
-abbrev afterwards : State → PeerMessageAdmission → List ℕ → State
-afterwards s r memory = record { policy = afterAdmit (s .policy) r; memory = memory }
+abbrev afterwards : Admission → List ℕ → State
+afterwards r memory = record { policy = r .policy; memory = memory }
 
 -- the answer of a turn
-abbrev answerOf : PeerMessagePolicy → Turn Cause → PeerMessageAdmission
+abbrev answerOf : PeerMessagePolicy → Turn Cause → Admission
 answerOf p turn = admissionOf (policyAfter p (turn .ingress) (turn .change)) (turn .cause)
 
 -- a sound state goes on by the turn that the policy takes in it
 admit-goes : (s : State) → sound (s .policy) (s .memory) ≡ true → (k : Pubkey) (size now : ℕ) (turn : Turn Cause) (memory : List ℕ)
     → Policy.admit (s .policy .config) (s .policy .ingress) (rowsIn s) (k .bytes) size now ≡ turn
     → Memory (s .memory) memory (s .policy .rows) (turn .change)
-    → Step s (admit k size now) (admissionSays (answerOf (s .policy) turn)) (afterwards s (answerOf (s .policy) turn) memory)
+    → Step s (admit k size now) (admissionSays (answerOf (s .policy) turn)) (afterwards (answerOf (s .policy) turn) memory)
 unfolding AdmitMeets
 admit-goes s h k size now turn memory e m = (
   answerOf (s .policy) turn,
@@ -151,7 +151,7 @@ abbrev memory₁ : List ℕ
 memory₁ = laid peerLayout memory₀ 0 (rowAt 7 5000 ∷ [])
 
 abbrev state₁ : State
-state₁ = afterwards state₀ (answerOf (fresh oneASecond) (allowedTo 1 3 (rowAt 7 5000))) memory₁
+state₁ = afterwards (answerOf (fresh oneASecond) (allowedTo 1 3 (rowAt 7 5000))) memory₁
 
 first-turn : Policy.admit oneASecond (inFlight 0 0) (rowsIn state₀) (peer .bytes) 3 5000 ≡ allowedTo 1 3 (rowAt 7 5000)
 unfolding rows amountOf value saturated discreteRefill discreteTake discreteTryConsume byteRefill byteTake byteTryConsume look store retain removeAt minimumFrom windowExpire windowCounted entryNew entryBan entryUsed tryReserve takeMessage takeBytes violated decision evict roomMade makeRoom Policy.admit carriedOut entryForUpdate
@@ -216,7 +216,7 @@ holds₂ : Holds peerLayout memory₁ memory₂ 1 (rowAt 7 6000 ∷ [])
 holds₂ = holds peer-faithful memory₁ memory₂ 1 (rowAt 7 6000 ∷ []) (row-fits 7 6000 (omega arith) (omega arith)) refl
 
 abbrev state₂ : State
-state₂ = afterwards state₁ (answerOf (state₁ .policy) (allowedTo 2 6 (rowAt 7 6000))) memory₂
+state₂ = afterwards (answerOf (state₁ .policy) (allowedTo 2 6 (rowAt 7 6000))) memory₂
 
 run₂ : Run oneASecond (second ∷ first ∷ []) state₂
 run₂ =

@@ -14,11 +14,11 @@ use Rattle.peer_state.specs.declared.ingress.Reservation.the-variants as Reserv
 use Rattle.peer_settings.specs.Fits.{ConfigFits}
 use Rattle.peer_state.specs.Ingress.{tryReserve}
 use Rattle.peer_rows.specs.Rows.{Peers}
-use Rattle.peer_message_policy.specs.Calls.{ban}
+use Rattle.peer_message_policy.specs.Merged.{firstSaid}
 use Rattle.promises.specs.Core as Core
 use Rattle.promises.specs.Core.{after, Timely, Sized}
 use Rattle.promises.specs.Trails.{CoreCall, Event, seenIf, callsOf}
-use Rattle.promises.specs.Lives.{lastUsed, AtMost, ceilingSays}
+use Rattle.promises.specs.Lives.{lastUsed, AtMost, ceilingSays, ceilingMerged}
 use Rattle.peer_runs.specs.Runs.{Call, admit, recordInvalid, isBanned, onDisconnected, releaseIngress, inFlight, heldTime, State, rowsIn, Step, CallFits, Run, made, then}
 use Rattle.promises.specs.RunLives.{entryIn, coreOf, trail, coreCalls, logOf, Shielded, timeOf, latestOf, latest, notBefore, Ordered, Entitled, Shield}
 use Rattle.peer_runs.specs.SoundRunLaws.{run-holds}
@@ -119,20 +119,11 @@ module _ {c : PeerMessagePolicyConfig} (fits : ConfigFits c) {h : List Call} {s 
   ordered-least k size now order entitled said t step =
       shielded-least fits k run (ordered-shields run k (order .1)) size now (le-trans (ordered-used run k (order .1)) (order .0)) entitled said t step
 
--- ════ No ban ════
+-- ════ Merged ════
 
--- the ceiling bans nobody
-ceiling-never-bans : {said : Said} (r : Reservation) → said ≡ ceilingSays r → said ≡ ban → ⊥
-ceiling-never-bans (Reservation.Reserved after) h banned = let z : _≡_ {A = ℕ} 0 2 = cc in omega arith
-ceiling-never-bans Reservation.NoSlot h banned = let z : _≡_ {A = ℕ} 1 2 = cc in omega arith
-ceiling-never-bans (Reservation.BytesShort n) h banned = let z : _≡_ {A = ℕ} 1 2 = cc in omega arith
-ceiling-never-bans Reservation.Overflow h banned = let z : _≡_ {A = ℕ} 0 1 = cc in omega arith
-
--- so a call within the smaller allowance is never answered Ban: it begins no ban
-module _ {c : PeerMessagePolicyConfig} (fits : ConfigFits c) {h : List Call} {s : State} (run : Run c h s) (k : Pubkey) (size now : ℕ) (entitled : Entitled run k size now) (said : Said) (t : State) (step : Step s (admit k size now) said t) where
-  pub shielded-never-bans : Shielded k run → lastUsed (entryIn s k) ≤ now → said ≡ ban → ⊥
-  shielded-never-bans shield used =
-      ceiling-never-bans (tryReserve c (s .policy .ingress) size) (shielded-least fits k run shield size now used entitled said t step)
-
-  pub never-bans : Ordered (admit k size now ∷ h) → said ≡ ban → ⊥
-  never-bans order = ceiling-never-bans (tryReserve c (s .policy .ingress) size) (ordered-least fits run k size now order entitled said t step)
+-- what the ceiling says begins with its merged answer
+pub ceiling-merged : (r : Reservation) → firstSaid (ceilingSays r) ≡ ceilingMerged r
+ceiling-merged (Reservation.Reserved after) = refl
+ceiling-merged Reservation.NoSlot = refl
+ceiling-merged (Reservation.BytesShort k) = refl
+ceiling-merged (Reservation.Refused n) = refl

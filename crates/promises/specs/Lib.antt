@@ -3,6 +3,7 @@ pub mod Core
 pub mod Lives
 pub mod RunLives
 pub mod Held
+pub mod Named
 pub mod Example
 pub mod BucketLaws
 pub mod MessageLaws
@@ -17,6 +18,7 @@ pub mod MirrorLaws
 pub mod CoreRunLaws
 pub mod FairRunLaws
 pub mod HeldRunLaws
+pub mod NamedLaws
 pub mod Samples
 pub mod SamplesLaws
 pub mod Promises

@@ -8,7 +8,7 @@ use Prim.Native.Nat.{ℕ, _+_, _-_, _*_, _/_, _≤_}
 use lib.Dec.{leb}
 use Rattle.pubkey.specs.declared.Pubkey.{Pubkey}
 use Rattle.pubkey.specs.Order.{compareBytes}
-use Rattle.refusal.specs.Refusal.{Said, refused, overflow}
+use Rattle.refusal.specs.Refusal.{Said, gives, refused}
 use Rattle.bucket_terms.specs.Limit.{byteDisabled}
 use Rattle.table.specs.Table.{look, byOrder}
 use Rattle.peer_settings.specs.declared.config.PeerMessagePolicyConfig.{PeerMessagePolicyConfig}
@@ -17,7 +17,11 @@ use Rattle.peer_state.specs.declared.ingress.Reservation.{Reservation}
 use Rattle.peer_state.specs.declared.ingress.Reservation.the-variants as Reservation
 use Rattle.peer_settings.specs.Config.{messageLimitDisabled, bytesOf}
 use Rattle.peer_state.specs.Entry.{entryIsSpent}
-use Rattle.peer_message_policy.specs.Calls.{isAllow, allow, disconnect}
+use Rattle.peer_verdict.specs.declared.verdict.Shortage.the-variants as Shortage
+use Rattle.peer_verdict.specs.declared.verdict.Cause.{Cause}
+use Rattle.peer_verdict.specs.declared.verdict.Cause.the-variants as Cause
+use Rattle.peer_verdict.specs.Causes.{causeSays}
+use Rattle.peer_message_policy.specs.Calls.{isAllow}
 use Rattle.promises.specs.Trails.{CoreCall, admit, recordInvalid, isBanned, onDisconnected, Event, rowsAt}
 
 -- ════ A peer's own calls ════
@@ -141,9 +145,26 @@ Within c now size log =
     (messageLimitDisabled c ≡ false → Near (c .«peer_message_interval_ms») now log)
     × FromEvery c now 0 0 (record { time = now; size = size } ∷ log)
 
--- what the ceiling says: Allow where there is room, Disconnect where there is none, refusal 4 where a number would overflow
+-- ════ What the ceiling says ════
+
+-- the cause that it gives: allowed where there is room, short where there is none, refusal 4 where a number would overflow
+abbrev pub ceilingCause : Reservation → Cause
+ceilingCause (Reservation.Reserved after) = Cause.Allowed
+ceilingCause Reservation.NoSlot = Cause.Short Shortage.Slot
+ceilingCause (Reservation.BytesShort k) = Cause.Short (Shortage.CeilingBytes k)
+ceilingCause (Reservation.Refused n) = Cause.Refused n
+
+-- what an Allow says
+abbrev pub allow : Said
+allow = causeSays Cause.Allowed
+
+-- Allow, Disconnect with the ceiling's name and by how much it ran short, or refusal 4
 abbrev pub ceilingSays : Reservation → Said
-ceilingSays (Reservation.Reserved after) = allow
-ceilingSays Reservation.NoSlot = disconnect
-ceilingSays (Reservation.BytesShort k) = disconnect
-ceilingSays Reservation.Overflow = refused overflow
+ceilingSays reservation = causeSays (ceilingCause reservation)
+
+-- the same, merged: Allow, Disconnect or the refusal
+abbrev pub ceilingMerged : Reservation → Said
+ceilingMerged (Reservation.Reserved after) = gives (0 ∷ [])
+ceilingMerged Reservation.NoSlot = gives (1 ∷ [])
+ceilingMerged (Reservation.BytesShort k) = gives (1 ∷ [])
+ceilingMerged (Reservation.Refused n) = refused n

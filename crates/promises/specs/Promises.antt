@@ -1,10 +1,10 @@
 -- What the user was promised, stated of the calls themselves. A `Run` is a list of calls on lent memory, from a freshly made
 -- policy, each known by its contract alone; `logOf k run` is the list of Allows of peer k's present life. The definitions stand in
--- Runs (of peer_runs), Trails, Lives, RunLives, Held and Samples, those of snapshots in Alike (of snapshot_laws), the proofs in the
+-- Runs (of peer_runs), Trails, Lives, RunLives, Held, Named and Samples, those of snapshots in Alike (of snapshot_laws), the proofs in the
 -- modules that are named here. `CoreLaws` states both bounds of lists of core calls, which `CoreRunLaws.runs-core` maps a run onto. That there is a run in which
 -- `least` gives an Allow after an Allow is `ExampleLaws.a-run-exists`.
 use mathlib.Core.Path.{_≡_}
-use mathlib.Core.Bool.{true, cond}
+use mathlib.Core.Bool.{true, false, cond}
 use mathlib.Core.List.{List, _∷_}
 use Prim.Native.Nat.{ℕ, _≤_}
 use lib.ListN.{length, take}
@@ -13,10 +13,16 @@ use Rattle.pubkey.specs.declared.Pubkey.{Pubkey}
 use Rattle.refusal.specs.Refusal.{Said, tooShort}
 use Rattle.peer_settings.specs.declared.config.PeerMessagePolicyConfig.{PeerMessagePolicyConfig}
 use Rattle.peer_settings.specs.Fits.{ConfigFits}
+use Rattle.peer_state.specs.declared.ingress.Reservation.{Reservation}
 use Rattle.peer_state.specs.Ingress.{tryReserve}
 use Rattle.peer_message_policy.specs.declared.answer.Made.{Made}
 use Rattle.peer_message_policy.specs.declared.answer.Made.the-variants as Made
+use Rattle.peer_message_policy.specs.declared.policy.PeerMessagePolicy.{PeerMessagePolicy}
+use Rattle.peer_message_policy.specs.declared.answer.Admission.{Admission}
 use Rattle.peer_message_policy.specs.Policy as Policy
+use Rattle.peer_message_policy.specs.Calls.{admissionSays, AdmitMeets}
+use Rattle.peer_message_policy.specs.Merged.{merge, mergedSays, firstSaid, MergedMeets}
+use Rattle.peer_message_policy.specs.MergedLaws as MergedLaws
 use Rattle.peer_laws.specs.Fits.{PolicyFits}
 use Rattle.snapshot.specs.declared.answer.Written.{Written}
 use Rattle.snapshot.specs.declared.answer.Written.the-variants as Written
@@ -26,13 +32,15 @@ use Rattle.snapshot_laws.specs.Alike.{Alike, SamePolicy}
 use Rattle.snapshot_laws.specs.RoundTripLaws as RoundTripLaws
 use Rattle.snapshot_laws.specs.SamePolicyLaws as SamePolicyLaws
 use Rattle.peer_runs.specs.Runs.{Call, admit, State, Step, Run}
-use Rattle.promises.specs.Lives.{AtMost, ceilingSays}
+use Rattle.promises.specs.Lives.{AtMost, ceilingSays, ceilingMerged}
 use Rattle.promises.specs.RunLives.{Ordered, logOf, Shielded, Entitled, Shield}
 use Rattle.promises.specs.Held.{Held, HeldShield}
+use Rattle.promises.specs.Named.{NamedWhere, blames, InTime}
 use Rattle.promises.specs.Samples.{Agree, samplesRun}
 use Rattle.peer_runs.specs.SoundRunLaws as SoundRunLaws
 use Rattle.promises.specs.FairRunLaws as FairRunLaws
 use Rattle.promises.specs.HeldRunLaws as HeldRunLaws
+use Rattle.promises.specs.NamedLaws as NamedLaws
 use Rattle.promises.specs.SamplesLaws as SamplesLaws
 
 -- The upper bound: over calls whose times never go back, the Allows of any life from one time to another number at most
@@ -42,7 +50,7 @@ most fits run = FairRunLaws.ordered-most fits run
 
 -- The lower bound: over calls whose times never go back, this one included, a call that is entitled to it (by a peer that is not
 -- banned, within the smaller allowance counted from every Allow of its life) gets the ceiling's answer: Allow where there is room,
--- Disconnect where there is none, refusal 4 where a number in flight would overflow.
+-- Disconnect where there is none, with the ceiling's name and by how much it ran short, refusal 4 where a number in flight would overflow.
 pub least : {c : PeerMessagePolicyConfig} {h : List Call} {s : State} → ConfigFits c → (run : Run c h s) → (k : Pubkey) (size now : ℕ)
     → Ordered (admit k size now ∷ h)
     → Entitled run k size now
@@ -60,6 +68,33 @@ sound run = SoundRunLaws.run-sound run
 pub shielded : {c : PeerMessagePolicyConfig} {h : List Call} {s : State} → ConfigFits c → (k : Pubkey) (run : Run c h s)
     → (Shielded k run → Shield k run) × (Held k run → Shielded k run) × (Held k run → HeldShield k run)
 shielded fits k run = (FairRunLaws.shielded-both fits k run, HeldRunLaws.held-shields k run, HeldRunLaws.held-both k fits run)
+
+-- The Rust's answer: what admit answers, merged to Allow, Disconnect or Ban, is the definition's that has no more than these, for any
+-- arguments over any lent memory; and what it says begins with what the merged answer says.
+pub merged : (p : PeerMessagePolicy) (before : List ℕ) (k : Pubkey) (size now : ℕ) (r : Admission) (after : List ℕ)
+    → AdmitMeets p before k size now r after
+    → MergedMeets p before k size now (merge r) after × (mergedSays (merge r) ≡ firstSaid (admissionSays r))
+merged p before k size now r after m = (MergedLaws.merged p before k size now r after m, MergedLaws.merged-says r)
+
+-- What the ceiling says, merged, is Allow where there is room, Disconnect where there is none, or the refusal: so `least` and `shielded`
+-- read as they do of the Rust's answers.
+pub ceiling-merged : (r : Reservation) → firstSaid (ceilingSays r) ≡ ceilingMerged r
+ceiling-merged r = FairRunLaws.ceiling-merged r
+
+-- Which limit a Disconnect names. From any sound state, whoever made it, admit names the ceiling exactly where we were busy: no ban on the
+-- peer is live, both its buckets pass, and the ceiling has no room. And from fresh, under the premises of `least` or of `shielded`, a call
+-- within the smaller allowance is never told messages or bytes, and never banned.
+pub named : ((p : PeerMessagePolicy) (s : List ℕ) → Policy.sound p s ≡ true → (k : Pubkey) (size now : ℕ) (r : Admission) (t : List ℕ)
+    → AdmitMeets p s k size now r t → NamedWhere p s k size now (r .cause))
+    × ((c : PeerMessagePolicyConfig) (h : List Call) (s : State) → ConfigFits c → (run : Run c h s) (k : Pubkey) (size now : ℕ)
+    → InTime run k size now
+    → Entitled run k size now
+    → (said : Said) (t : State) (step : Step s (admit k size now) said t)
+    → blames (step .0 .cause) ≡ false)
+named = (
+  NamedLaws.named-where,
+  λ c h s fits run k size now in-time entitled said t step. NamedLaws.never-blamed fits run k size now entitled said t step in-time,
+)
 
 -- The samples of docs/REFERENCE.md, A to J, hold of the definitions.
 pub samples : Agree samplesRun

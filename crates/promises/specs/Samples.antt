@@ -27,7 +27,11 @@ use Rattle.gossip_ban_rows.specs.Rows.{Bans}
 use Rattle.gossip_bans.specs.Tracker as tracker
 use Rattle.gossip_limiter_rows.specs.Rows.{Limits}
 use Rattle.gossip_limiter.specs.Limiter.{tryAcquire}
-use Rattle.peer_message_policy.specs.Calls.{changedRows, admissionSays, admissionOf, fresh, allow, disconnect}
+use Rattle.peer_message_policy.specs.Calls.{changedRows}
+use Rattle.peer_verdict.specs.declared.verdict.Shortage.the-variants as Shortage
+use Rattle.peer_verdict.specs.declared.verdict.Cause.the-variants as Cause
+use Rattle.peer_verdict.specs.Causes.{causeSays}
+use Rattle.promises.specs.Lives.{allow}
 
 -- a sample: what its steps say on the definitions, and what the document says
 pub record Sample : Type 0 where
@@ -85,7 +89,7 @@ peersOf (r ∷ rs) = getD (r .key) 0 0 ∷ peersOf rs
 unfoldable pub admitted : PeerMessagePolicyConfig → FiberIngressBudget → Peers → List Message → List Said
 admitted c i rs [] = gives (peersOf rs) ∷ []
 admitted c i rs (m ∷ ms) =
-    admissionSays (admissionOf (fresh c) (admit c i rs (replicate 33 (m .peer)) (m .size) (m .now) .cause))
+    causeSays (admit c i rs (replicate 33 (m .peer)) (m .size) (m .now) .cause)
     ∷ admitted c (admit c i rs (replicate 33 (m .peer)) (m .size) (m .now) .ingress)
     (changedRows rs (admit c i rs (replicate 33 (m .peer)) (m .size) (m .now) .change))
     ms
@@ -155,7 +159,7 @@ samplesRun =
     ∷ record { says = bytes (byteNew (byteLimit 999 1)) (at 1 1 ∷ at 2 1 ∷ at 3 1 ∷ []); document = yes ∷ no ∷ no ∷ [] }
     ∷ record {
       says = admitted (bytesOnly 999 1) (inFlight 0 0) [] (of 2 1 1 ∷ of 2 1 2 ∷ of 2 1 3 ∷ []);
-      document = allow ∷ disconnect ∷ allow ∷ gives (2 ∷ []) ∷ [];
+      document = allow ∷ causeSays (Cause.Short (Shortage.Bytes 1)) ∷ allow ∷ gives (2 ∷ []) ∷ [];
     }
     ∷ record { says = promised (byteNew (byteLimit 125 1)) (at 0 2305843009213693953) []; document = gives (0 ∷ []) ∷ [] }
     ∷ record {

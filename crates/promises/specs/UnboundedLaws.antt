@@ -13,7 +13,9 @@ use Rattle.peer_state.specs.Ingress.{tryReserve, inFlight}
 use Rattle.peer_verdict.specs.Verdict.{takeMessage, takeBytes, violated, decision}
 use Rattle.table.specs.Room.{roomMade}
 use Rattle.peer_table.specs.Room.{evict, makeRoom}
-use Rattle.peer_message_policy.specs.Calls.{allow, ban}
+use Rattle.peer_verdict.specs.declared.verdict.Cause.the-variants as Cause
+use Rattle.peer_verdict.specs.Causes.{causeSays}
+use Rattle.promises.specs.Lives.{allow}
 use Rattle.peer_message_policy.specs.Policy.{admit, carriedOut, entryForUpdate}
 use Rattle.promises.specs.Samples.{Message, admitted, peersOf}
 
@@ -37,7 +39,7 @@ abbrev from : ℕ → Message
 from peer = record { peer = peer; size = 1; now = 5 }
 
 -- a ban of no duration is over at once, and the next message begins a new life with full buckets
-pub new-lives-by-bans : admitted (strict 0 2) (inFlight 0 0) [] (from 2 ∷ from 2 ∷ from 2 ∷ from 2 ∷ from 2 ∷ from 2 ∷ []) ≡ allow ∷ allow ∷ ban ∷ allow ∷ allow ∷ ban ∷ gives (2 ∷ []) ∷ []
+pub new-lives-by-bans : admitted (strict 0 2) (inFlight 0 0) [] (from 2 ∷ from 2 ∷ from 2 ∷ from 2 ∷ from 2 ∷ from 2 ∷ []) ≡ allow ∷ allow ∷ causeSays Cause.BanBegun ∷ allow ∷ allow ∷ causeSays Cause.BanBegun ∷ gives (2 ∷ []) ∷ []
 unfolding peersOf admitted amountOf value saturated discreteRefill discreteTake discreteTryConsume byteRefill byteTake byteTryConsume look store erase retain removeAt minimumFrom windowExpire windowCounted entryNew entryBan entryUsed tryReserve takeMessage takeBytes violated decision evict roomMade makeRoom admit carriedOut entryForUpdate
 new-lives-by-bans = refl
 

@@ -2,12 +2,16 @@
 // (bytes), 7 in_flight, 8 held_time.
 use crate::held::Answer;
 use crate::held::Held;
+use peer_message_policy::answer::Admission;
 use peer_message_policy::answer::Changed;
 use peer_message_policy::answer::HeldTime;
 use peer_message_policy::answer::InFlight;
 use peer_message_policy::answer::Invalid;
-use peer_message_policy::answer::PeerMessageAdmission;
 use peer_message_policy::answer::Standing;
+use peer_message_policy::policy::PeerMessagePolicy;
+use peer_verdict::verdict::Cause;
+use peer_verdict::verdict::InvalidCause;
+use peer_verdict::verdict::Shortage;
 use pubkey::Pubkey;
 use replay::line::Line;
 use replay::record::Record;
@@ -35,12 +39,25 @@ fn admit(held: Held, table: &mut [u8], key: Pubkey, bytes: u64, now_ms: u64) -> 
     admitted(held, policy.admit(table, key, bytes, now_ms))
 }
 
-fn admitted(held: Held, answer: PeerMessageAdmission) -> Answer {
-    match answer {
-        PeerMessageAdmission::Allow(p) => held.left(p, b"Allow"),
-        PeerMessageAdmission::Disconnect(p) => held.left(p, b"Disconnect"),
-        PeerMessageAdmission::Ban(p) => held.left(p, b"Ban"),
-        PeerMessageAdmission::Refused(n) => held.refused(n),
+fn admitted(held: Held, answer: Admission) -> Answer {
+    let cause = answer.cause;
+    let policy = answer.policy;
+    match cause {
+        Cause::Allowed => held.left(policy, b"Allow"),
+        Cause::Short(shortage) => short(held, policy, shortage),
+        Cause::LiveBan => held.left(policy, b"Ban-live"),
+        Cause::BanBegun => held.left(policy, b"Ban-begun"),
+        Cause::Refused(n) => held.refused(n),
+    }
+}
+
+// What ran short, and by how much.
+fn short(held: Held, policy: PeerMessagePolicy, shortage: Shortage) -> Answer {
+    match shortage {
+        Shortage::Messages => held.left(policy, b"Disconnect-messages").then(1),
+        Shortage::Bytes(k) => held.left(policy, b"Disconnect-bytes").then(k),
+        Shortage::Slot => held.left(policy, b"Disconnect-slot").then(1),
+        Shortage::CeilingBytes(k) => held.left(policy, b"Disconnect-ceiling-bytes").then(k),
     }
 }
 
@@ -50,10 +67,13 @@ fn record_invalid(held: Held, table: &mut [u8], key: Pubkey, now_ms: u64) -> Ans
 }
 
 fn noted(held: Held, answer: Invalid) -> Answer {
-    match answer {
-        Invalid::Banned(p) => held.left(p, b"1"),
-        Invalid::Noted(p) => held.left(p, b"0"),
-        Invalid::Refused(n) => held.refused(n),
+    let cause = answer.cause;
+    let policy = answer.policy;
+    match cause {
+        InvalidCause::Noted => held.left(policy, b"0"),
+        InvalidCause::LiveBan => held.left(policy, b"1"),
+        InvalidCause::BanBegun => held.left(policy, b"1"),
+        InvalidCause::Refused(n) => held.refused(n),
     }
 }
 

@@ -15,6 +15,18 @@ pub struct Answer {
     pub line: Line,
 }
 
+impl Answer {
+    // The same with a number behind it.
+    pub(crate) fn then(self, n: u64) -> Answer {
+        let held = self.held;
+        let line = self.line;
+        Answer {
+            held,
+            line: line.then(n),
+        }
+    }
+}
+
 impl Held {
     pub(crate) fn nothing() -> Held {
         let config = PeerMessagePolicyConfig::with_limits(0, 0, 0);

@@ -20,5 +20,5 @@ endFrom at (some line) = LineEnd.At (at + length line)
 unfoldable pub lineEndOf : List ℕ → ℕ → LineEnd
 lineEndOf input at = endFrom at (firstLine (drop at input))
 
-unfoldable pub AnsweredMeets : PeerMessagePolicy → List ℕ → Event → Answered → List ℕ → Type 0
-AnsweredMeets p before e r after = Meets r before after (p .rows) (answeredOutcome p before e)
+unfoldable pub AnsweredMeets : PeerMessagePolicy → List ℕ → Event → ℕ → Answered → List ℕ → Type 0
+AnsweredMeets p before e number r after = Meets r before after (p .rows) (answeredOutcome p before e number)

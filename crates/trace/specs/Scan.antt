@@ -16,7 +16,8 @@ use Rattle.peer_message_policy.specs.Calls.{Outcome, Meets, refuse, fresh, newO
 use Rattle.trace_lines.specs.declared.line.TraceLine.{TraceLine}
 use Rattle.trace_lines.specs.declared.settings.Settings.{Settings}
 use Rattle.trace_lines.specs.declared.settings.Settings.the-variants as Settings
-use Rattle.trace_lines.specs.Lines.{largest64, settingsOf, eventOf, lineOf, badLineText, refusalText}
+use Rattle.trace_lines.specs.declared.event.Event.{Event}
+use Rattle.trace_lines.specs.Lines.{largest64, settingsOf, eventOf, badEvent, lineOf}
 use Rattle.trace.specs.declared.newline.LineEnd.{LineEnd}
 use Rattle.trace.specs.declared.newline.LineEnd.the-variants as LineEnd
 use Rattle.trace.specs.declared.settle.Settled.{Settled}
@@ -25,8 +26,10 @@ use Rattle.trace.specs.declared.scan.Phase.{Phase}
 use Rattle.trace.specs.declared.scan.Phase.the-variants as Phase
 use Rattle.trace.specs.declared.scan.Scan.{Scan}
 use Rattle.trace.specs.declared.scan.Handed.{Handed}
+use Rattle.trace.specs.declared.step.Answer.{Answer}
+use Rattle.trace.specs.declared.step.Answer.the-variants as Answer
 use Rattle.trace.specs.declared.step.Stepped.{Stepped}
-use Rattle.trace.specs.Step.{mapped, stepOutcome}
+use Rattle.trace.specs.Step.{mapped, spoken, spokenText, stepOutcome}
 
 -- ════ Lines of an input ════
 
@@ -45,23 +48,32 @@ following number = cond (eqb number largest64) number (number + 1)
 
 -- ════ What a call hands out ════
 
--- a line behind which nothing more is read
-abbrev pub last : Scan → TraceLine → Handed
-last scan line = record { done = false; line = line; scan = record { at = scan .at; number = scan .number; policy = scan .policy; phase = Phase.Done } }
+-- the answer to a line that is no event's, behind which nothing more is read
+abbrev pub last : Scan → Answer → Handed
+last scan answer =
+    record {
+      done = false;
+      event = badEvent;
+      answer = answer;
+      line = lineOf (spokenText (scan .policy) (spoken answer));
+      scan = record { at = scan .at; number = scan .number; policy = scan .policy; phase = Phase.Done };
+    }
 
--- no line, and the scan as it was
+-- no line, and the scan as it was; no line has the number 0, so that this answer is none to a line
 abbrev pub ended : Scan → Handed
-ended scan = record { done = true; line = lineOf []; scan = scan }
+ended scan = record { done = true; event = badEvent; answer = Answer.BadLine 0; line = lineOf []; scan = scan }
 
 abbrev pub phaseBehind : Bool → Phase
 phaseBehind true = Phase.Events
 phaseBehind false = Phase.Done
 
--- an event's line, and the scan at the place behind it
-abbrev pub moved : Scan → ℕ → Stepped → Handed
-moved scan at step =
+-- an event with its answer and its line, and the scan at the place behind it
+abbrev pub moved : Scan → ℕ → Event → Stepped → Handed
+moved scan at event step =
     record {
       done = false;
+      event = event;
+      answer = step .answer;
       line = step .line;
       scan = record { at = at; number = following (scan .number); policy = step .policy; phase = phaseBehind (step .«goes_on») };
     }
@@ -69,9 +81,9 @@ moved scan at step =
 -- ════ The event's line ════
 
 abbrev pub lineOutcome : Scan → Option (List ℕ) → List ℕ → Outcome Handed
-lineOutcome scan none s = refuse (last scan (lineOf (badLineText (scan .number))))
+lineOutcome scan none s = refuse (last scan (Answer.BadLine (scan .number)))
 lineOutcome scan (some line) s =
-    mapped (moved scan (scan .at + length line + 1)) (stepOutcome (scan .policy) s (eventOf line) (scan .number))
+    mapped (moved scan (scan .at + length line + 1) (eventOf line)) (stepOutcome (scan .policy) s (eventOf line) (scan .number))
 
 unfoldable pub eventsOutcome : Scan → List ℕ → List ℕ → Outcome Handed
 eventsOutcome scan input s =
@@ -106,11 +118,11 @@ settledScan scan line p =
 -- behind good settings the first event's line; the memory that the settings left is what it finds
 abbrev pub SettledMeets : Scan → List ℕ → Settled → List ℕ → List ℕ → Handed → List ℕ → Type 0
 SettledMeets scan line (Settled.Policy p) input before r after = EventsMeets (settledScan scan line p) input before r after
-SettledMeets scan line (Settled.Refused n) input before r after = (r ≡ last scan (lineOf (refusalText n))) × (after ≡ before)
-SettledMeets scan line Settled.Bad input before r after = (r ≡ last scan (lineOf (badLineText (scan .number)))) × (after ≡ before)
+SettledMeets scan line (Settled.Refused n) input before r after = (r ≡ last scan (Answer.Refused n)) × (after ≡ before)
+SettledMeets scan line Settled.Bad input before r after = (r ≡ last scan (Answer.BadLine (scan .number))) × (after ≡ before)
 
 abbrev pub SettingsBy : Scan → Option (List ℕ) → List ℕ → List ℕ → Handed → List ℕ → Type 0
-SettingsBy scan none input before r after = (r ≡ last scan (lineOf (badLineText (scan .number)))) × (after ≡ before)
+SettingsBy scan none input before r after = (r ≡ last scan (Answer.BadLine (scan .number))) × (after ≡ before)
 SettingsBy scan (some line) input before r after =
     (a : Settled) × (middle : List ℕ) × SettleMeets line before a middle × SettledMeets scan line a input middle r after
 
@@ -132,7 +144,7 @@ openOf input =
     record { at = 0; number = 1; policy = noPolicy; phase = cond (ltb longestInput (length input)) Phase.TooLong Phase.Settings }
 
 abbrev pub NextIn : Phase → Scan → List ℕ → List ℕ → Handed → List ℕ → Type 0
-NextIn Phase.TooLong scan input before r after = (r ≡ last scan (lineOf (badLineText 1))) × (after ≡ before)
+NextIn Phase.TooLong scan input before r after = (r ≡ last scan (Answer.BadLine 1)) × (after ≡ before)
 NextIn Phase.Settings scan input before r after = SettingsMeets scan input before r after
 NextIn Phase.Events scan input before r after = EventsMeets scan input before r after
 NextIn Phase.Done scan input before r after = (r ≡ ended scan) × (after ≡ before)

@@ -5,21 +5,27 @@ use super::newline::LineEnd;
 use super::newline::line_end;
 use super::settle::Settled;
 use super::settle::settle;
+use super::step::Answer;
 use super::step::Stepped;
+use super::step::speak;
+use super::step::spoken_line;
 use super::step::step;
 use peer_message_policy::policy::PeerMessagePolicy;
 use peer_settings::config::PeerMessagePolicyConfig;
+use trace_lines::event::Event;
+use trace_lines::event::bad_event;
 use trace_lines::event::parse_event;
 use trace_lines::line::LINE_SIZE;
 use trace_lines::line::TraceLine;
-use trace_lines::line::bad_line;
-use trace_lines::line::refusal_line;
 
 // The longest input that is read.
 pub const LONGEST_INPUT: usize = 65_536;
 
 // The number of the settings line.
 pub const FIRST_LINE: u64 = 1;
+
+// The number of none: what is handed out where the scan is done answers no line.
+const NO_LINE: u64 = 0;
 
 pub enum Phase {
     TooLong,
@@ -36,9 +42,12 @@ pub struct Scan {
     pub phase: Phase,
 }
 
-// One line to write and the scan behind it; or, where it is done, an empty line and the scan as it was. An enum can't hold a line.
+// One line to write, the event that it answers with the answer that it spells, and the scan behind it; or, where it is done, an empty
+// line and the scan as it was. Where a line answers no event, the event is a bad one. An enum can't hold a line.
 pub struct Handed {
     pub done: bool,
+    pub event: Event,
+    pub answer: Answer,
     pub line: TraceLine,
     pub scan: Scan,
 }
@@ -53,14 +62,16 @@ fn following(number: u64) -> u64
     number + 1
 }
 
-// A line behind which nothing more is read.
-fn last(scan: Scan, line: TraceLine) -> Handed
-    ensures { λ r. ⌜ r ≡ last scan line ⌝ }
+// The answer to a line that is no event's, behind which nothing more is read.
+fn last(scan: Scan, answer: Answer) -> Handed
+    ensures { λ r. ⌜ r ≡ last scan answer ⌝ }
 {
     let policy = scan.policy;
     Handed {
         done: false,
-        line,
+        event: bad_event(),
+        answer,
+        line: spoken_line(policy, speak(answer)),
         scan: Scan {
             at: scan.at,
             number: scan.number,
@@ -75,6 +86,8 @@ fn ended(scan: Scan) -> Handed
 {
     Handed {
         done: true,
+        event: bad_event(),
+        answer: Answer::BadLine(NO_LINE),
         line: TraceLine {
             bytes: [0u8; LINE_SIZE],
             length: 0,
@@ -94,15 +107,18 @@ fn phase_behind(goes_on: bool) -> Phase
 }
 
 // The scan behind an event's line, at this place.
-fn moved(scan: Scan, at: usize, step: Stepped) -> Handed
-    ensures { λ r. ⌜ r ≡ moved scan at step ⌝ }
+fn moved(scan: Scan, at: usize, event: Event, step: Stepped) -> Handed
+    ensures { λ r. ⌜ r ≡ moved scan at event step ⌝ }
 {
+    let answer = step.answer;
     let line = step.line;
     let policy = step.policy;
     let number = following(scan.number);
     let phase = phase_behind(step.goes_on);
     Handed {
         done: false,
+        event,
+        answer,
         line,
         scan: Scan {
             at,
@@ -123,12 +139,12 @@ fn next_event(scan: Scan, input: &[u8], table: &mut [u8]) -> Handed
     }
     let found = line_end(input, at);
     match found {
-        LineEnd::Missing => last(scan, bad_line(scan.number)),
+        LineEnd::Missing => last(scan, Answer::BadLine(scan.number)),
         LineEnd::At(end) => {
             let event = parse_event(&input[at..end]);
             let policy = scan.policy;
             let stepped = step(policy, table, event, scan.number);
-            moved(scan, end + 1, stepped)
+            moved(scan, end + 1, event, stepped)
         }
     }
 }
@@ -140,12 +156,12 @@ fn next_settings(scan: Scan, input: &[u8], table: &mut [u8]) -> Handed
     let at = scan.at;
     let found = line_end(input, at);
     match found {
-        LineEnd::Missing => last(scan, bad_line(scan.number)),
+        LineEnd::Missing => last(scan, Answer::BadLine(scan.number)),
         LineEnd::At(end) => {
             let settled = settle(&input[at..end], table);
             match settled {
-                Settled::Bad => last(scan, bad_line(scan.number)),
-                Settled::Refused(refusal) => last(scan, refusal_line(refusal)),
+                Settled::Bad => last(scan, Answer::BadLine(scan.number)),
+                Settled::Refused(refusal) => last(scan, Answer::Refused(refusal)),
                 Settled::Policy(policy) => {
                     let behind = Scan {
                         at: end + 1,
@@ -194,7 +210,7 @@ pub fn next(scan: Scan, input: &[u8], table: &mut [u8]) -> Handed
 {
     let phase = scan.phase;
     match phase {
-        Phase::TooLong => last(scan, bad_line(FIRST_LINE)),
+        Phase::TooLong => last(scan, Answer::BadLine(FIRST_LINE)),
         Phase::Settings => next_settings(scan, input, table),
         Phase::Events => next_event(scan, input, table),
         Phase::Done => ended(scan),

@@ -14,6 +14,7 @@ use Rattle.peer_state.specs.declared.entry.PeerMessagePolicyEntry.{PeerMessageP
 use Rattle.peer_state.specs.declared.ingress.FiberIngressBudget.{FiberIngressBudget}
 use Rattle.peer_state.specs.declared.ingress.Reservation.{Reservation}
 use Rattle.peer_state.specs.declared.ingress.Reservation.the-variants as Reservation
+use Rattle.peer_verdict.specs.declared.verdict.Shortage.the-variants as Shortage
 use Rattle.peer_verdict.specs.declared.verdict.Cause.{Cause}
 use Rattle.peer_verdict.specs.declared.verdict.Cause.the-variants as Cause
 use Rattle.peer_verdict.specs.declared.verdict.InvalidCause.{InvalidCause}
@@ -23,14 +24,13 @@ use Rattle.peer_settings.specs.Config.{unlimited}
 use Rattle.peer_settings.specs.Fits.{ConfigFits}
 use Rattle.peer_state.specs.Entry.{entryUsed}
 use Rattle.peer_state.specs.Ingress.{tryReserve}
-use Rattle.peer_verdict.specs.Verdict.{ceilingDecides, missing, takeBytes, decision, invalidDecision}
+use Rattle.peer_verdict.specs.Verdict.{ceilingDecides, missing, takeBytes, decision, invalidDecision, refuses}
 use Rattle.peer_verdict.specs.VerdictLaws.{bothCharged, violated-ways, weighed-in-ways}
 use Rattle.peer_rows.specs.Rows.{Peers}
 use Rattle.peer_message_policy.specs.declared.policy.PeerMessagePolicy.{PeerMessagePolicy}
-use Rattle.peer_verdict.specs.Verdict.{overflows}
 use Rattle.peer_message_policy.specs.Policy.{Change, Update, banned, update, turnOf, carriedOut, notedDown, entryForUpdate, Turn, admit, recordInvalid, isBanned, isBannedChange}
-use Rattle.peer_message_policy.specs.Calls.{policyAfter, admissionTurn, invalidTurn, standingChanged}
-use Rattle.peer_laws.specs.CallLaws.{of-admission, of-invalid, of-standing}
+use Rattle.peer_message_policy.specs.Calls.{policyAfter, standingChanged}
+use Rattle.peer_laws.specs.CallLaws.{of-standing}
 use Rattle.trace_lines.specs.declared.settings.Settings.{Settings}
 use Rattle.trace_lines.specs.declared.settings.Settings.the-variants as Settings
 use Rattle.trace_lines.specs.declared.event.Event.{Event}
@@ -52,9 +52,9 @@ use Rattle.trace_lines.specs.Lines.{
   settingsOf,
 }
 use Rattle.trace_lines.specs.LinesLaws.{scan-bound, field-bound}
-use Rattle.trace.specs.Step.{kindOutcome, eventOutcome, policyNext}
+use Rattle.trace.specs.Step.{kindOutcome, eventOutcome}
 use Rattle.trace_laws.specs.Fits.{LoadFits}
-use Rattle.trace_laws.specs.StepLaws.{spoken-admission, spoken-invalid, spoken-standing}
+use Rattle.trace_laws.specs.StepLaws.{of-standing-answered}
 
 -- ════ Settings ════
 
@@ -88,7 +88,7 @@ module _ (c : PeerMessagePolicyConfig) (config : ConfigFits c) (i : FiberIngress
   RoomFits (Reservation.Reserved after) = LoadFits after
   RoomFits Reservation.NoSlot = Unit {0}
   RoomFits (Reservation.BytesShort k) = Unit {0}
-  RoomFits Reservation.Overflow = Unit {0}
+  RoomFits (Reservation.Refused n) = Unit {0}
 
   -- where there is room for a message, there is room in the numbers
   room-fits : (size : ℕ) → RoomFits (tryReserve c i size)
@@ -121,25 +121,25 @@ module _ (c : PeerMessagePolicyConfig) (config : ConfigFits c) (i : FiberIngress
   ceilingDecides-fits e charged (Reservation.Reserved after) h = h
   ceilingDecides-fits e charged Reservation.NoSlot h = load
   ceilingDecides-fits e charged (Reservation.BytesShort k) h = load
-  ceilingDecides-fits e charged Reservation.Overflow h = load
+  ceilingDecides-fits e charged (Reservation.Refused n) h = load
 
-  decision-fits : (e : PeerMessagePolicyEntry) (size now : ℕ) → DecisionFits (decision c i e size now)
+  decision-fits : (e : PeerMessagePolicyEntry) (size now : ℕ) → DecisionFits (decision c i e size now (tryReserve c i size))
   unfolding decision
   decision-fits e size now =
       let used : PeerMessagePolicyEntry = entryUsed e now (c .«ban_duration_ms») in
       weighed-in-ways DecisionFits c i used size now (tryReserve c i size)
-      (λ short. violated-ways DecisionFits c i used now Cause.MessagesShort (λ h. load) (λ h. load))
-      (λ passed short. violated-ways DecisionFits c i used now (Cause.BytesShort (missing (takeBytes c (used .bytes) size now .answer))) (λ h. load) (λ h. load))
+      (λ short. violated-ways DecisionFits c i used now (Cause.Short Shortage.Messages) (λ h. load) (λ h. load))
+      (λ passed short. violated-ways DecisionFits c i used now (Cause.Short (Shortage.Bytes (missing (takeBytes c (used .bytes) size now .answer)))) (λ h. load) (λ h. load))
       (λ passed passes. ceilingDecides-fits used (bothCharged c used size now) (tryReserve c i size) (room-fits size))
 
   pub admit-fits : (rs : Peers) (k : List ℕ) (size now : ℕ) → LoadFits (admit c i rs k size now .ingress)
   unfolding admit carriedOut
   admit-fits rs k size now = by (entryForUpdate c now rs k (look k rs))
     where
-      by : (u : Update) → LoadFits (turnOf i Cause.LiveBan (λ e xs. carriedOut i k xs (decision c i e size now)) u .ingress)
+      by : (u : Update) → LoadFits (turnOf i Cause.LiveBan (λ e xs. carriedOut i k xs (decision c i e size now (tryReserve c i size))) u .ingress)
       by banned = load
       by (update e xs) =
-          chosen (λ (t : Turn Cause). LoadFits (t .ingress)) (overflows (decision c i e size now .cause)) (λ h. load) (λ h. decision-fits e size now)
+          chosen (λ (t : Turn Cause). LoadFits (t .ingress)) (refuses (decision c i e size now (tryReserve c i size) .cause)) (λ h. load) (λ h. decision-fits e size now)
 
   -- an invalid message leaves the load as it is
   pub record-invalid-fits : (rs : Peers) (k : List ℕ) (now : ℕ) → LoadFits (recordInvalid c i rs k now .ingress)
@@ -156,27 +156,19 @@ module _ (p : PeerMessagePolicy) (config : ConfigFits (p .config)) (load : LoadF
   abbrev InFlightFits : PeerMessagePolicy → Type 0
   InFlightFits q = LoadFits (q .ingress)
 
-  kind-fits : (k : List ℕ) (size now : ℕ) (which : EventKind) → InFlightFits (policyNext p (kindOutcome p rs k size now which .answer))
-  kind-fits k size now kind.Admit =
-      let turn : Turn Cause = admit (p .config) (p .ingress) rs k size now in
-      spoken-admission p InFlightFits (admissionTurn p turn .answer)
-      (of-admission p InFlightFits (policyAfter p (turn .ingress) (turn .change)) (turn .cause)
-      (admit-fits (p .config) config (p .ingress) load rs k size now) (λ o. load))
-  kind-fits k size now kind.Invalid =
-      let turn : Turn InvalidCause = recordInvalid (p .config) (p .ingress) rs k now in
-      spoken-invalid p InFlightFits (invalidTurn p turn .answer)
-      (of-invalid p InFlightFits (policyAfter p (turn .ingress) (turn .change)) (turn .cause)
-      (record-invalid-fits (p .config) config (p .ingress) load rs k now))
-  kind-fits k size now kind.BanQuery =
+  kind-fits : (k : List ℕ) (size now number : ℕ) (which : EventKind) → InFlightFits (kindOutcome p rs k size now number which .answer .policy)
+  kind-fits k size now number kind.Admit = admit-fits (p .config) config (p .ingress) load rs k size now
+  kind-fits k size now number kind.Invalid = record-invalid-fits (p .config) config (p .ingress) load rs k now
+  kind-fits k size now number kind.BanQuery =
       let change : Change = isBannedChange rs k now (look k rs) in
       let live : Bool = isBanned (look k rs) now in
-      spoken-standing p InFlightFits (standingChanged p live change .answer)
+      of-standing-answered p InFlightFits (standingChanged p live change .answer)
       (of-standing p InFlightFits (policyAfter p (p .ingress) change) live load)
-  kind-fits k size now kind.Disconnected = load
-  kind-fits k size now kind.Release = record { messages = omega (arith, load .messages); bytes = omega (arith, load .bytes) }
-  kind-fits k size now kind.Bad = load
+  kind-fits k size now number kind.Disconnected = load
+  kind-fits k size now number kind.Release = record { messages = omega (arith, load .messages); bytes = omega (arith, load .bytes) }
+  kind-fits k size now number kind.Bad = load
 
   -- the load after an event fits its numbers
-  pub event-fits : (e : Event) → LoadFits (policyNext p (eventOutcome p rs e .answer) .ingress)
+  pub event-fits : (e : Event) (number : ℕ) → LoadFits (eventOutcome p rs e number .answer .policy .ingress)
   unfolding eventOutcome
-  event-fits e = kind-fits (e .key .bytes) (e .bytes) (e .«now_ms») (e .kind)
+  event-fits e number = kind-fits (e .key .bytes) (e .bytes) (e .«now_ms») number (e .kind)

@@ -4,6 +4,7 @@ pub mod LinesLaws
 pub mod KeyLaws
 pub mod StepLaws
 pub mod FitsLaws
+pub mod StoppedLaws
 pub mod Running
 pub mod EventsLaws
 pub mod SettingsLaws

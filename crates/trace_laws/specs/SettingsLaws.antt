@@ -1,4 +1,4 @@
--- Laws of `next` at the settings line: where the settings are bad or refused it hands out the line that says so, the only one to come;
+-- Laws of `next` at the settings line: where the settings are bad or refused it tells the answer that says so, the only one to come;
 -- else it goes on with the first event's line, over a fresh policy. Assumes nothing.
 use mathlib.Core.Path.{_≡_, refl, sym, ap, subst, _∙_}
 use mathlib.Core.Bool.{Bool, true, false, cond}
@@ -22,11 +22,13 @@ use Rattle.peer_message_policy.specs.Calls.{Memory, Meets, refuse, fresh, newOu
 use Rattle.peer_laws.specs.CallLaws.{Fresh, new-fresh}
 use Rattle.trace_lines.specs.declared.settings.Settings.{Settings}
 use Rattle.trace_lines.specs.declared.settings.Settings.the-variants as Settings
-use Rattle.trace_lines.specs.Lines.{settingsOf, lineOf, badLineText, refusalText}
+use Rattle.trace_lines.specs.Lines.{settingsOf, badEvent}
 use Rattle.trace.specs.declared.settle.Settled.{Settled}
 use Rattle.trace.specs.declared.settle.Settled.the-variants as Settled
 use Rattle.trace.specs.declared.scan.Scan.{Scan}
 use Rattle.trace.specs.declared.scan.Handed.{Handed}
+use Rattle.trace.specs.declared.step.Answer.{Answer}
+use Rattle.trace.specs.declared.step.Answer.the-variants as Answer
 use Rattle.trace.specs.Step.{mapped}
 use Rattle.trace.specs.Scan.{
   firstLine,
@@ -42,7 +44,7 @@ use Rattle.trace.specs.Scan.{
   SettingsBy,
   SettingsMeets,
 }
-use Rattle.trace_laws.specs.Trace.{InputLine, linesOf, eventsOf, blockPlaces, blockSize, settledOf, linesTrace}
+use Rattle.trace_laws.specs.Trace.{InputLine, linesOf, eventsOf, blockPlaces, blockSize, lineAnswerOf, unsettled, settledOf, linesAnswers}
 use Rattle.trace_laws.specs.Running.{Lent, Starting, Reading, Handing}
 use Rattle.trace_laws.specs.Fits.{LoadFits, ScanFits}
 use Rattle.trace_laws.specs.FitsLaws.{SettingsFit, settings-fit}
@@ -52,12 +54,12 @@ use Rattle.trace_laws.specs.EventsLaws.{hands-last, following-more, hand
 -- ════ The settings line is missing ════
 
 -- an input with no newline is bad at line 1, be it empty or not
-trace-unended : (input : List ℕ) (at : ℕ) → firstLine (drop at input) ≡ none
-    → linesTrace (linesOf (drop at input)) ≡ badLineText 1 ∷ []
-trace-unended input at first =
+answers-unended : (input : List ℕ) (at : ℕ) → firstLine (drop at input) ≡ none
+    → linesAnswers (linesOf (drop at input)) ≡ unsettled (Answer.BadLine 1)
+answers-unended input at first =
     by-test (leb (length input) at)
-    (λ ends. ap linesTrace (lines-at-end input at (leb-true (length input) at ends)))
-    (λ goes. ap linesTrace (lines-at-unended input at (leb-false (length input) at goes) first))
+    (λ ends. ap linesAnswers (lines-at-end input at (leb-true (length input) at ends)))
+    (λ goes. ap linesAnswers (lines-at-unended input at (leb-false (length input) at goes) first))
 
 -- ════ A fresh policy ════
 
@@ -84,10 +86,13 @@ new-in-block c s block = rw (block-fits c s block)
 -- ════ A call at the settings line ════
 
 module _ (scan : Scan) (input s : List ℕ) (fits : ScanFits scan) (lent : Lent s) (here : Starting scan input) (r : Handed) (t : List ℕ) where
-  hands-bad : r ≡ last scan (lineOf (badLineText (scan .number))) → t ≡ s → Handing input (badLineText 1 ∷ []) r t
-  hands-bad e stays =
-      subst (λ n. Handing input (badLineText n ∷ []) r t) (here .first-line)
-      (rw e (hands-last input t scan (badLineText (scan .number)) fits (rw stays lent)))
+  -- an answer that is no event's, while there is no policy
+  hands-unsettled : (a : Answer) → r ≡ last scan a → t ≡ s → Handing input (unsettled a) r t
+  hands-unsettled a e stays =
+      subst (λ p. Handing input (lineAnswerOf badEvent a p ∷ []) r t) (here .no-policy) (rw e (hands-last input t scan a fits (rw stays lent)))
+
+  hands-bad : r ≡ last scan (Answer.BadLine (scan .number)) → t ≡ s → Handing input (unsettled (Answer.BadLine 1)) r t
+  hands-bad e stays = hands-unsettled (Answer.BadLine 1) (e ∙ ap (λ n. last scan (Answer.BadLine n)) (here .first-line)) stays
 
   module _ (line : List ℕ) (first : firstLine (drop (scan .at) input) ≡ some line) (middle : List ℕ) where
     -- the lines behind the settings line
@@ -122,12 +127,12 @@ module _ (scan : Scan) (input s : List ℕ) (fits : ScanFits scan) (lent : Lent 
         (subst (λ qs. Handing input (eventsOf (following (scan .number)) (fresh c) qs behind) r t) (fresh-rows c middle)
         (hands-event (settledScan scan line (fresh c)) input middle t settled left reading r m))
 
-    -- a refusal: the line that says so
+    -- a refusal: the answer that says so
     hands-refused : (n : ℕ) (a : Settled) → a ≡ Settled.Refused n → middle ≡ s → SettledMeets scan line a input middle r t
-        → Handing input (refusalText n ∷ []) r t
+        → Handing input (unsettled (Answer.Refused n)) r t
     hands-refused n a e stays told =
         let (says, leaves) = subst (λ x. SettledMeets scan line x input middle r t) e told in
-        rw says (hands-last input t scan (refusalText n) fits (rw (leaves, stays) lent))
+        hands-unsettled (Answer.Refused n) says (leaves ∙ stays)
 
     -- a policy that is made, or refused, by the two tests of its settings
     hands-made : (c : PeerMessagePolicyConfig) → ConfigFits c → (a : Settled) (many enough : Bool)
@@ -135,7 +140,7 @@ module _ (scan : Scan) (input s : List ℕ) (fits : ScanFits scan) (lent : Lent 
         ≡ cond many (refuse (Made.Refused limitTooLarge))
         (cond enough (record { answer = Made.Policy (fresh c); change = become [] }) (refuse (Made.Refused tooShort)))
         → Meets a s middle (limit c) (mapped madeSettled (newOutcome c s)) → SettledMeets scan line a input middle r t
-        → Handing input (cond many (refusalText limitTooLarge ∷ []) (cond enough (eventsOf 2 (fresh c) [] behind) (refusalText tooShort ∷ []))) r t
+        → Handing input (cond many (unsettled (Answer.Refused limitTooLarge)) (cond enough (eventsOf 2 (fresh c) [] behind) (unsettled (Answer.Refused tooShort)))) r t
     unfolding NewMeets
     hands-made c config a true enough e m told =
         hands-refused limitTooLarge a (m .answers ∙ ap (λ o. madeSettled (o .answer)) e)
@@ -158,12 +163,12 @@ module _ (scan : Scan) (input s : List ℕ) (fits : ScanFits scan) (lent : Lent 
         hands-made c config a (ltb 1024 (c .«max_tracked_peers»)) (leb (limit c) blockPlaces) (new-in-block c s (lent .block)) m told
 
   hands-first : (line : Option (List ℕ)) → firstLine (drop (scan .at) input) ≡ line → SettingsBy scan line input s r t
-      → Handing input (linesTrace (linesOf (drop (scan .at) input))) r t
+      → Handing input (linesAnswers (linesOf (drop (scan .at) input))) r t
   unfolding SettleMeets
-  hands-first none first told = rw (trace-unended input (scan .at) first) (hands-bad (told .0) (told .1))
+  hands-first none first told = rw (answers-unended input (scan .at) first) (hands-bad (told .0) (told .1))
   hands-first (some line) first told =
       rw (lines-at-whole input (scan .at) line first) (hands-settled line first (told .1) (settingsOf line) (settings-fit line) (told .0) (told .2) (told .3))
 
-  pub hands-settings : SettingsMeets scan input s r t → Handing input (linesTrace (linesOf (drop (scan .at) input))) r t
+  pub hands-settings : SettingsMeets scan input s r t → Handing input (linesAnswers (linesOf (drop (scan .at) input))) r t
   unfolding SettingsMeets
   hands-settings m = hands-first (firstLine (drop (scan .at) input)) refl m

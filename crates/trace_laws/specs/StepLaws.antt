@@ -10,10 +10,6 @@ use Rattle.table.specs.Table.{look}
 use Rattle.peer_state.specs.Ingress.{ingressReleased}
 use Rattle.peer_state.specs.IngressLaws.{released-sound}
 use Rattle.peer_message_policy.specs.declared.policy.PeerMessagePolicy.{PeerMessagePolicy}
-use Rattle.peer_message_policy.specs.declared.answer.PeerMessageAdmission.{PeerMessageAdmission}
-use Rattle.peer_message_policy.specs.declared.answer.PeerMessageAdmission.the-variants as Admission
-use Rattle.peer_message_policy.specs.declared.answer.Invalid.{Invalid}
-use Rattle.peer_message_policy.specs.declared.answer.Invalid.the-variants as Invalid
 use Rattle.peer_message_policy.specs.declared.answer.Standing.{Standing}
 use Rattle.peer_message_policy.specs.declared.answer.Standing.the-variants as Standing
 use Rattle.peer_message_policy.specs.Policy.{rowsOf, sound, same, admit, recordInvalid, isBanned, isBannedChange, disconnectedChange}
@@ -32,8 +28,6 @@ use Rattle.peer_message_policy.specs.Calls.{
 }
 use Rattle.peer_laws.specs.SoundLaws.{Key, PolicyHolds, policy-holds, holds-record, Leaves, change-leaves}
 use Rattle.peer_laws.specs.CallLaws.{
-  OfAdmission,
-  OfInvalid,
   OfStanding,
   admit-outcome,
   record-invalid-outcome,
@@ -50,15 +44,12 @@ use Rattle.trace_lines.specs.declared.event.EventKind.the-variants as kind
 use Rattle.trace.specs.declared.step.Answered.{Answered}
 use Rattle.trace.specs.declared.step.Stepped.{Stepped}
 use Rattle.trace.specs.Step.{
-  admissionSpoken,
-  invalidSpoken,
-  standingSpoken,
+  standingAnswered,
   mapped,
   kindOutcome,
   eventOutcome,
   soundFor,
   answeredOutcome,
-  policyNext,
   stepOf,
   stepOutcome,
   StepMeets,
@@ -68,22 +59,11 @@ use Rattle.trace_laws.specs.KeyLaws.{EventKey}
 -- ════ The policy in an answer ════
 
 -- what holds of an answer's policy, or of the policy before it after a refusal, holds of the one to go on with
-module _ (p : PeerMessagePolicy) (P : PeerMessagePolicy → Type 0) where
-  pub spoken-admission : (r : PeerMessageAdmission) → OfAdmission p P r → P (policyNext p (admissionSpoken r))
-  spoken-admission (Admission.Allow q) h = h
-  spoken-admission (Admission.Disconnect q) h = h
-  spoken-admission (Admission.Ban q) h = h
-  spoken-admission (Admission.Refused n) h = h
-
-  pub spoken-invalid : (r : Invalid) → OfInvalid p P r → P (policyNext p (invalidSpoken r))
-  spoken-invalid (Invalid.Banned q) h = h
-  spoken-invalid (Invalid.Noted q) h = h
-  spoken-invalid (Invalid.Refused n) h = h
-
-  pub spoken-standing : (r : Standing) → OfStanding p P r → P (policyNext p (standingSpoken r))
-  spoken-standing (Standing.Banned q) h = h
-  spoken-standing (Standing.Free q) h = h
-  spoken-standing (Standing.Refused n) h = h
+pub of-standing-answered : (p : PeerMessagePolicy) (P : PeerMessagePolicy → Type 0) (r : Standing) → OfStanding p P r
+    → P (standingAnswered p r .policy)
+of-standing-answered p P (Standing.Banned q) h = h
+of-standing-answered p P (Standing.Free q) h = h
+of-standing-answered p P (Standing.Refused n) h = h
 
 -- ════ What each kind of event leaves ════
 
@@ -92,9 +72,9 @@ meets-outcome : {A : Type 0} {s t : List ℕ} {n : ℕ} {o e : Outcome A} → o 
 meets-outcome {A} {s} {t} {n} {o} {e} same-outcome m = rw same-outcome (record { answers = refl; leaves = m })
 
 -- what an outcome comes to on a sound policy: the answer's line, and what the change leaves
-pub record Stepping (p : PeerMessagePolicy) (s : List ℕ) (o : Outcome Answered) (number : ℕ) (r : Stepped) (t : List ℕ) : Type 0 where
-  pub answers : r ≡ stepOf p number (o .answer)
-  pub leaves : Leaves p s (o .change) (policyNext p (o .answer)) t
+pub record Stepping (p : PeerMessagePolicy) (s : List ℕ) (o : Outcome Answered) (r : Stepped) (t : List ℕ) : Type 0 where
+  pub answers : r ≡ stepOf (o .answer)
+  pub leaves : Leaves p s (o .change) (o .answer .policy) t
 
 module _ (p : PeerMessagePolicy) (s : List ℕ) (h : sound p s ≡ true) (b : Bytes s) (t : List ℕ) where
   holds : PolicyHolds p s
@@ -102,38 +82,36 @@ module _ (p : PeerMessagePolicy) (s : List ℕ) (h : sound p s ≡ true) (b : By
 
   -- what an outcome leaves, where the memory is as its change says
   abbrev LeavesBy : Outcome Answered → Type 0
-  LeavesBy o = Memory s t (p .rows) (o .change) → Leaves p s (o .change) (policyNext p (o .answer)) t
+  LeavesBy o = Memory s t (p .rows) (o .change) → Leaves p s (o .change) (o .answer .policy) t
 
-  module _ (k : Pubkey) (key : Key (k .bytes)) where
-    admit-left : (size now : ℕ) → LeavesBy (kindOutcome p (rowsOf p s) (k .bytes) size now kind.Admit)
+  module _ (k : Pubkey) (key : Key (k .bytes)) (number : ℕ) where
+    admit-left : (size now : ℕ) → LeavesBy (kindOutcome p (rowsOf p s) (k .bytes) size now number kind.Admit)
     unfolding AdmitMeets
     admit-left size now m =
         let o = admissionTurn p (admit (p .config) (p .ingress) (rowsOf p s) (k .bytes) size now) in
-        spoken-admission p (λ q. Leaves p s (o .change) q t) (o .answer)
-        (admit-leaves p s h b k key size now (o .answer) t (meets-outcome (admit-outcome p s h k size now) m))
+        admit-leaves p s h b k key size now (o .answer) t (meets-outcome (admit-outcome p s h k size now) m)
 
-    invalid-left : (size now : ℕ) → LeavesBy (kindOutcome p (rowsOf p s) (k .bytes) size now kind.Invalid)
+    invalid-left : (size now : ℕ) → LeavesBy (kindOutcome p (rowsOf p s) (k .bytes) size now number kind.Invalid)
     unfolding RecordInvalidMeets
     invalid-left size now m =
         let o = invalidTurn p (recordInvalid (p .config) (p .ingress) (rowsOf p s) (k .bytes) now) in
-        spoken-invalid p (λ q. Leaves p s (o .change) q t) (o .answer)
-        (record-invalid-leaves p s h b k key now (o .answer) t (meets-outcome (record-invalid-outcome p s h k now) m))
+        record-invalid-leaves p s h b k key now (o .answer) t (meets-outcome (record-invalid-outcome p s h k now) m)
 
-    ban-query-left : (size now : ℕ) → LeavesBy (kindOutcome p (rowsOf p s) (k .bytes) size now kind.BanQuery)
+    ban-query-left : (size now : ℕ) → LeavesBy (kindOutcome p (rowsOf p s) (k .bytes) size now number kind.BanQuery)
     unfolding IsBannedMeets
     ban-query-left size now m =
         let found = look (k .bytes) (rowsOf p s) in
         let o = standingChanged p (isBanned found now) (isBannedChange (rowsOf p s) (k .bytes) now found) in
-        spoken-standing p (λ q. Leaves p s (o .change) q t) (o .answer)
+        of-standing-answered p (λ q. Leaves p s (o .change) q t) (o .answer)
         (is-banned-leaves p s h b k key now (o .answer) t (meets-outcome (is-banned-outcome p s h k now) m))
 
-    disconnected-left : (size now : ℕ) → LeavesBy (kindOutcome p (rowsOf p s) (k .bytes) size now kind.Disconnected)
+    disconnected-left : (size now : ℕ) → LeavesBy (kindOutcome p (rowsOf p s) (k .bytes) size now number kind.Disconnected)
     unfolding OnDisconnectedMeets
     disconnected-left size now m =
         let o = changedBy p (disconnectedChange (p .config) (rowsOf p s) (k .bytes) now (look (k .bytes) (rowsOf p s))) in
         on-disconnected-leaves p s h b k key now (o .answer) t (meets-outcome (on-disconnected-outcome p s h k now) m)
 
-    kind-left : (size now : ℕ) (which : EventKind) → LeavesBy (kindOutcome p (rowsOf p s) (k .bytes) size now which)
+    kind-left : (size now : ℕ) (which : EventKind) → LeavesBy (kindOutcome p (rowsOf p s) (k .bytes) size now number which)
     kind-left size now kind.Admit = admit-left size now
     kind-left size now kind.Invalid = invalid-left size now
     kind-left size now kind.BanQuery = ban-query-left size now
@@ -155,25 +133,25 @@ module _ (p : PeerMessagePolicy) (s : List ℕ) (h : sound p s ≡ true) (b : By
   sound-for kind.Release = holds-record p (holds .own)
   sound-for kind.Bad = refl
 
-  answered-sound : (e : Event) → answeredOutcome p s e ≡ eventOutcome p (rowsOf p s) e
+  answered-sound : (e : Event) (number : ℕ) → answeredOutcome p s e number ≡ eventOutcome p (rowsOf p s) e number
   unfolding answeredOutcome
-  answered-sound e = rw (sound-for (e .kind))
+  answered-sound e number = rw (sound-for (e .kind))
 
-  event-left : (e : Event) → EventKey e → LeavesBy (eventOutcome p (rowsOf p s) e)
+  event-left : (e : Event) (number : ℕ) → EventKey e → LeavesBy (eventOutcome p (rowsOf p s) e number)
   unfolding eventOutcome
-  event-left e key = kind-left (e .key) key (e .bytes) (e .«now_ms») (e .kind)
+  event-left e number key = kind-left (e .key) key number (e .bytes) (e .«now_ms») (e .kind)
 
-  step-sound : (e : Event) (number : ℕ) → stepOutcome p s e number ≡ mapped (stepOf p number) (eventOutcome p (rowsOf p s) e)
+  step-sound : (e : Event) (number : ℕ) → stepOutcome p s e number ≡ mapped stepOf (eventOutcome p (rowsOf p s) e number)
   unfolding stepOutcome
-  step-sound e number = ap (mapped (stepOf p number)) (answered-sound e)
+  step-sound e number = ap (mapped stepOf) (answered-sound e number)
 
   pub stepping : (e : Event) (number : ℕ) (r : Stepped) → EventKey e → StepMeets p s e number r t
-      → Stepping p s (eventOutcome p (rowsOf p s) e) number r t
+      → Stepping p s (eventOutcome p (rowsOf p s) e number) r t
   unfolding StepMeets
   stepping e number r key m =
-      let o : Outcome Stepped = mapped (stepOf p number) (eventOutcome p (rowsOf p s) e) in
+      let o : Outcome Stepped = mapped stepOf (eventOutcome p (rowsOf p s) e number) in
       let same-outcome : stepOutcome p s e number ≡ o = step-sound e number in
       record {
         answers = m .answers ∙ ap (λ x. x .answer) same-outcome;
-        leaves = event-left e key (subst (λ x. Memory s t (p .rows) (x .change)) same-outcome (m .leaves));
+        leaves = event-left e number key (subst (λ x. Memory s t (p .rows) (x .change)) same-outcome (m .leaves));
       }

@@ -1,1 +1,1 @@
-// What the trace program writes, as a definition, and the laws of the scan that hands it out: no code stands here.
+// What the trace program answers and writes, as definitions, and the laws of the scan that hands it out: no code stands here.

@@ -13,7 +13,7 @@ use Rattle.text_pieces.specs.TextLaws.{byte-over, line-over}
 use Rattle.trace_lines.specs.Lines.{lineSize, lineOf, wordText, numberText, answerText}
 use Rattle.trace_lines.specs.declared.line.TraceLine.{TraceLine}
 use Rattle.trace_lines.specs.declared.line.Word.{Word}
-use Rattle.trace_lines.specs.declared.line.Word.the-variants.{Allow, Disconnect, Ban, Banned, Noted, Free, Closed, Released}
+use Rattle.trace_lines.specs.declared.line.Word.the-variants.{Allow, DisconnectMessages, DisconnectBytes, DisconnectCeiling, Ban, Banned, Noted, Free, Closed, Released}
 
 -- a byte, and what follows it
 pub put-head : (s : List ℕ) (i b : ℕ) (more : List ℕ) → i < length s → put s i (b ∷ more) ≡ put (set s i b) (i + 1) more
@@ -37,10 +37,12 @@ line-ends {text} w h = line-is (byte-over lineSize w newline h) (omega (arith, l
 
 -- ════ An answer ════
 
--- no word is longer than `Disconnect`
-pub word-length : (w : Word) → length (wordText w) ≤ length (wordText Disconnect)
+-- no word is longer than `Disconnect-messages`
+pub word-length : (w : Word) → length (wordText w) ≤ length (wordText DisconnectMessages)
 word-length Allow = omega arith
-word-length Disconnect = omega arith
+word-length DisconnectMessages = omega arith
+word-length DisconnectBytes = omega arith
+word-length DisconnectCeiling = omega arith
 word-length Ban = omega arith
 word-length Banned = omega arith
 word-length Noted = omega arith
@@ -62,13 +64,13 @@ two w m b = one w m ++ numberText b
 abbrev pub three : Word → ℕ → ℕ → ℕ → List ℕ
 three w m b r = two w m b ++ numberText r
 
-pub length-one : (w : Word) (m : ℕ) → m < 10 ^ 10 → length (one w m) ≤ 21
+pub length-one : (w : Word) (m : ℕ) → m < 10 ^ 10 → length (one w m) ≤ 30
 length-one w m h = omega (arith, length-append (wordText w) (numberText m), word-length w, length-digits 9 m h)
 
-pub length-two : (w : Word) (m b : ℕ) → m < 10 ^ 10 → b < 10 ^ 20 → length (two w m b) ≤ 42
+pub length-two : (w : Word) (m b : ℕ) → m < 10 ^ 10 → b < 10 ^ 20 → length (two w m b) ≤ 51
 length-two w m b h k = omega (arith, length-append (one w m) (numberText b), length-one w m h, length-digits 19 b k)
 
-pub length-three : (w : Word) (m b r : ℕ) → m < 10 ^ 10 → b < 10 ^ 20 → r < 10 ^ 20 → length (three w m b r) ≤ 63
+pub length-three : (w : Word) (m b r : ℕ) → m < 10 ^ 10 → b < 10 ^ 20 → r < 10 ^ 20 → length (three w m b r) ≤ 72
 length-three w m b r h k l = omega (arith, length-append (two w m b) (numberText r), length-two w m b h k, length-digits 19 r l)
 
 pub answer-whole : (w : Word) (m b r : ℕ) → answerText w m b r ≡ three w m b r ++ (newline ∷ [])

@@ -22,7 +22,7 @@ use Rattle.trace_lines.specs.declared.settings.Settings.{Settings}
 use Rattle.trace_lines.specs.declared.settings.Settings.the-variants as settings
 use Rattle.trace_lines.specs.declared.line.TraceLine.{TraceLine}
 use Rattle.trace_lines.specs.declared.line.Word.{Word}
-use Rattle.trace_lines.specs.declared.line.Word.the-variants.{Allow, Disconnect, Ban, Banned, Noted, Free, Closed, Released}
+use Rattle.trace_lines.specs.declared.line.Word.the-variants.{Allow, DisconnectMessages, DisconnectBytes, DisconnectCeiling, Ban, Banned, Noted, Free, Closed, Released}
 
 -- ════ Fields of a line ════
 
@@ -214,7 +214,7 @@ eventOf line = eventBy (getD line 0 0) line
 
 -- how many bytes a line is written in
 abbrev pub lineSize : ℕ
-lineSize = 64
+lineSize = 73
 
 -- a text as a line, the unused bytes zero
 abbrev pub lineOf : List ℕ → TraceLine
@@ -223,7 +223,9 @@ lineOf text = record { bytes = text ++ replicate (lineSize - length text) 0; len
 -- the word of an answer
 abbrev pub wordText : Word → List ℕ
 wordText Allow = ascii "Allow"
-wordText Disconnect = ascii "Disconnect"
+wordText DisconnectMessages = ascii "Disconnect-messages"
+wordText DisconnectBytes = ascii "Disconnect-bytes"
+wordText DisconnectCeiling = ascii "Disconnect-ceiling"
 wordText Ban = ascii "Ban"
 wordText Banned = ascii "Banned"
 wordText Noted = ascii "Noted"

@@ -134,7 +134,8 @@ fn key_of(line: &[u8]) -> KeyField
     key_spelled(line, 2)
 }
 
-fn bad_event() -> Event
+// A line that is no event's.
+pub fn bad_event() -> Event
     ensures { λ r. ⌜ r ≡ badEvent ⌝ }
 {
     Event {

@@ -9,7 +9,7 @@ use text_pieces::piece::put_refusal;
 use text_pieces::piece::put_text;
 
 // How many bytes a line is written in.
-pub const LINE_SIZE: usize = 64;
+pub const LINE_SIZE: usize = 73;
 
 // A line with its newline; the bytes behind its length are zero.
 pub struct TraceLine {
@@ -17,10 +17,12 @@ pub struct TraceLine {
     pub length: usize,
 }
 
-// What the policy answered to an event.
+// What the policy answered to an event; a disconnect names the limit that ran short.
 pub enum Word {
     Allow,
-    Disconnect,
+    DisconnectMessages,
+    DisconnectBytes,
+    DisconnectCeiling,
     Ban,
     Banned,
     Noted,
@@ -29,14 +31,16 @@ pub enum Word {
     Released,
 }
 
-// Writes the word at the front, and answers the place behind it. None is longer than `Disconnect`.
+// Writes the word at the front, and answers the place behind it. None is longer than `Disconnect-messages`.
 fn put_word(out: &mut [u8], word: Word) -> usize
-    requires { ⌜ length (wordText Word.Disconnect) ≤ length (now out) ⌝ }
+    requires { ⌜ length (wordText Word.DisconnectMessages) ≤ length (now out) ⌝ }
     ensures { λ r. ⌜ Wrote (now (out .entry)) 0 (wordText word) r (now (out .exit)) ⌝ }
 {
     match word {
         Word::Allow => put_text(out, 0, b"Allow"),
-        Word::Disconnect => put_text(out, 0, b"Disconnect"),
+        Word::DisconnectMessages => put_text(out, 0, b"Disconnect-messages"),
+        Word::DisconnectBytes => put_text(out, 0, b"Disconnect-bytes"),
+        Word::DisconnectCeiling => put_text(out, 0, b"Disconnect-ceiling"),
         Word::Ban => put_text(out, 0, b"Ban"),
         Word::Banned => put_text(out, 0, b"Banned"),
         Word::Noted => put_text(out, 0, b"Noted"),

@@ -10,7 +10,7 @@ pub mod gossip;
 
 use crate::trace::{Kind, PeerStart, Trace};
 use vocabulary::peer::*;
-use vocabulary::{answer, Answer, BucketOperation, Buckets, Words};
+use vocabulary::{answer, cause, Answer, BucketOperation, Buckets, Words};
 
 /// 2 digits where all bytes are equal, else 66.
 pub fn key(key: &Key) -> String {
@@ -66,7 +66,7 @@ pub fn output_line(words: &Words, answer: &Answer, state: &PeerState) -> String 
         PeerOperation::InFlight => "InFlight".to_string(),
         PeerOperation::HeldTime => format!("Held {}", answer.values[0]),
         PeerOperation::Admit if answer.is_refusal() => return answer.text(),
-        PeerOperation::Admit => answer.text(),
+        PeerOperation::Admit => cause::WORDS[answer.cause()[0] as usize].to_string(),
     };
     let (messages, bytes) = (state.in_flight_messages, state.in_flight_bytes);
     format!("{word} {messages} {bytes} {}", state.rows.len())

@@ -15,8 +15,10 @@ pub enum Event {
     BannedEvicted,
     WindowExpired,
     BanBegun,
-    CeilingDisconnect,
-    BucketDisconnect,
+    MessagesShort,
+    BytesShort,
+    SlotShort,
+    CeilingBytesShort,
     LiveBanAnswered,
     TimeBeforeLastUsed,
     BanAtItsExactEnd,
@@ -37,7 +39,7 @@ pub enum Event {
     SnapshotOfLimit0,
 }
 
-pub const EVENTS: [&str; 28] = [
+pub const EVENTS: [&str; 30] = [
     "row made",
     "own spent ban dropped",
     "spent bans dropped for room",
@@ -46,8 +48,10 @@ pub const EVENTS: [&str; 28] = [
     "banned row evicted",
     "window expired",
     "ban begun",
-    "Disconnect by the ceiling",
-    "Disconnect by a bucket",
+    "Disconnect: a message short",
+    "Disconnect: bytes short",
+    "Disconnect: a slot of the ceiling short",
+    "Disconnect: bytes of the ceiling short",
     "live ban answered",
     "time before the row's last use",
     "ban at its exact end",

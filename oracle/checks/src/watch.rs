@@ -2,7 +2,7 @@
 
 use crate::tally::{Event, Tally};
 use vocabulary::peer::*;
-use vocabulary::{answer, Answer};
+use vocabulary::{answer, cause, Answer};
 
 /// Looks at what a call did to the rows.
 pub fn watch(before: &PeerState, after: &PeerState, call: &PeerCall, answer: &Answer, tally: &mut Tally) {
@@ -42,17 +42,13 @@ pub fn watch(before: &PeerState, after: &PeerState, call: &PeerCall, answer: &An
     if marked(new) && (!marked(old) || old.is_some_and(spent)) {
         tally.event(Event::BanBegun);
     }
-    if let (answer::DISCONNECT, Some(new)) = (answer.number, new) {
-        let unspent = old.filter(|old| !spent(old));
-        let counted = unspent.map_or(0, |old| old.numbers[RATE_COUNT]);
-        let expired =
-            unspent.is_some_and(|old| now.saturating_sub(old.numbers[RATE_START]) >= before.settings.ban_duration);
-        let counted = if expired { 0 } else { counted };
-        if new.numbers[RATE_COUNT] == counted {
-            tally.event(Event::CeilingDisconnect);
-        } else {
-            tally.event(Event::BucketDisconnect);
-        }
+    if answer.number == answer::DISCONNECT {
+        tally.event(match answer.cause()[0] {
+            cause::MESSAGES => Event::MessagesShort,
+            cause::BYTES => Event::BytesShort,
+            cause::SLOT => Event::SlotShort,
+            _ => Event::CeilingBytesShort,
+        });
     }
     if old.is_none() && new.is_some() {
         tally.event(Event::RowMade);

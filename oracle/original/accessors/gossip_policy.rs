@@ -53,6 +53,12 @@ impl ByteTokenBucket {
         self.refill(now_ms);
     }
 
+    /// How many bytes are missing: the Rust does not say, so it is worked out from the bucket that a no leaves.
+    pub(crate) fn oracle_bytes_short(&self, bytes: u64) -> u64 {
+        let short = i128::from(bytes).saturating_sub(self.available_bytes);
+        short.clamp(0, u64::MAX.into()) as u64
+    }
+
     pub(crate) fn oracle_peek_delay_after_refill(&self, bytes: u64, now_ms: u64) -> u64 {
         self.peek_delay_after_refill(bytes, now_ms)
     }

@@ -89,7 +89,44 @@ impl PeerMessagePolicyEntry {
     }
 }
 
+impl FiberIngressBudget {
+    /// What the ceiling has no room for, the slot first.
+    fn oracle_shortage(&self, bytes: u64) -> Option<vocabulary::Cause> {
+        let left = self.max_bytes.saturating_sub(self.in_flight_bytes);
+        if self.is_unlimited() {
+            None
+        } else if self.in_flight_messages >= self.max_messages {
+            Some(vocabulary::Cause::Slot)
+        } else if bytes > left {
+            Some(vocabulary::Cause::CeilingBytes(bytes - left))
+        } else {
+            None
+        }
+    }
+}
+
 impl PeerMessagePolicy {
+    /// What will decide on a message, seen in the state before the call: a live ban, the message bucket, the byte bucket, the ceiling. Whether
+    /// a bucket that runs short begins a ban is seen in the answer.
+    pub(crate) fn oracle_cause(&self, peer: &Pubkey, bytes: u64, now_ms: u64) -> vocabulary::Cause {
+        let known = self.peers.get(peer);
+        if known.is_some_and(|entry| entry.is_banned(now_ms)) {
+            return vocabulary::Cause::LiveBan;
+        }
+        // A ban that is over takes its entry with it.
+        let unbanned = known.filter(|entry| entry.banned_until_ms.is_none());
+        let new = PeerMessagePolicyEntry::new(now_ms, &self.config);
+        let entry = unbanned.unwrap_or(&new);
+        let (mut messages, mut byte) = (entry.messages.clone(), entry.bytes.clone());
+        if !self.config.message_limit_disabled() && !messages.try_consume(now_ms) {
+            return vocabulary::Cause::Messages;
+        }
+        if !byte.try_consume(bytes, now_ms) {
+            return vocabulary::Cause::Bytes(byte.oracle_bytes_short(bytes));
+        }
+        self.ingress.oracle_shortage(bytes).unwrap_or(vocabulary::Cause::Allowed)
+    }
+
     pub(crate) fn oracle_make(state: &vocabulary::PeerState) -> Self {
         let mut policy = Self::new(PeerMessagePolicyConfig::oracle_make(&state.settings));
         policy.ingress.in_flight_messages = state.in_flight_messages;

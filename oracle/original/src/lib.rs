@@ -13,7 +13,7 @@ use fiber::peer_message_policy::{PeerMessageAdmission, PeerMessagePolicy, PeerMe
 use fiber_types::Pubkey;
 use vocabulary::settings::{self, LimitOperation, PeerSettingsOperation, SettingsCall};
 use vocabulary::{
-    answer, Answer, BucketCall, BucketOperation as B, Buckets, GossipCall, GossipState, GossipWords, Original,
+    answer, Answer, BucketCall, BucketOperation as B, Buckets, Cause, GossipCall, GossipState, GossipWords, Original,
     PeerCall, PeerOperation as P, PeerState, Settings, Subject, Words,
 };
 
@@ -63,11 +63,7 @@ impl Original for UnchangedRust {
         let key = Pubkey(call.key);
         let (bytes, now) = (call.bytes, call.now);
         match call.operation {
-            P::Admit => Answer::plain(match self.policy.admit(&key, bytes, now) {
-                PeerMessageAdmission::Allow => answer::ALLOW,
-                PeerMessageAdmission::Disconnect => answer::DISCONNECT,
-                PeerMessageAdmission::Ban => answer::BAN,
-            }),
+            P::Admit => self.admitted(&key, bytes, now),
             P::RecordInvalid => Answer::yes_or_no(self.policy.record_invalid(&key, now)),
             P::IsBanned => Answer::yes_or_no(self.policy.is_banned(&key, now)),
             P::OnDisconnected => {
@@ -128,7 +124,7 @@ impl Original for UnchangedRust {
             }
             B::ByteTryConsume => {
                 let yes = self.byte.try_consume(a, b);
-                self.consumed(yes, self.bytes_short(a))
+                self.consumed(yes, self.byte.oracle_bytes_short(a))
             }
             B::ByteReserve => Answer::value(self.byte.reserve(a, b)),
             B::BytePeekDelayAfterRefill => Answer::value(self.byte.oracle_peek_delay_after_refill(a, b)),
@@ -188,6 +184,20 @@ impl Original for UnchangedRust {
 }
 
 impl UnchangedRust {
+    /// The Rust's answer, and its cause: a bucket that runs short begins a ban where the answer is Ban.
+    fn admitted(&mut self, key: &Pubkey, bytes: u64, now: u64) -> Answer {
+        let cause = self.policy.oracle_cause(key, bytes, now);
+        let number = match self.policy.admit(key, bytes, now) {
+            PeerMessageAdmission::Allow => answer::ALLOW,
+            PeerMessageAdmission::Disconnect => answer::DISCONNECT,
+            PeerMessageAdmission::Ban => answer::BAN,
+        };
+        match cause {
+            Cause::Messages | Cause::Bytes(_) if number == answer::BAN => Answer::admitted(number, Cause::BanBegun),
+            _ => Answer::admitted(number, cause),
+        }
+    }
+
     fn peer_settings(&self, operation: PeerSettingsOperation, given: &Settings) -> (Answer, Settings) {
         let config = PeerMessagePolicyConfig::oracle_make(given);
         let default = self.default_settings();
@@ -217,12 +227,6 @@ impl UnchangedRust {
             answer.values[0] = short;
         }
         answer
-    }
-
-    fn bytes_short(&self, bytes: u64) -> u64 {
-        let available = self.byte.oracle_read().available.as_i128().expect("an i128");
-        let short = i128::from(bytes).saturating_sub(available);
-        short.clamp(0, u64::MAX.into()) as u64
     }
 }
 

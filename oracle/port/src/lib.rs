@@ -27,7 +27,7 @@ impl Port for Proved {
     fn peers(&self, call: &PeerCall, record: &mut Record, table: &mut [u8]) -> Answer {
         let (key, bytes, now) = (&call.key, call.bytes, call.now);
         match call.operation {
-            PeerOperation::Admit => Answer::plain(peers::admit(record, table, key, bytes, now)),
+            PeerOperation::Admit => peers::admit(record, table, key, bytes, now),
             PeerOperation::RecordInvalid => Answer::plain(peers::record_invalid(record, table, key, now)),
             PeerOperation::IsBanned => Answer::plain(peers::is_banned(record, table, key, now)),
             PeerOperation::OnDisconnected => Answer::plain(peers::on_disconnected(record, table, key, now)),

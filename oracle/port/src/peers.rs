@@ -1,14 +1,25 @@
 //! The peers' calls on a record (crate `c_peers`).
 
 use uglezmir_sys::peers;
-use vocabulary::{Key, Record};
+use vocabulary::{Answer, Key, Record};
 
 pub fn new(record: &mut Record, table: &mut [u8]) -> u32 {
     peers::new(&mut record.longs, &mut record.shorts, table)
 }
 
-pub fn admit(record: &mut Record, table: &mut [u8], peer: &Key, bytes: u64, now: u64) -> u32 {
-    peers::admit(&mut record.longs, &mut record.shorts, table, peer, bytes, now)
+/// What the cause's words hold before a call.
+const ANYTHING: [u64; 2] = [u64::MAX; 2];
+
+/// With its cause; a refused call must leave the cause's words as they were.
+pub fn admit(record: &mut Record, table: &mut [u8], peer: &Key, bytes: u64, now: u64) -> Answer {
+    let mut cause = ANYTHING;
+    let (longs, shorts) = (&mut record.longs, &mut record.shorts);
+    let number = peers::admit_explained(longs, shorts, table, peer, bytes, now, &mut cause);
+    let answer = Answer::caused(number, cause);
+    if answer.is_refusal() && cause == ANYTHING {
+        return Answer::plain(number);
+    }
+    answer
 }
 
 pub fn record_invalid(record: &mut Record, table: &mut [u8], peer: &Key, now: u64) -> u32 {

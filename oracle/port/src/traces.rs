@@ -1,5 +1,6 @@
 //! The scan of an input, line by line (crate `c_trace`).
 
+use uglezmir_sys::numbers::TRACE_LINE;
 use uglezmir_sys::peers::{PolicyLongs, PolicyShorts};
 use uglezmir_sys::traces::{self, Place};
 
@@ -26,7 +27,7 @@ impl Scan {
     /// The next line with its newline; empty where the scan is done.
     pub fn next(&mut self, input: &[u8], table: &mut [u8]) -> Vec<u8> {
         let Self { place, longs, shorts } = self;
-        let mut line = [0xff; 64];
+        let mut line = [0xff; TRACE_LINE];
         let length = traces::next(place, longs, shorts, input, table, &mut line);
         line[..length as usize].to_vec()
     }

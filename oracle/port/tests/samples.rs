@@ -56,8 +56,21 @@ impl Both {
 #[test]
 fn the_trace_program_s_example() {
     let input = "10 2 0 0 2 100 2 4 1000\na 02 300 50\na 02 300 50\na 02 1 50\na 02 1 55\na 02 1 155\nr 300\n";
-    let output = "Allow 1 300 1\nAllow 2 600 1\nDisconnect 2 600 1\nBan 2 600 1\nAllow 3 601 1\nReleased 2 301 1\n";
+    let output =
+        "Allow 1 300 1\nAllow 2 600 1\nDisconnect-messages 2 600 1\nBan 2 600 1\nAllow 3 601 1\nReleased 2 301 1\n";
     assert_eq!(output_of(input), output);
+}
+
+#[test]
+fn the_first_limit_in_step_order_is_named() {
+    // two messages and 100 bytes a peer, one message and 90 bytes in flight
+    let said = |events: &str| answers_of(&format!("10 2 1000 100 0 0 2 1 90\n{events}"));
+    assert_eq!(said("a 02 91 50\n"), ["Disconnect-ceiling"]);
+    assert_eq!(said("a 02 1 50\na 03 1 50\n"), ["Allow", "Disconnect-ceiling"]);
+    assert_eq!(said("a 02 101 50\n"), ["Disconnect-bytes"]);
+    assert_eq!(said("a 02 60 50\na 02 60 50\n"), ["Allow", "Disconnect-bytes"]);
+    let three = "a 02 1 50\nr 1\na 02 1 50\na 02 999 50\n";
+    assert_eq!(said(three), ["Allow", "Released", "Allow", "Disconnect-messages"]);
 }
 
 #[test]
@@ -83,7 +96,7 @@ fn sample_c() {
     assert_eq!(passes, [true, false, false]);
     // in the policy a refused admit keeps no refill
     let answers = answers_of("0 0 999 1 0 0 1 0 0\na 02 1 1\na 02 1 2\na 02 1 3\n");
-    assert_eq!(answers, ["Allow", "Disconnect", "Allow"]);
+    assert_eq!(answers, ["Allow", "Disconnect-bytes", "Allow"]);
 }
 
 #[test]

@@ -2,6 +2,8 @@
 //!
 //! A refusal is its own number (1 to 17); the answers of the Rust begin at 256.
 
+use crate::cause::{self, Cause};
+
 pub const ALLOW: u32 = 256;
 pub const DISCONNECT: u32 = 257;
 pub const BAN: u32 = 258;
@@ -37,8 +39,30 @@ impl Answer {
         Self { number: DONE, values }
     }
 
+    /// Of an admit: its cause in the first two values.
+    pub const fn admitted(number: u32, cause: Cause) -> Self {
+        Self::caused(number, cause.words())
+    }
+
+    /// The same, the cause as it crosses the C boundary.
+    pub const fn caused(number: u32, [cause, short]: [u64; 2]) -> Self {
+        Self {
+            number,
+            values: [cause, short, 0],
+        }
+    }
+
+    /// Of an admit that isn't refused.
+    pub fn cause(&self) -> [u64; 2] {
+        [self.values[0], self.values[1]]
+    }
+
     pub fn is_refusal(&self) -> bool {
         self.number < 256
+    }
+
+    pub fn is_admission(&self) -> bool {
+        (ALLOW..=BAN).contains(&self.number)
     }
 
     pub fn text(&self) -> String {
@@ -56,6 +80,9 @@ impl Answer {
 
 impl std::fmt::Display for Answer {
     fn fmt(&self, f: &mut std::fmt::Formatter<'_>) -> std::fmt::Result {
+        if self.is_admission() {
+            return write!(f, "{} ({})", self.text(), cause::text(self.cause()));
+        }
         let [a, b, c] = self.values;
         write!(f, "{} ({a} {b} {c})", self.text())
     }

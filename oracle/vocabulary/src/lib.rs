@@ -3,6 +3,7 @@
 pub mod amounts;
 pub mod answer;
 pub mod bucket;
+pub mod cause;
 pub mod gossip;
 pub mod layout;
 pub mod peer;
@@ -11,6 +12,7 @@ pub mod sides;
 
 pub use answer::Answer;
 pub use bucket::{Amount, BucketCall, BucketOperation, Buckets, ByteBucket, DiscreteBucket};
+pub use cause::Cause;
 pub use gossip::{GossipCall, GossipRow, GossipState, GossipWords, LongKey, Reads, Shape, Subject};
 pub use peer::{Key, PeerCall, PeerOperation, PeerState, Record, Row, Settings};
 pub use sides::{Original, Port, Snapshots};

@@ -2,7 +2,7 @@
 
 use crate::buckets::{Amount, ByteLongs, DiscreteLongs, DiscreteShorts, LimitWords, SettingsLongs, SettingsShorts};
 use crate::gossip::{BanLongs, BanShorts, GossipLongs, GossipShorts, LimiterLongs, LimiterShorts};
-use crate::peers::{PolicyLongs, PolicyShorts};
+use crate::peers::{Cause, PolicyLongs, PolicyShorts};
 use crate::snapshots::{PartPlace, RowNumbers};
 use crate::traces::{Line, Place};
 use crate::{OutPointKey, PeerKey};
@@ -19,6 +19,16 @@ extern "C" {
         peer: &PeerKey,
         bytes: u64,
         now_ms: u64,
+    ) -> u32;
+    pub fn uglezmir_admit_explained(
+        longs: &mut PolicyLongs,
+        shorts: &mut PolicyShorts,
+        table: *mut u8,
+        table_length: usize,
+        peer: &PeerKey,
+        bytes: u64,
+        now_ms: u64,
+        cause: &mut Cause,
     ) -> u32;
     pub fn uglezmir_record_invalid(
         longs: &mut PolicyLongs,

@@ -3,6 +3,7 @@
 // How many words things cross in. A later request adds two to a policy's: name the number, don't write it.
 pub const POLICY_LONGS: usize = 8;
 pub const POLICY_SHORTS: usize = 4;
+pub const CAUSE_WORDS: usize = 2;
 pub const SETTINGS_LONGS: usize = 6;
 pub const SETTINGS_SHORTS: usize = 3;
 pub const LIMIT_WORDS: usize = 2;
@@ -26,7 +27,7 @@ pub const PEER_ROW: usize = 121;
 pub const BAN_ROW: usize = 65;
 pub const LIMITER_ROW: usize = 94;
 pub const OUTBOUND_ROW: usize = 65;
-pub const TRACE_LINE: usize = 64;
+pub const TRACE_LINE: usize = 73;
 pub const SNAPSHOT_WITHOUT_ROWS: usize = 120;
 pub const MOST_ROWS: usize = 1024;
 
@@ -47,6 +48,16 @@ pub const BAN: u32 = 258;
 pub const NO: u32 = 259;
 pub const YES: u32 = 260;
 pub const DONE: u32 = 261;
+
+// Causes of an answer to a message: the first of a cause's words. The second is by how much its limit ran short: one message, bytes, one slot,
+// bytes under the ceiling; 0 where none did.
+pub const CAUSE_ALLOWED: u64 = 0;
+pub const CAUSE_MESSAGES: u64 = 1;
+pub const CAUSE_BYTES: u64 = 2;
+pub const CAUSE_SLOT: u64 = 3;
+pub const CAUSE_CEILING_BYTES: u64 = 4;
+pub const CAUSE_LIVE_BAN: u64 = 5;
+pub const CAUSE_BAN_BEGUN: u64 = 6;
 
 // A policy's words. The settings' own words are the first six and the first three of these.
 pub const POLICY_LONG_INTERVAL_MS: usize = 0;

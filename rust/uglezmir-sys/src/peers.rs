@@ -1,12 +1,14 @@
 //! The peers' calls (crate `c_peers`), on a policy's words and its table.
 
-use crate::numbers::{POLICY_LONGS, POLICY_SHORTS};
+use crate::numbers::{CAUSE_WORDS, POLICY_LONGS, POLICY_SHORTS};
 use crate::{ffi, PeerKey};
 
 /// A policy's numbers of 64 bits; `numbers::POLICY_LONG_..` are their places.
 pub type PolicyLongs = [u64; POLICY_LONGS];
 /// A policy's numbers of 32 bits; `numbers::POLICY_SHORT_..` are their places.
 pub type PolicyShorts = [u32; POLICY_SHORTS];
+/// A cause's number, one of `numbers::CAUSE_..`, and by how much its limit ran short.
+pub type Cause = [u64; CAUSE_WORDS];
 
 /// Makes a policy of the words' settings and zeroes the limit's rows. `DONE`, or 2, 1.
 #[inline]
@@ -25,6 +27,21 @@ pub fn admit(
     now_ms: u64,
 ) -> u32 {
     unsafe { ffi::uglezmir_admit(longs, shorts, table.as_mut_ptr(), table.len(), peer, bytes, now_ms) }
+}
+
+/// The same call and number, and leaves the cause; on 3 and 4 its words stay as they were.
+#[inline]
+pub fn admit_explained(
+    longs: &mut PolicyLongs,
+    shorts: &mut PolicyShorts,
+    table: &mut [u8],
+    peer: &PeerKey,
+    bytes: u64,
+    now_ms: u64,
+    cause: &mut Cause,
+) -> u32 {
+    let (rows, length) = (table.as_mut_ptr(), table.len());
+    unsafe { ffi::uglezmir_admit_explained(longs, shorts, rows, length, peer, bytes, now_ms, cause) }
 }
 
 /// `YES` where the peer is banned now, or `NO`, or 3.

@@ -186,21 +186,26 @@ fn aliases() -> BTreeMap<String, String> {
     text.lines().filter_map(alias).collect()
 }
 
+/// The C functions of the sources; the width of a trace's line has its name there.
+fn exported() -> Functions {
+    let mut named = numbers();
+    named.extend(constants(&sources("trace_lines")));
+    of_rattle(&sources("c_"), &named)
+}
+
 #[test]
 fn rust_declares_what_is_exported() {
-    let numbers = numbers();
-    let exported = of_rattle(&sources("c_"), &numbers);
-    let declared = of_rust(&read("rust/uglezmir-sys/src/ffi.rs"), &aliases(), &numbers);
+    let exported = exported();
+    let declared = of_rust(&read("rust/uglezmir-sys/src/ffi.rs"), &aliases(), &numbers());
     assert!(exported.len() >= 18, "{:?}", exported.keys());
     assert_eq!(exported, declared);
 }
 
 #[test]
 fn the_header_declares_what_is_exported() {
-    let numbers = numbers();
-    let mut exported = of_rattle(&sources("c_"), &numbers);
+    let mut exported = exported();
     assert!(exported.remove(UNPUBLISHED).is_some());
-    assert_eq!(exported, of_c(&read("include/uglezmir.h"), &numbers));
+    assert_eq!(exported, of_c(&read("include/uglezmir.h"), &numbers()));
 }
 
 #[test]
@@ -247,13 +252,18 @@ fn operations_have_the_sources_numbers() {
 }
 
 #[test]
-fn answers_refusals_and_violations_have_the_sources_numbers() {
+fn answers_causes_refusals_and_violations_have_the_sources_numbers() {
     let ours = numbers();
-    for (name, number) in constants(&sources("c_words")) {
-        assert_eq!(ours.get(&name), Some(&number), "{name}");
-    }
-    for (name, number) in constants(&sources("refusal")) {
-        assert_eq!(ours.get(&format!("REFUSAL_{name}")), Some(&number), "{name}");
+    for (text, prefix) in [
+        (read("crates/c_words/src/answers.rt"), ""),
+        (read("crates/c_words/src/cause.rt"), "CAUSE_"),
+        (sources("refusal"), "REFUSAL_"),
+    ] {
+        let named = constants(&text);
+        assert!(named.len() >= 6, "{named:?}");
+        for (name, number) in named {
+            assert_eq!(ours.get(&format!("{prefix}{name}")), Some(&number), "{name}");
+        }
     }
     let mut seen = BTreeSet::new();
     for line in sources("c_bans").lines() {

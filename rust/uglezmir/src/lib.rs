@@ -17,6 +17,8 @@
 //!   | [`reserve_outbound_message`](gossip_policy::GossipPolicyState::reserve_outbound_message) | likewise | `u64::MAX` |
 //!   | [`refund_outbound_message`](gossip_policy::GossipPolicyState::refund_outbound_message) | likewise | nothing, and does nothing |
 //!
+//! - **Why**: [`try_admit_explained`](peer_message_policy::PeerMessagePolicy::try_admit_explained) answers a [`Cause`](peer_message_policy::Cause), which
+//!   names the limit that ran short, and by how much; merged it is the Rust's answer.
 //! - **Ties** in gossip eviction fall to the smallest key, where the Rust leaves them to its map's order.
 //! - **Snapshots**, which the Rust has not: [`to_bytes`](peer_message_policy::PeerMessagePolicy::to_bytes) and
 //!   [`from_bytes`](peer_message_policy::PeerMessagePolicy::from_bytes) of the peers' policies.

@@ -12,6 +12,8 @@ fn every_type_is_send_sync_and_debug() {
     is_shared::<HeldPeerMessagePolicy>();
     is_shared::<PeerMessagePolicyConfig>();
     is_shared::<PeerMessageAdmission>();
+    is_shared::<Cause>();
+    is_shared::<Limit>();
     is_shared::<GossipBanTracker>();
     is_shared::<ChannelUpdateLimiter>();
     is_shared::<GossipPolicyState>();

@@ -3,6 +3,7 @@ use mathlib.Core.Path.{_≡_, sym}
 use native.Mathlib.Omega.{arith}
 use lib.ListN.{length}
 use lib.Seq.{length-take-le}
+use Rattle.trace_lines.specs.Lines.{lineSize}
 use borrow.Author.Needs.{needs}
 use Rattle.trace_output.proofs.write_line.Statement.{statement}
 use Rattle.trace_output.proofs.write_line.Tie as tie
@@ -17,11 +18,11 @@ returns : tie.Need-returns
 returns c = search needs
 
 array-share-prefix-bytes : tie.Need-array-share-prefix-bytes
-array-share-prefix-bytes c = let h : length (c .before .before .args .line .bytes) ≡ 64 = search needs in omega arith
+array-share-prefix-bytes c = let h : length (c .before .before .args .line .bytes) ≡ lineSize = search needs in omega arith
 
 slice-aggregate-write-2 : tie.Need-slice-aggregate-write-2
 slice-aggregate-write-2 c =
-    let h : length (c .before .before .before .args .line .bytes) ≡ 64 = search needs in
+    let h : length (c .before .before .before .args .line .bytes) ≡ lineSize = search needs in
     sym (length-take-le (c .before .before .before .args .line .length) (c .before .before .before .args .line .bytes) (omega arith))
 
 write-requires-2 : tie.Need-write-requires-2

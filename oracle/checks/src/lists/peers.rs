@@ -13,7 +13,9 @@ use crate::damage::{damage_peers, Damage, MAKING_DAMAGE, PEER_DAMAGE};
 use crate::dice::Dice;
 use crate::trace::Trace;
 use vocabulary::layout::{self, ROW};
-use vocabulary::{answer, Answer, Key, Original, PeerCall, PeerOperation as P, PeerState, Record, Settings, Words};
+use vocabulary::{
+    answer, cause, Answer, Key, Original, PeerCall, PeerOperation as P, PeerState, Record, Settings, Words,
+};
 
 const SEED: u64 = 20_261_115;
 /// The memory of the replaying program, of which a part is lent.
@@ -211,6 +213,7 @@ impl Recorder<'_> {
 
     fn tell_call(&mut self, call: &PeerCall, answer: &Answer) {
         let text = match call.operation {
+            P::Admit if !answer.is_refusal() => cause::text(answer.cause()),
             P::InFlight if !answer.is_refusal() => format!("{} {}", answer.values[0], answer.values[1]),
             P::HeldTime if !answer.is_refusal() => answer.values[0].to_string(),
             _ => text(answer),

@@ -1,8 +1,9 @@
 //! The comparison notices wrong ports, and what it prints is short, can be read back, and still shows the difference.
 
+mod causes;
 mod snapshots;
 
-use checks::compare::{self, Options};
+use checks::compare::{self, Options, Outcome};
 use checks::show;
 use original::UnchangedRust;
 use port::Proved;
@@ -16,6 +17,8 @@ type PeersFault = fn(&PeerCall, &mut Record, &mut [u8]) -> Answer;
 /// The proved library with one fault.
 struct Wrong {
     peers: PeersFault,
+    /// Of an admit that isn't refused.
+    cause: fn([u64; 2]) -> [u64; 2],
     bucket: fn(&BucketCall, &mut Buckets) -> Answer,
     settings: fn(&Words) -> (Answer, [u64; 9]),
     amount: fn(&Words) -> Answer,
@@ -27,6 +30,7 @@ struct Wrong {
 /// No fault yet.
 const FAITHFUL: Wrong = Wrong {
     peers: |call, record, table| Proved.peers(call, record, table),
+    cause: |cause| cause,
     bucket: |call, buckets| Proved.bucket(call, buckets),
     settings: |call| Proved.settings(call),
     amount: |call| Proved.amount(call),
@@ -48,7 +52,11 @@ impl Port for Wrong {
         Proved.make_peers(record, table)
     }
     fn peers(&self, call: &PeerCall, record: &mut Record, table: &mut [u8]) -> Answer {
-        (self.peers)(call, record, table)
+        let answer = (self.peers)(call, record, table);
+        match answer.is_admission() {
+            true => Answer::caused(answer.number, (self.cause)(answer.cause())),
+            false => answer,
+        }
     }
     fn bucket(&self, call: &BucketCall, buckets: &mut Buckets) -> Answer {
         (self.bucket)(call, buckets)
@@ -67,15 +75,20 @@ impl Port for Wrong {
     }
 }
 
-/// Some mismatch, and each that is shown has at most so many lines and is one when read back.
-fn is_noticed(port: &Wrong, most_lines: usize) {
+/// What 20,000 calls come to.
+fn compared(port: &dyn Port, seed: u64) -> Outcome {
     let options = Options {
         calls: 20_000,
-        seed: 7,
-        watch: false,
+        seed,
+        watch: true,
         first_only: false,
     };
-    let outcome = compare::run(&mut UnchangedRust::default(), port, &options);
+    compare::run(&mut UnchangedRust::default(), port, &options)
+}
+
+/// Some mismatch, and each that is shown has at most so many lines and is one when read back.
+fn is_noticed(port: &Wrong, most_lines: usize) {
+    let outcome = compared(port, 7);
     assert!(outcome.tally.mismatches() > 0);
     for shown in &outcome.shown {
         let lines: Vec<&str> = shown.trim_end().lines().collect();
@@ -96,7 +109,7 @@ fn a_ban_that_is_called_disconnect() {
     let fault = |call: &PeerCall, record: &mut Record, table: &mut [u8]| {
         let answer = Proved.peers(call, record, table);
         match answer.number {
-            answer::BAN => Answer::plain(answer::DISCONNECT),
+            answer::BAN => Answer::caused(answer::DISCONNECT, answer.cause()),
             _ => answer,
         }
     };
@@ -241,13 +254,7 @@ fn an_answer_that_is_the_table_s() {
 
 #[test]
 fn the_proved_library_is_not_noticed() {
-    let options = Options {
-        calls: 20_000,
-        seed: 8,
-        watch: true,
-        first_only: false,
-    };
-    let outcome = compare::run(&mut UnchangedRust::default(), &Proved, &options);
+    let outcome = compared(&Proved, 8);
     assert_eq!(outcome.tally.mismatches(), 0, "{:?}", outcome.shown);
     assert_eq!(outcome.tally.calls(), 20_000);
 }

@@ -1,6 +1,7 @@
 //! One test body for the unchanged Rust and for `uglezmir`: `suite!` is the same text on both, with each side's own types.
 //!
-//! `suite` has examples with known answers, a method or two each; `random` drives both sides with the same made-up calls and compares.
+//! `suite` has examples with known answers, a method or two each; `random` drives both sides with the same made-up calls and compares; `causes` holds
+//! the explained form, which the Rust has not, beside the Rust.
 
 use drop_in as _;
 
@@ -11,6 +12,7 @@ mod fiber {
 }
 
 mod call;
+mod causes;
 mod dice;
 mod random;
 #[macro_use]

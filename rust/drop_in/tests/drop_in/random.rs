@@ -279,7 +279,7 @@ impl Run {
     }
 }
 
-fn settings(limit: usize, dice: &mut Dice) -> Settings {
+pub fn settings(limit: usize, dice: &mut Dice) -> Settings {
     Settings {
         limit,
         interval_ms: dice.of(&[0, 1, 5, 5, 10, 1_000]),

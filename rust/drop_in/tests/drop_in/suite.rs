@@ -26,7 +26,7 @@ macro_rules! suite {
             // ---- one of everything, driven by calls in plain numbers
 
             pub struct Side {
-                policy: PeerMessagePolicy,
+                pub policy: PeerMessagePolicy,
                 bans: GossipBanTracker,
                 limiter: ChannelUpdateLimiter,
                 byte: ByteTokenBucket,

@@ -1,4 +1,4 @@
-use super::{PeerMessageAdmission, PeerMessagePolicy, PeerMessagePolicyConfig};
+use super::{Cause, PeerMessageAdmission, PeerMessagePolicy, PeerMessagePolicyConfig};
 use crate::{Key, Refusal, PEER_KEY};
 
 /// The peers' policy, shielded from a clock that steps back: every [`admit`](Self::admit) and
@@ -28,7 +28,8 @@ use crate::{Key, Refusal, PEER_KEY};
 /// - in one life, from held time s to t, it is let in with at most its burst and what the interval gives from s to t (rounded up) in messages, and
 ///   at most its burst and what the rate gives (rounded down) in bytes;
 /// - a message within the smaller allowance (`Within` in `crates/promises/specs`), of a peer that is not banned, is refused only where the
-///   ceiling has no room, or as [`Refusal::NoRoomInFlight`].
+///   ceiling has no room, or as [`Refusal::NoRoomInFlight`]; so the limit that [`try_admit_explained`](Self::try_admit_explained) names is then never
+///   [`Messages`](super::Limit::Messages) or [`Bytes`](super::Limit::Bytes) (the theorem `named`).
 ///
 /// A life begins where the peer gets an entry, and ends with a ban that is over, or with an eviction.
 ///
@@ -78,9 +79,19 @@ impl HeldPeerMessagePolicy {
         bytes: u64,
         now_ms: u64,
     ) -> Result<PeerMessageAdmission, Refusal> {
+        self.try_admit_explained(peer, bytes, now_ms).map(Cause::merge)
+    }
+
+    /// As [`PeerMessagePolicy::try_admit_explained`], at the peer's held time.
+    pub fn try_admit_explained<Owner>(
+        &mut self,
+        peer: &impl Key<PEER_KEY, Owner>,
+        bytes: u64,
+        now_ms: u64,
+    ) -> Result<Cause, Refusal> {
         let peer = peer.key_bytes();
         let held_ms = self.policy.held_time(&peer, now_ms);
-        self.policy.try_admit(&peer, bytes, held_ms)
+        self.policy.try_admit_explained(&peer, bytes, held_ms)
     }
 
     /// As [`PeerMessagePolicy::record_invalid`], at the peer's held time.

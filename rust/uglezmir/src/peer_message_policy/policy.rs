@@ -1,15 +1,15 @@
-use super::PeerMessagePolicyConfig;
+use super::{Cause, PeerMessagePolicyConfig};
 use crate::answer::{done, told};
 use crate::{table, Key, Refusal, MOST_ROWS, PEER_KEY};
 use std::fmt;
 use uglezmir_sys::numbers::{
-    ALLOW, BAN, DISCONNECT, PEER_ROW, POLICY_LONGS, POLICY_LONG_MAX_TRACKED_PEERS, POLICY_LONG_ROWS, POLICY_SHORTS,
+    CAUSE_WORDS, FIRST_ANSWER, PEER_ROW, POLICY_LONGS, POLICY_LONG_MAX_TRACKED_PEERS, POLICY_LONG_ROWS, POLICY_SHORTS,
     SETTINGS_LONGS, SETTINGS_SHORTS, SNAPSHOT_WITHOUT_ROWS,
 };
 use uglezmir_sys::peers::{self, PolicyLongs, PolicyShorts};
 use uglezmir_sys::snapshots;
 
-/// The verdict on a message.
+/// The verdict on a message. [`Cause`] says why.
 #[derive(Clone, Copy, Debug, PartialEq, Eq)]
 pub enum PeerMessageAdmission {
     /// It is let in, and in flight until it is released.
@@ -108,13 +108,47 @@ impl PeerMessagePolicy {
         bytes: u64,
         now_ms: u64,
     ) -> Result<PeerMessageAdmission, Refusal> {
+        self.try_admit_explained(peer, bytes, now_ms).map(Cause::merge)
+    }
+
+    /// As [`try_admit`](Self::try_admit), and says why: which limit ran short and by how much, or whether a ban is live or begins.
+    ///
+    /// ```
+    /// use uglezmir::peer_message_policy::{Cause, Limit, PeerMessagePolicy, PeerMessagePolicyConfig, Shortage};
+    ///
+    /// let mut policy = PeerMessagePolicy::new(PeerMessagePolicyConfig {
+    ///     peer_message_interval_ms: 10,
+    ///     peer_message_burst: 2,
+    ///     violation_ban_threshold: 2,
+    ///     max_in_flight_bytes: 1_000,
+    ///     ..Default::default()
+    /// })?;
+    /// let (peer, neighbour) = ([2u8; 33], [3u8; 33]);
+    /// assert_eq!(policy.try_admit_explained(&peer, 300, 50), Ok(Cause::Allowed));
+    /// // more than is left under the ceiling: we are busy, and the peer has done no wrong
+    /// assert_eq!(policy.try_admit_explained(&peer, 720, 50), Ok(Cause::Short(Shortage::CeilingBytes(20))));
+    /// assert_eq!(policy.try_admit_explained(&peer, 300, 50), Ok(Cause::Allowed));
+    /// // its burst of two is used up: the peer sent too much
+    /// let cause = policy.try_admit_explained(&peer, 1, 50)?;
+    /// assert_eq!(cause.limit(), Some(Limit::Messages));
+    /// assert_eq!(policy.try_admit_explained(&peer, 1, 50), Ok(Cause::BanBegun));
+    /// assert_eq!(policy.try_admit_explained(&peer, 1, 51), Ok(Cause::LiveBan));
+    /// assert_eq!(policy.try_admit_explained(&neighbour, 1, 51), Ok(Cause::Allowed));
+    /// # Ok::<(), uglezmir::Refusal>(())
+    /// ```
+    pub fn try_admit_explained<Owner>(
+        &mut self,
+        peer: &impl Key<PEER_KEY, Owner>,
+        bytes: u64,
+        now_ms: u64,
+    ) -> Result<Cause, Refusal> {
         let (longs, shorts, table) = (&mut self.longs, &mut self.shorts, &mut self.table);
-        match peers::admit(longs, shorts, table, &peer.key_bytes(), bytes, now_ms) {
-            ALLOW => Ok(PeerMessageAdmission::Allow),
-            DISCONNECT => Ok(PeerMessageAdmission::Disconnect),
-            BAN => Ok(PeerMessageAdmission::Ban),
-            refused => Err(Refusal::of(refused)),
+        let mut cause = [0; CAUSE_WORDS];
+        let number = peers::admit_explained(longs, shorts, table, &peer.key_bytes(), bytes, now_ms, &mut cause);
+        if number < FIRST_ANSWER {
+            return Err(Refusal::of(number));
         }
+        Cause::of(cause)
     }
 
     /// An invalid message came. Answers whether the peer is banned, by this message or already.

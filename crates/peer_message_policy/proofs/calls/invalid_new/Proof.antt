@@ -16,22 +16,19 @@ decide-invalid-requires c κs = search needs
 store-new-requires : tie.Need-store-new-requires
 store-new-requires c κs = search needs
 
-invalid-of-requires : tie.Need-invalid-of-requires
-invalid-of-requires c κs = search needs
-
 same-length : tie.Need-same-length
 same-length c = search needs
 
 returns : tie.Need-returns
 returns c =
-    let at-store-new = c .before .before .before in
+    let at-store-new = c .before .before in
     let at-decide-invalid = at-store-new .before .before .before in
     let at-new = at-decide-invalid .before in
     let begin = at-new .before .before .before .before in
     let a = begin .args in
     let x = at-new .new .result in
     let rs = rowsOf (a .p) (a .table .now) in
-    invalid-carried (a .p) (a .table .now) (a .peer) (a .now-ms) (begin .pre .is-sound) x (makeRoom (a .p .config) (a .now-ms) rs) (update-new (a .p .config) (a .now-ms) rs (a .peer .bytes) (unknown-look (a .p) (a .table .now) (a .peer .bytes) (a .gap) (begin .pre)) x (at-new .new .ensures)) (at-decide-invalid .decide-invalid .result) (at-decide-invalid .decide-invalid .ensures) (at-store-new .store-new .result) _ (at-store-new .store-new .ensures) (c .invalid-of .result) (c .invalid-of .ensures)
+    invalid-carried (a .p) (a .table .now) (a .peer) (a .now-ms) (begin .pre .is-sound) x (makeRoom (a .p .config) (a .now-ms) rs) (update-new (a .p .config) (a .now-ms) rs (a .peer .bytes) (unknown-look (a .p) (a .table .now) (a .peer .bytes) (a .gap) (begin .pre)) x (at-new .new .ensures)) (at-decide-invalid .decide-invalid .result) (at-decide-invalid .decide-invalid .ensures) (at-store-new .store-new .result) _ (at-store-new .store-new .ensures)
 
 pub invalid-new-spec : {M : Type 1} → statement M
 invalid-new-spec =
@@ -40,6 +37,5 @@ invalid-new-spec =
     new-requires
     decide-invalid-requires
     store-new-requires
-    invalid-of-requires
     same-length
     returns)

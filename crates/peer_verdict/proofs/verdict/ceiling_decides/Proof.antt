@@ -12,8 +12,8 @@ enum-told c = search needs
 enum-known-reservation-2 : tie.Need-enum-known-reservation-2
 enum-known-reservation-2 c = search needs
 
-enum-told-2 : tie.Need-enum-told-2
-enum-told-2 c = search needs
+enum-known-reservation-3 : tie.Need-enum-known-reservation-3
+enum-known-reservation-3 c = search needs
 
 returns : tie.Need-returns
 returns c = rw (c .before .reservation .given .1)
@@ -25,7 +25,7 @@ returns-3 : tie.Need-returns-3
 returns-3 c = rw (c .before .reservation2 .given .1)
 
 returns-4 : tie.Need-returns-4
-returns-4 c = rw (c .enum-told2 .given .1)
+returns-4 c = rw (c .before .reservation3 .given .1)
 
 pub ceiling-decides-spec : {M : Type 1} → statement M
 ceiling-decides-spec =
@@ -34,7 +34,7 @@ ceiling-decides-spec =
     enum-known-reservation
     enum-told
     enum-known-reservation-2
-    enum-told-2
+    enum-known-reservation-3
     returns
     returns-2
     returns-3

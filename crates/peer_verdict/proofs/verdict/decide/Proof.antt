@@ -69,17 +69,13 @@ returns-2 c =
     let at-used = at-take-message .before .before in
     rw (← at-used .used .ensures, c .violated2 .ensures, at-missing .missing .ensures, rw (at-take-message .take-message .ensures) at (sym (at-passes .passes .ensures) ∙ not-false (at-passes .passes .result) (at-if1 .if1 .left)), rw (at-take-bytes .take-bytes .ensures) at (sym (at-passes2 .passes2 .ensures) ∙ not-true (at-passes2 .passes2 .result) (at-if2 .if2 .taken)), at-take-bytes .take-bytes .ensures)
 
-try-reserve-requires : tie.Need-try-reserve-requires
-try-reserve-requires c κs = search needs
-
 ceiling-decides-requires : tie.Need-ceiling-decides-requires
 ceiling-decides-requires c κs = search needs
 
 returns-3 : tie.Need-returns-3
 unfolding decision
 returns-3 c =
-    let at-try-reserve = c .before in
-    let at-if2 = at-try-reserve .before in
+    let at-if2 = c .before in
     let at-passes2 = at-if2 .before in
     let at-with-buckets = at-passes2 .before in
     let at-take-bytes = at-with-buckets .before .before .before in
@@ -87,7 +83,7 @@ returns-3 c =
     let at-passes = at-if1 .before in
     let at-take-message = at-passes .before in
     let at-used = at-take-message .before .before in
-    rw (← at-used .used .ensures, c .ceiling-decides .ensures, at-try-reserve .try-reserve .ensures, at-with-buckets .with-buckets .ensures, at-take-bytes .take-bytes .ensures, at-take-message .take-message .ensures, rw (at-take-message .take-message .ensures) at (sym (at-passes .passes .ensures) ∙ not-false (at-passes .passes .result) (at-if1 .if1 .left)), rw (at-take-bytes .take-bytes .ensures) at (sym (at-passes2 .passes2 .ensures) ∙ not-false (at-passes2 .passes2 .result) (at-if2 .if2 .left)))
+    rw (← at-used .used .ensures, c .ceiling-decides .ensures, at-with-buckets .with-buckets .ensures, at-take-bytes .take-bytes .ensures, at-take-message .take-message .ensures, rw (at-take-message .take-message .ensures) at (sym (at-passes .passes .ensures) ∙ not-false (at-passes .passes .result) (at-if1 .if1 .left)), rw (at-take-bytes .take-bytes .ensures) at (sym (at-passes2 .passes2 .ensures) ∙ not-false (at-passes2 .passes2 .result) (at-if2 .if2 .left)))
 
 pub decide-spec : {M : Type 1} → statement M
 decide-spec =
@@ -104,6 +100,5 @@ decide-spec =
     missing-requires
     violated-requires-2
     returns-2
-    try-reserve-requires
     ceiling-decides-requires
     returns-3)

@@ -1,6 +1,5 @@
 -- `trace::scan::next` meets its contract: by the phase. Assumes nothing.
-use mathlib.Core.Path.{refl, ap, _∙_}
-use Rattle.trace.specs.Scan.{last}
+use mathlib.Core.Path.{refl}
 use Rattle.trace.proofs.Handing.{next-in}
 use borrow.Author.Needs.{needs}
 use Rattle.trace.proofs.scan.next.Statement.{statement}
@@ -8,9 +7,6 @@ use Rattle.trace.proofs.scan.next.Tie as tie
 
 enum-told : tie.Need-enum-told
 enum-told c = search needs
-
-bad-line-requires : tie.Need-bad-line-requires
-bad-line-requires c κs = search needs
 
 last-requires : tie.Need-last-requires
 last-requires c κs = search needs
@@ -34,8 +30,8 @@ ended-requires : tie.Need-ended-requires
 ended-requires c κs = search needs
 
 returns : tie.Need-returns
-returns c = let a = c .before .before .before .before .before .before .args in
-    next-in (a .scan) (a .input .now) (a .table .now) (c .last .result) (a .table .now) (c .before .before .enum-told .given .1) (c .last .ensures ∙ ap (last (a .scan)) (c .before .bad-line .ensures), refl)
+returns c = let a = c .before .before .before .before .before .args in
+    next-in (a .scan) (a .input .now) (a .table .now) (c .last .result) (a .table .now) (c .before .enum-told .given .1) (c .last .ensures, refl)
 
 same-length : tie.Need-same-length
 same-length c = search needs
@@ -68,7 +64,6 @@ next-spec =
     tie.close
     (tie.spec
     enum-told
-    bad-line-requires
     last-requires
     enum-told-2
     next-settings-requires

@@ -1,7 +1,6 @@
 -- `trace::scan::next_event` meets its contract. Assumes nothing.
-use mathlib.Core.Path.{sym, ap, _∙_}
+use mathlib.Core.Path.{sym, _∙_}
 use native.Mathlib.Omega.{arith}
-use Rattle.trace.specs.Scan.{last}
 use Rattle.trace.specs.ScanLaws.{found}
 use Rattle.trace.proofs.Handing.{events-ended, events-unended, events-moved}
 use borrow.Author.Needs.{needs}
@@ -20,9 +19,6 @@ line-end-requires c κs = search needs
 
 enum-told : tie.Need-enum-told
 enum-told c = search needs
-
-bad-line-requires : tie.Need-bad-line-requires
-bad-line-requires c κs = search needs
 
 last-requires : tie.Need-last-requires
 last-requires c κs = search needs
@@ -61,13 +57,12 @@ moved-requires c κs = search needs
 
 returns-2 : tie.Need-returns-2
 returns-2 c =
-    let at-bad-line = c .before in
-    let at-enum-told = at-bad-line .before in
+    let at-enum-told = c .before in
     let at-line-end = at-enum-told .before .before in
     let at-if1 = at-line-end .before in
     let begin = at-if1 .before .before .before in
     let a = begin .args in
-    events-unended (a .scan) (a .input .now) (a .table .now) (omega (arith, at-if1 .if1 .left)) (sym (at-line-end .line-end .ensures) ∙ at-enum-told .enum-told .given .1) (c .last .ensures ∙ ap (last (a .scan)) (at-bad-line .bad-line .ensures))
+    events-unended (a .scan) (a .input .now) (a .table .now) (omega (arith, at-if1 .if1 .left)) (sym (at-line-end .line-end .ensures) ∙ at-enum-told .enum-told .given .1) (c .last .ensures)
 
 same-length : tie.Need-same-length
 same-length c = search needs
@@ -91,7 +86,6 @@ next-event-spec =
     returns
     line-end-requires
     enum-told
-    bad-line-requires
     last-requires
     enum-known-found
     sub-parse-event

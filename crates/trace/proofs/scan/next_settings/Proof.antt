@@ -1,7 +1,6 @@
 -- `trace::scan::next_settings` meets its contract. Assumes nothing.
-use mathlib.Core.Path.{sym, ap, _∙_}
+use mathlib.Core.Path.{sym, _∙_}
 use native.Mathlib.Omega.{arith}
-use Rattle.trace.specs.Scan.{last}
 use Rattle.trace.specs.ScanLaws.{found}
 use Rattle.trace.proofs.Handing.{settings-unended, settings-bad, settings-refused, settings-good}
 use borrow.Author.Needs.{needs}
@@ -13,9 +12,6 @@ line-end-requires c κs = search needs
 
 enum-told : tie.Need-enum-told
 enum-told c = search needs
-
-bad-line-requires : tie.Need-bad-line-requires
-bad-line-requires c κs = search needs
 
 last-requires : tie.Need-last-requires
 last-requires c κs = search needs
@@ -41,17 +37,11 @@ settle-requires c κs = search needs
 enum-told-2 : tie.Need-enum-told-2
 enum-told-2 c = search needs
 
-bad-line-requires-2 : tie.Need-bad-line-requires-2
-bad-line-requires-2 c κs = search needs
-
 last-requires-2 : tie.Need-last-requires-2
 last-requires-2 c κs = search needs
 
 enum-known-settled : tie.Need-enum-known-settled
 enum-known-settled c = search needs
-
-refusal-line-requires : tie.Need-refusal-line-requires
-refusal-line-requires c κs = search needs
 
 last-requires-3 : tie.Need-last-requires-3
 last-requires-3 c κs = search needs
@@ -74,36 +64,34 @@ next-event-requires : tie.Need-next-event-requires
 next-event-requires c κs = search needs
 
 returns : tie.Need-returns
-returns c = let a = c .before .before .before .before .before .before .before .args in
-    settings-unended (a .scan) (a .input .now) (a .table .now) (sym (c .before .before .before .before .line-end .ensures) ∙ c .before .before .enum-told .given .1) (c .last .ensures ∙ ap (last (a .scan)) (c .before .bad-line .ensures))
+returns c = let a = c .before .before .before .before .before .before .args in
+    settings-unended (a .scan) (a .input .now) (a .table .now) (sym (c .before .before .before .line-end .ensures) ∙ c .before .enum-told .given .1) (c .last .ensures)
 
 same-length : tie.Need-same-length
 same-length c = search needs
 
 returns-2 : tie.Need-returns-2
 returns-2 c =
-    let at-bad-line2 = c .before in
-    let at-enum-told2 = at-bad-line2 .before in
+    let at-enum-told2 = c .before in
     let at-settle = at-enum-told2 .before .before .before .before in
     let at-found = at-settle .before .before .before .before in
     let at-line-end = at-found .before .before in
     let begin = at-line-end .before .before .before in
     let a = begin .args in
-    settings-bad (a .scan) (a .input .now) (a .table .now) (at-found .found .given .0 .0) (sym (at-line-end .line-end .ensures) ∙ at-found .found .given .1) (at-settle .settle .result) _ (at-settle .settle .ensures) (at-enum-told2 .enum-told2 .given .1) (c .last2 .ensures ∙ ap (last (a .scan)) (at-bad-line2 .bad-line2 .ensures))
+    settings-bad (a .scan) (a .input .now) (a .table .now) (at-found .found .given .0 .0) (sym (at-line-end .line-end .ensures) ∙ at-found .found .given .1) (at-settle .settle .result) _ (at-settle .settle .ensures) (at-enum-told2 .enum-told2 .given .1) (c .last2 .ensures)
 
 same-length-2 : tie.Need-same-length-2
 same-length-2 c = search needs
 
 returns-3 : tie.Need-returns-3
 returns-3 c =
-    let at-refusal-line = c .before in
-    let at-settled = at-refusal-line .before .before in
+    let at-settled = c .before .before in
     let at-settle = at-settled .before .before .before .before in
     let at-found = at-settle .before .before .before .before in
     let at-line-end = at-found .before .before in
     let begin = at-line-end .before .before .before in
     let a = begin .args in
-    settings-refused (a .scan) (a .input .now) (a .table .now) (at-found .found .given .0 .0) (sym (at-line-end .line-end .ensures) ∙ at-found .found .given .1) (at-settle .settle .result) _ (at-settle .settle .ensures) (at-settled .settled .given .0 .0) (at-settled .settled .given .1) (c .last3 .ensures ∙ ap (last (a .scan)) (at-refusal-line .refusal-line .ensures))
+    settings-refused (a .scan) (a .input .now) (a .table .now) (at-found .found .given .0 .0) (sym (at-line-end .line-end .ensures) ∙ at-found .found .given .1) (at-settle .settle .result) _ (at-settle .settle .ensures) (at-settled .settled .given .0 .0) (at-settled .settled .given .1) (c .last3 .ensures)
 
 same-length-3 : tie.Need-same-length-3
 same-length-3 c = search needs
@@ -126,7 +114,6 @@ next-settings-spec =
     (tie.spec
     line-end-requires
     enum-told
-    bad-line-requires
     last-requires
     enum-known-found
     sub-settle
@@ -134,10 +121,8 @@ next-settings-spec =
     part-settle-end
     settle-requires
     enum-told-2
-    bad-line-requires-2
     last-requires-2
     enum-known-settled
-    refusal-line-requires
     last-requires-3
     enum-known-settled-2
     add-t22

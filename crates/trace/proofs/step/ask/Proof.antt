@@ -10,8 +10,8 @@ enum-told c = search needs
 admit-requires : tie.Need-admit-requires
 admit-requires c κs = search needs
 
-admission-spoken-requires : tie.Need-admission-spoken-requires
-admission-spoken-requires c κs = search needs
+admission-answered-requires : tie.Need-admission-answered-requires
+admission-answered-requires c κs = search needs
 
 enum-told-2 : tie.Need-enum-told-2
 enum-told-2 c = search needs
@@ -19,8 +19,8 @@ enum-told-2 c = search needs
 record-invalid-requires : tie.Need-record-invalid-requires
 record-invalid-requires c κs = search needs
 
-invalid-spoken-requires : tie.Need-invalid-spoken-requires
-invalid-spoken-requires c κs = search needs
+invalid-answered-requires : tie.Need-invalid-answered-requires
+invalid-answered-requires c κs = search needs
 
 enum-told-3 : tie.Need-enum-told-3
 enum-told-3 c = search needs
@@ -28,8 +28,8 @@ enum-told-3 c = search needs
 is-banned-requires : tie.Need-is-banned-requires
 is-banned-requires c κs = search needs
 
-standing-spoken-requires : tie.Need-standing-spoken-requires
-standing-spoken-requires c κs = search needs
+standing-answered-requires : tie.Need-standing-answered-requires
+standing-answered-requires c κs = search needs
 
 enum-told-4 : tie.Need-enum-told-4
 enum-told-4 c = search needs
@@ -37,8 +37,8 @@ enum-told-4 c = search needs
 on-disconnected-requires : tie.Need-on-disconnected-requires
 on-disconnected-requires c κs = search needs
 
-changed-spoken-requires : tie.Need-changed-spoken-requires
-changed-spoken-requires c κs = search needs
+changed-answered-requires : tie.Need-changed-answered-requires
+changed-answered-requires c κs = search needs
 
 enum-told-5 : tie.Need-enum-told-5
 enum-told-5 c = search needs
@@ -46,8 +46,8 @@ enum-told-5 c = search needs
 release-ingress-requires : tie.Need-release-ingress-requires
 release-ingress-requires c κs = search needs
 
-changed-spoken-requires-2 : tie.Need-changed-spoken-requires-2
-changed-spoken-requires-2 c κs = search needs
+changed-answered-requires-2 : tie.Need-changed-answered-requires-2
+changed-answered-requires-2 c κs = search needs
 
 enum-told-6 : tie.Need-enum-told-6
 enum-told-6 c = search needs
@@ -61,7 +61,7 @@ returns c =
     let at-enum-told = at-admit .before .before in
     let begin = at-enum-told .before .before .before .before in
     let a = begin .args in
-    asked-admit (a .policy) (a .event) (a .table .now) _ (at-enum-told .enum-told .given .1) (at-admit .admit .result) (at-admit .admit .ensures) (c .admission-spoken .ensures)
+    asked-admit (a .policy) (a .event) (a .number) (a .table .now) _ (at-enum-told .enum-told .given .1) (at-admit .admit .result) (at-admit .admit .ensures) (c .admission-answered .ensures)
 
 same-length-2 : tie.Need-same-length-2
 same-length-2 c = search needs
@@ -72,7 +72,7 @@ returns-2 c =
     let at-enum-told2 = at-record-invalid .before .before in
     let begin = at-enum-told2 .before .before .before .before in
     let a = begin .args in
-    asked-invalid (a .policy) (a .event) (a .table .now) _ (at-enum-told2 .enum-told2 .given .1) (at-record-invalid .record-invalid .result) (at-record-invalid .record-invalid .ensures) (c .invalid-spoken .ensures)
+    asked-invalid (a .policy) (a .event) (a .number) (a .table .now) _ (at-enum-told2 .enum-told2 .given .1) (at-record-invalid .record-invalid .result) (at-record-invalid .record-invalid .ensures) (c .invalid-answered .ensures)
 
 same-length-3 : tie.Need-same-length-3
 same-length-3 c = search needs
@@ -83,7 +83,7 @@ returns-3 c =
     let at-enum-told3 = at-is-banned .before .before in
     let begin = at-enum-told3 .before .before .before .before in
     let a = begin .args in
-    asked-ban (a .policy) (a .event) (a .table .now) _ (at-enum-told3 .enum-told3 .given .1) (at-is-banned .is-banned .result) (at-is-banned .is-banned .ensures) (c .standing-spoken .ensures)
+    asked-ban (a .policy) (a .event) (a .number) (a .table .now) _ (at-enum-told3 .enum-told3 .given .1) (at-is-banned .is-banned .result) (at-is-banned .is-banned .ensures) (c .standing-answered .ensures)
 
 same-length-4 : tie.Need-same-length-4
 same-length-4 c = search needs
@@ -94,15 +94,15 @@ returns-4 c =
     let at-enum-told4 = at-on-disconnected .before .before in
     let begin = at-enum-told4 .before .before .before .before in
     let a = begin .args in
-    asked-disconnected (a .policy) (a .event) (a .table .now) _ (at-enum-told4 .enum-told4 .given .1) (at-on-disconnected .on-disconnected .result) (at-on-disconnected .on-disconnected .ensures) (c .changed-spoken .ensures)
+    asked-disconnected (a .policy) (a .event) (a .number) (a .table .now) _ (at-enum-told4 .enum-told4 .given .1) (at-on-disconnected .on-disconnected .result) (at-on-disconnected .on-disconnected .ensures) (c .changed-answered .ensures)
 
 returns-5 : tie.Need-returns-5
 returns-5 c = let a = c .before .before .before .before .before .before .args in
-    asked-release (a .policy) (a .event) (a .table .now) (c .before .before .enum-told5 .given .1) (c .before .release-ingress .result) (c .before .release-ingress .ensures) (c .changed-spoken2 .ensures)
+    asked-release (a .policy) (a .event) (a .number) (a .table .now) (c .before .before .enum-told5 .given .1) (c .before .release-ingress .result) (c .before .release-ingress .ensures) (c .changed-answered2 .ensures)
 
 returns-6 : tie.Need-returns-6
 returns-6 c = let a = c .before .before .before .before .args in
-    asked-nothing (a .policy) (a .event) (a .table .now) (c .enum-told6 .given .1)
+    asked-nothing (a .policy) (a .event) (a .number) (a .table .now) (c .enum-told6 .given .1)
 
 pub ask-spec : {M : Type 1} → statement M
 ask-spec =
@@ -110,19 +110,19 @@ ask-spec =
     (tie.spec
     enum-told
     admit-requires
-    admission-spoken-requires
+    admission-answered-requires
     enum-told-2
     record-invalid-requires
-    invalid-spoken-requires
+    invalid-answered-requires
     enum-told-3
     is-banned-requires
-    standing-spoken-requires
+    standing-answered-requires
     enum-told-4
     on-disconnected-requires
-    changed-spoken-requires
+    changed-answered-requires
     enum-told-5
     release-ingress-requires
-    changed-spoken-requires-2
+    changed-answered-requires-2
     enum-told-6
     same-length
     returns
