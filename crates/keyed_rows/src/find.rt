@@ -1,10 +1,8 @@
 // A key found among rows. Contracts speak of the raw rows whose keys are as long as the key sought; `RawLaws` carries them to any
 // layout of those widths. So a shorter key, a prefix, is sought among the rows' prefixes of its length: the place is that of the
 // first row whose prefix is not below it.
-ghost use mathlib.Core.Bool.{true, cond};
 ghost use mathlib.Core.Path.{_≡_};
 ghost use Prim.Native.Nat.{_+_, _-_, _*_, _<_, _≤_};
-ghost use lib.Dec.{ltb};
 ghost use lib.ListN.{length, drop};
 ghost use Rattle.lent_bytes.specs.LentBytes.{part};
 ghost use Rattle.lent_bytes.specs.Private.{front};
@@ -81,15 +79,9 @@ pub fn in_order(
     }
 }
 
-// The next index if the row's front is below that of the key, which then comes after the row, and else the place so far.
-pub fn place_after(own: u64, key_front: u64, next: usize, place: usize) -> usize
-    ensures { λ r. ⌜ r ≡ cond (ltb own «key_front») next place ⌝ }
-{
-    if own < key_front { next } else { place }
-}
-
 // Whether the rows ascend, and where the key stands or would stand: one walk, which judges each row against the one before it and
-// passes those whose fronts are below the key's. Keys have eight bytes at least.
+// counts those whose fronts are below the key's. Of ascending rows they are the first: the key is compared in full from behind them.
+// Keys have eight bytes at least.
 pub fn find(table: &[u8], width: usize, count: usize, key: &[u8]) -> Seek
     requires { ⌜ (8 ≤ length (now key)) × (length (now key) ≤ width) ⌝ }
     requires { ⌜ width * count ≤ length (now table) ⌝ }
@@ -105,7 +97,9 @@ pub fn find(table: &[u8], width: usize, count: usize, key: &[u8]) -> Seek
         if !in_order(table, width, key_width, i, last, own) {
             return Seek::Unsound;
         }
-        place = place_after(own, key_front, i + 1, place);
+        if own < key_front {
+            place += 1;
+        }
         last = own;
         i += 1;
     }

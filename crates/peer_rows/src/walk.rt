@@ -10,15 +10,14 @@ use super::row::KEY_WIDTH;
 use super::row::ROW_WIDTH;
 use super::row::row_sound;
 use keyed_rows::find::in_order;
-use keyed_rows::find::place_after;
 use keyed_rows::find::place_from;
 use lent_bytes::number::front_at;
 use peer_settings::config::PeerMessagePolicyConfig;
 use pubkey::Pubkey;
 use table::seek::Seek;
 
-// Judges each row and whether it comes after the one before it, and passes those whose fronts are below the key's: the key is then
-// compared in full from the first row that was not passed. One loop, since the rows are judged on every call.
+// Judges each row and whether it comes after the one before it, and counts those whose fronts are below the key's. Of ascending
+// rows they are the first: the key is then compared in full from behind them. One loop, since the rows are judged on every call.
 fn walked(config: PeerMessagePolicyConfig, table: &[u8], count: usize, key: &[u8]) -> Seek
     requires { ⌜ length (now key) ≡ keyWidth ⌝ }
     requires { ⌜ rowWidth * count ≤ length (now table) ⌝ }
@@ -37,7 +36,9 @@ fn walked(config: PeerMessagePolicyConfig, table: &[u8], count: usize, key: &[u8
         if !in_order(table, ROW_WIDTH, KEY_WIDTH, i, last, own) {
             return Seek::Unsound;
         }
-        place = place_after(own, key_front, i + 1, place);
+        if own < key_front {
+            place += 1;
+        }
         last = own;
         i += 1;
     }

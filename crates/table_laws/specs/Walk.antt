@@ -7,9 +7,9 @@ use Prim.Native.Nat.{ℕ, zero, suc, _-_, _*_, _<_, _≤_}
 use lib.ListN.{length, drop}
 use Rattle.lent_bytes.specs.LentBytes.{part, Bytes}
 use Rattle.lent_bytes.specs.Private.{front}
-use Rattle.pubkey.specs.declared.Ordering.the-variants.{Greater}
 use Rattle.pubkey.specs.Order.{compareBytes}
 use Rattle.table.specs.Table.{Row, byOrder, below, ascending, every}
+use Rattle.table.specs.Private.{placeFrom}
 use Rattle.table.specs.Memory.{Layout, rowOf, rows}
 
 -- whether the i-th row of w bytes comes after the one before it, if there is one, by the first k bytes of both
@@ -41,10 +41,10 @@ module _ {A : Type 0} (L : Layout A) where
     pub key-length : length k ≡ L .keyWidth
 
   -- the invariant of the walk at the i-th row. The rows are sound just where those from the i-th on are and come after the one before
-  -- them; `last` is the front of that one; and the key comes after the row before `place`
+  -- them; `last` is the front of that one; and where all rows ascend, the key's place is that among those from `place` on
   pub record Walking (rule : Row A → Bool) (m : ℕ) (s : List ℕ) (n : ℕ) (k : List ℕ) (i last place : ℕ) : Type 0 where
     pub inside : i ≤ n
     pub judged : soundFrom rule s n 0 ≡ soundFrom rule s n i
     pub carried : 0 < i → last ≡ front m s (L .width * (i - 1))
-    pub place-inside : place ≤ n
-    pub passed : 0 < place → compareBytes k (part s (L .width * (place - 1)) (L .keyWidth)) ≡ Greater
+    pub place-inside : place ≤ i
+    pub passed : ascending (rows L s n) ≡ true → placeFrom 0 k (rows L s n) ≡ placeFrom place k (drop place (rows L s n))

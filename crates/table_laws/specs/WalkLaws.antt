@@ -1,18 +1,17 @@
 -- Laws of a walk over the rows in lent memory, which the proofs of such loops cite: for any layout, rule and width of a key. In order:
--- places; keys; judging; the rule alone, for a table that judges it in a loop of its own; finding from a row on; rows skipped; the walk
+-- places; keys; judging; the rule alone, for a table that judges it in a loop of its own; finding from a row on; rows passed; the walk
 -- that does both. Assumes nothing.
-use mathlib.Core.Bool.{Bool, true, false, _&&_, cond}
+use mathlib.Core.Bool.{Bool, true, false, _&&_}
 use mathlib.Core.Path.{_≡_, refl, sym, ap, _∙_}
 use mathlib.Core.List.{List, [], _∷_}
+use mathlib.Core.Logic.{_⊎_, inl, inr}
 use Prim.Native.Nat.{ℕ, zero, suc, _+_, _-_, _*_, _<_, _≤_}
 use native.Mathlib.Nat.{mul-suc, mul-le-mul-left}
 use native.Mathlib.Numerals.{add-one}
 use native.Mathlib.Omega.{arith}
-use borrow.Author.Tests.{ltb-true}
-use lib.Dec.{ltb}
 use lib.ListN.{length, drop, getD, drop-of-length-le}
 use lib.Seq.{take-take}
-use Rattle.truths.specs.TruthLaws.{by-test, both-parts, second-fails}
+use Rattle.truths.specs.TruthLaws.{both-parts, second-fails}
 use Rattle.lent_bytes.specs.LentBytes.{part, Bytes}
 use Rattle.lent_bytes.specs.Private.{front}
 use Rattle.lent_bytes.specs.LentBytesLaws.{part-all}
@@ -183,25 +182,32 @@ module _ {A : Type 0} (L : Layout A) where
           → answer ≡ placeFrom (i + 1) k (drop (i + 1) (rows L s n))
       find-goes-on h = from-row ∙ place-later i k (rowAt L s i) (drop (i + 1) (rows L s n)) (rw (key-at fits s i) h)
 
--- ════ Rows skipped ════
-
--- what comes after a key comes after those before that key
-after-earlier : (k a b : List ℕ) → compareBytes a b ≡ Less → compareBytes k b ≡ Greater → compareBytes k a ≡ Greater
-after-earlier k a b h g = less-flip a k (transitive a b k h (greater-flip k b g))
+-- ════ Rows passed ════
 
 module _ {A : Type 0} where
-  -- where the key comes after the p-th of ascending rows, its place is that among the rows behind it
-  pub place-skips : (i p : ℕ) (k : List ℕ) (rs : List (Row A)) (d : Row A) → ascending rs ≡ true → p < length rs
-      → compareBytes k (getD rs p d .key) ≡ Greater → placeFrom i k rs ≡ placeFrom (i + suc p) k (drop (suc p) rs)
-  place-skips i p k [] d order inside after = absurd (omega arith)
-  place-skips i zero k (r ∷ rs) d order inside after = place-later i k r rs after
-  place-skips i (suc p) k (r ∷ rs) d order inside after =
+  -- where a key comes after one of ascending rows, it comes after each up to that one
+  after-earlier : (k : List ℕ) (rs : List (Row A)) (p i : ℕ) (d : Row A) → ascending rs ≡ true → p ≤ i → i < length rs
+      → compareBytes k (getD rs i d .key) ≡ Greater → compareBytes k (getD rs p d .key) ≡ Greater
+  after-earlier k [] p i d order most inside after = absurd (omega arith)
+  after-earlier k (r ∷ rs) zero zero d order most inside after = after
+  after-earlier k (r ∷ rs) (suc p) zero d order most inside after = absurd (omega arith)
+  after-earlier k (r ∷ rs) (suc p) (suc i) d order most inside after =
+      after-earlier k rs p i d (ascending-parts r rs order .1) (omega arith) (omega arith) after
+  after-earlier k (r ∷ rs) zero (suc i) d order most inside after =
       let parts = ascending-parts r rs order in
-      let within : p < length rs = omega arith in
-      let first : compareBytes k (r .key) ≡ Greater =
-      after-earlier k (r .key) (getD rs p d .key) (below-each (r .key) rs p d (parts .0) (parts .1) within) after in
-      place-later i k r rs first ∙ place-skips (i + 1) p k rs d (parts .1) within after
-      ∙ ap (λ (j : ℕ). placeFrom j k (drop (suc p) rs)) (omega arith)
+      let own : List ℕ = getD rs i d .key in
+      let less : compareBytes (r .key) own ≡ Less = below-each (r .key) rs i d (parts .0) (parts .1) (omega arith) in
+      less-flip (r .key) k (transitive (r .key) own k less (greater-flip k own after))
+
+  -- the same in memory
+  after-row : (L : Layout A) → L .keyWidth ≤ L .width → (k s : List ℕ) (n p i : ℕ) → ascending (rows L s n) ≡ true → p ≤ i → i < n
+      → compareBytes k (part s (L .width * i) (L .keyWidth)) ≡ Greater → compareBytes k (part s (L .width * p) (L .keyWidth)) ≡ Greater
+  after-row L fits k s n p i order most inside after =
+      let d : Row A = rowAt L s i in
+      let key : (j : ℕ) → j < n → getD (rows L s n) j d .key ≡ part s (L .width * j) (L .keyWidth) =
+      λ j h. ap (λ (r : Row A). r .key) (getD-rows L s n j d h) ∙ key-at L fits s j in
+      ap (compareBytes k) (sym (key p (omega arith)))
+      ∙ after-earlier k (rows L s n) p i d order most (omega (arith, length-rows L s n)) (ap (compareBytes k) (key i inside) ∙ after)
 
 -- ════ The walk that judges and finds ════
 
@@ -209,7 +215,7 @@ module _ {A : Type 0} (L : Layout A) (rule : Row A → Bool) (m : ℕ) (s : List
   -- before the first row nothing is known
   pub walk-begins : (last : ℕ) → Walking L rule m s n k 0 last 0
   walk-begins last =
-      record { inside = omega arith; judged = refl; carried = λ h. absurd (omega arith); place-inside = omega arith; passed = λ h. absurd (omega arith) }
+      record { inside = omega arith; judged = refl; carried = λ h. absurd (omega arith); place-inside = omega arith; passed = λ order. refl }
 
   -- rows that are not sound from the first on are not sound
   walk-fails : soundFrom L rule s n 0 ≡ false → Unsound ≡ seek rule k (rows L s n)
@@ -236,46 +242,33 @@ module _ {A : Type 0} (L : Layout A) (rule : Row A → Bool) (m : ℕ) (s : List
         front-less m w s (L .width * i) k 0 (on .front-fits) (on .memory-bytes) (on .key-bytes) room (omega (arith, on .key-length)) less in
         less-flip own k (ap (compareBytes own) (sym all) ∙ first)
 
+    -- the same of the row at the place, which is no later: the key's place is among the rows behind it
+    counts : i < n → front m s (L .width * i) < front m k 0 → ascending (rows L s n) ≡ true
+        → placeFrom 0 k (rows L s n) ≡ placeFrom (place + 1) k (drop (place + 1) (rows L s n))
+    counts h less order =
+        find-goes-on L (on .key-fits) k s n (placeFrom 0 k (rows L s n)) place (at .passed order) (omega (arith, at .place-inside))
+        (after-row L (on .key-fits) k s n place i order (at .place-inside) h (passes h less))
+
     module _ (inside : i < n) (ruled : rule (rowAt L s i) ≡ true) (risen : rises (L .width) (L .keyWidth) s i ≡ true)
         (own next : ℕ) (front-is : own ≡ front m s (L .width * i)) where
-      -- the i-th row is sound, and the key comes after the row before the next place
-      stepped : next ≤ n → (0 < next → compareBytes k (part s (L .width * (next - 1)) (L .keyWidth)) ≡ Greater)
+      -- the i-th row is sound, and the key's place is that among the rows from the next place on
+      stepped : (from : ℕ) → next ≡ from → from ≤ i + 1
+          → (ascending (rows L s n) ≡ true → placeFrom 0 k (rows L s n) ≡ placeFrom from k (drop from (rows L s n)))
           → Walking L rule m s n k (i + 1) own next
-      stepped most after =
+      stepped from e most found =
           let back : i ≡ i + 1 - 1 = omega arith in
           record {
             inside = omega arith;
             judged = at .judged ∙ sound-goes-on L (on .key-fits) s n rule i inside ruled risen;
             carried = λ h. front-is ∙ ap (λ (j : ℕ). front m s (L .width * j)) back;
-            place-inside = most;
-            passed = after;
+            place-inside = omega arith;
+            passed = λ order. rw e (found order);
           }
 
-      -- the i-th row is sound: the invariant at the next, where the place is behind the row if its front is below the key's
-      pub walk-goes-on : next ≡ cond (ltb own (front m k 0)) (i + 1) place → Walking L rule m s n k (i + 1) own next
-      walk-goes-on e =
-          by-test (ltb own (front m k 0))
-          (λ t. let moved : next ≡ i + 1 = e ∙ ap (λ (b : Bool). cond b (i + 1) place) t in
-          let back : next - 1 ≡ i = omega arith in
-          let less : front m s (L .width * i) < front m k 0 = omega (arith, ltb-true own (front m k 0) t, front-is) in
-          stepped (omega arith) (λ h. ap (λ (j : ℕ). compareBytes k (part s (L .width * j) (L .keyWidth))) back ∙ passes inside less))
-          (λ t. let stayed : place ≡ next = sym (e ∙ ap (λ (b : Bool). cond b (i + 1) place) t) in
-          stepped (omega (arith, at .place-inside))
-          (λ h. ap (λ (j : ℕ). compareBytes k (part s (L .width * (j - 1)) (L .keyWidth))) (sym stayed) ∙ at .passed (omega arith)))
-
-    -- the place of the key is that among the rows from a row on, if it comes after the one before that
-    skips : (p : ℕ) → ascending (rows L s n) ≡ true → p ≤ n
-        → (0 < p → compareBytes k (part s (L .width * (p - 1)) (L .keyWidth)) ≡ Greater)
-        → placeFrom 0 k (rows L s n) ≡ placeFrom p k (drop p (rows L s n))
-    skips zero order most after = refl
-    skips (suc p) order most after =
-        let back : suc p - 1 ≡ p = omega arith in
-        let key : getD (rows L s n) p (rowAt L s p) .key ≡ part s (L .width * p) (L .keyWidth) =
-        ap (λ (r : Row A). r .key) (getD-rows L s n p (rowAt L s p) (omega arith)) ∙ key-at L (on .key-fits) s p in
-        let greater : compareBytes k (part s (L .width * p) (L .keyWidth)) ≡ Greater =
-        ap (λ (j : ℕ). compareBytes k (part s (L .width * j) (L .keyWidth))) (sym back) ∙ after (omega arith) in
-        place-skips 0 p k (rows L s n) (rowAt L s p) order (omega (arith, length-rows L s n)) (rw key greater)
-        ∙ ap (λ (j : ℕ). placeFrom j k (drop (suc p) (rows L s n))) (omega arith)
+      -- the i-th row is sound: the invariant at the next. The place may stay, and counts the row only where its front is below the key's
+      pub walk-goes-on : ((own < front m k 0) × (next ≡ place + 1)) ⊎ (next ≡ place) → Walking L rule m s n k (i + 1) own next
+      walk-goes-on (inl w) = stepped (place + 1) (w .1) (omega (arith, at .place-inside)) (counts inside (omega (arith, front-is, w .0)))
+      walk-goes-on (inr e) = stepped place e (omega (arith, at .place-inside)) (at .passed)
 
     -- no row is left, and the key was sought from its place on
     pub walk-ends : {r : Seek} → n ≤ i → r ≡ placeFrom place k (drop place (rows L s n)) → r ≡ seek rule k (rows L s n)
@@ -283,4 +276,4 @@ module _ {A : Type 0} (L : Layout A) (rule : Row A → Bool) (m : ℕ) (s : List
     walk-ends h found =
         let sound : (every rule (rows L s n) && ascending (rows L s n)) ≡ true = at .judged ∙ sound-ends L (on .key-fits) s n rule i h in
         let order : ascending (rows L s n) ≡ true = both-parts (every rule (rows L s n)) (ascending (rows L s n)) sound .1 in
-        found ∙ sym (seek-sound rule k (rows L s n) sound ∙ skips place order (at .place-inside) (at .passed))
+        found ∙ sym (seek-sound rule k (rows L s n) sound ∙ at .passed order)

@@ -2,11 +2,10 @@
 -- are left. Assumes nothing.
 use borrow.Author.Needs.{needs}
 use borrow.Author.Tests.{not-true, not-false}
-use mathlib.Core.Bool.{cond}
-use mathlib.Core.Path.{refl, sym, ap, _∙_}
-use Prim.Native.Nat.{ℕ, _+_, _-_}
+use mathlib.Core.Logic.{⊎-elim, inl, inr}
+use mathlib.Core.Path.{refl, sym, _∙_}
+use Prim.Native.Nat.{_-_}
 use native.Mathlib.Omega.{arith}
-use lib.Dec.{ltb}
 use lib.ListN.{length}
 use Rattle.table_laws.specs.Raw.{rawLayout, anyRow}
 use Rattle.table_laws.specs.Walk.{Walkable, Walking}
@@ -60,11 +59,8 @@ returns c = let l = c .before .before .before .before in
     let a = l .before .before .before .before .args in
     walk-breaks-order (rawLayout (length (a .key .now)) (a .width)) anyRow 8 (a .table .now) (a .count) (a .key .now) (on l) (l .loop .i) (l .loop .last) (l .loop .place) (l .loop .inv) (omega arith) (sym (c .before .in-order .ensures) ∙ not-true (c .before .in-order .result) (c .if1 .taken))
 
-add-place-after : tie.Need-add-place-after Inv-loop μ-loop
-add-place-after c = omega arith
-
-place-after-requires : tie.Need-place-after-requires Inv-loop μ-loop
-place-after-requires c κs = search needs
+add-place : tie.Need-add-place Inv-loop μ-loop
+add-place c = omega arith
 
 add-i : tie.Need-add-i Inv-loop μ-loop
 add-i c = omega arith
@@ -75,10 +71,11 @@ loop-less c = omega arith
 loop-again : tie.Need-loop-again Inv-loop μ-loop
 loop-again c = let l = c .before .before .before .before .before in
     let a = l .before .before .before .before .args in
+    let own = c .before .before .before .front-at2 in
     walk-goes-on (rawLayout (length (a .key .now)) (a .width)) anyRow 8 (a .table .now) (a .count) (a .key .now) (on l) (l .loop .i) (l .loop .last) (l .loop .place) (l .loop .inv) (omega arith) refl
     (sym (c .before .before .in-order .ensures) ∙ not-false (c .before .before .in-order .result) (c .before .if1 .left))
-    (c .before .before .before .front-at2 .result) (c .place-after .result) (c .before .before .before .front-at2 .ensures)
-    (c .place-after .ensures ∙ ap (λ (f : ℕ). cond (ltb (c .before .before .before .front-at2 .result) f) (l .loop .i + 1) (l .loop .place)) (l .before .front-at .ensures))
+    (own .result) (c .if2 .place) (own .ensures)
+    (⊎-elim (λ w. inl (omega (arith, l .before .front-at .ensures), w .1)) (λ w. inr (w .1)) (c .if2 .came))
 
 place-from-requires : tie.Need-place-from-requires Inv-loop μ-loop
 place-from-requires c κs = let l = c .before in
@@ -102,8 +99,7 @@ find-spec =
     front-at-requires-2
     in-order-requires
     returns
-    add-place-after
-    place-after-requires
+    add-place
     add-i
     loop-less
     loop-again

@@ -1,12 +1,10 @@
 -- `peer_rows::walk::walked` meets its contract. The invariant is that of `WalkLaws`, with the rule of a peer's row; the measure is how many
 -- rows are left. Assumes nothing.
-use borrow.Author.Needs.{needs}
 use borrow.Author.Tests.{not-true, not-false}
-use mathlib.Core.Bool.{cond}
-use mathlib.Core.Path.{sym, ap, _∙_}
-use Prim.Native.Nat.{ℕ, _+_, _-_}
+use mathlib.Core.Logic.{⊎-elim, inl, inr}
+use mathlib.Core.Path.{sym, _∙_}
+use Prim.Native.Nat.{_-_}
 use native.Mathlib.Omega.{arith}
-use lib.Dec.{ltb}
 use Rattle.table_laws.specs.Walk.{Walkable, Walking}
 use Rattle.table_laws.specs.WalkLaws.{walk-begins, walk-breaks-rule, walk-breaks-order, walk-goes-on, walk-ends}
 use Rattle.table_laws.specs.RawLaws.{place-raw}
@@ -64,11 +62,8 @@ returns-2 c = let l = c .before .before .before .before .before .before in
     let a = l .before .before .before .before .args in
     walk-breaks-order peerLayout (peerSound (a .config)) 8 (a .table .now) (a .count) (a .key .now) (on l) (l .loop .i) (l .loop .last) (l .loop .place) (l .loop .inv) (omega arith) (sym (c .before .in-order .ensures) ∙ not-true (c .before .in-order .result) (c .if2 .taken))
 
-add-place-after : tie.Need-add-place-after Inv-loop μ-loop
-add-place-after c = omega arith
-
-place-after-requires : tie.Need-place-after-requires Inv-loop μ-loop
-place-after-requires c κs = search needs
+add-place : tie.Need-add-place Inv-loop μ-loop
+add-place c = omega arith
 
 add-i : tie.Need-add-i Inv-loop μ-loop
 add-i c = omega arith
@@ -79,11 +74,12 @@ loop-less c = omega arith
 loop-again : tie.Need-loop-again Inv-loop μ-loop
 loop-again c = let l = c .before .before .before .before .before .before .before in
     let a = l .before .before .before .before .args in
+    let own = c .before .before .before .front-at2 in
     walk-goes-on peerLayout (peerSound (a .config)) 8 (a .table .now) (a .count) (a .key .now) (on l) (l .loop .i) (l .loop .last) (l .loop .place) (l .loop .inv) (omega arith)
     (sym (c .before .before .before .before .before .row-sound .ensures) ∙ not-false (c .before .before .before .before .before .row-sound .result) (c .before .before .before .before .if1 .left))
     (sym (c .before .before .in-order .ensures) ∙ not-false (c .before .before .in-order .result) (c .before .if2 .left))
-    (c .before .before .before .front-at2 .result) (c .place-after .result) (c .before .before .before .front-at2 .ensures)
-    (c .place-after .ensures ∙ ap (λ (f : ℕ). cond (ltb (c .before .before .before .front-at2 .result) f) (l .loop .i + 1) (l .loop .place)) (l .before .front-at .ensures))
+    (own .result) (c .if3 .place) (own .ensures)
+    (⊎-elim (λ w. inl (omega (arith, l .before .front-at .ensures), w .1)) (λ w. inr (w .1)) (c .if3 .came))
 
 place-from-requires : tie.Need-place-from-requires Inv-loop μ-loop
 place-from-requires c κs = omega arith
@@ -107,8 +103,7 @@ walked-spec =
     front-at-requires-2
     in-order-requires
     returns-2
-    add-place-after
-    place-after-requires
+    add-place
     add-i
     loop-less
     loop-again
