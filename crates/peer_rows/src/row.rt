@@ -129,10 +129,10 @@ pub(crate) fn row_sound(config: PeerMessagePolicyConfig, table: &[u8], at: usize
     if get_u64(table, at + BYTES_PLACE) > burst_bytes {
         return false;
     }
-    if get_u64(table, at + VIOLATIONS_PLACE) > 0xffff_ffff {
-        return false;
-    }
-    if get_u64(table, at + INVALID_PLACE) > 0xffff_ffff {
+    // Both counts are read before either is judged, so that LLVM joins the tests: one `or` of the high halves, one branch.
+    let violations = get_u64(table, at + VIOLATIONS_PLACE);
+    let invalid = get_u64(table, at + INVALID_PLACE);
+    if violations > 0xffff_ffff || invalid > 0xffff_ffff {
         return false;
     }
     ban_sound(table, at + BAN_PLACE)
