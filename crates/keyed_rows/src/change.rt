@@ -9,9 +9,9 @@ use super::find::place_of;
 use table::seek::Seek;
 
 // Stores the numbers under the key: over the row of that key, or in a row put in where the key belongs. Answers how many rows there
-// are then.
+// are then. Keys have eight bytes at least.
 pub fn store(table: &mut [u8], width: usize, count: usize, key: &[u8], words: &[u64]) -> usize
-    requires { ⌜ (0 < width) × (length (now key) + 8 * length (now words) ≡ width) ⌝ }
+    requires { ⌜ (8 ≤ length (now key)) × (length (now key) + 8 * length (now words) ≡ width) ⌝ }
     requires { ⌜ width * (count + 1) ≤ length (now table) ⌝ }
     ensures { λ r. ⌜ RawStored width (now (table .entry)) (now (table .exit)) count r (now (key .entry)) (wordBytes (now (words .entry))) ⌝ }
 {

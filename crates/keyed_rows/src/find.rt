@@ -41,13 +41,23 @@ pub fn place_from(table: &[u8], width: usize, count: usize, key: &[u8], from: us
     Seek::Gap(i)
 }
 
-// Where the key stands or would stand, without judging the rows.
+// Where the key stands or would stand, without judging the rows: a key comes after the rows whose fronts are below its own, so these
+// are passed by eight bytes each, up to the first that is not. From there on it is compared in full. Keys have eight bytes at least.
 pub fn place_of(table: &[u8], width: usize, count: usize, key: &[u8]) -> Seek
-    requires { ⌜ length (now key) ≤ width ⌝ }
+    requires { ⌜ (8 ≤ length (now key)) × (length (now key) ≤ width) ⌝ }
     requires { ⌜ width * count ≤ length (now table) ⌝ }
     ensures { λ r. ⌜ r ≡ placeFrom 0 (now (key .entry)) (rows (rawLayout (length (now (key .entry))) width) (now (table .entry)) count) ⌝ }
 {
-    place_from(table, width, count, key, 0)
+    let key_front = front_at(key, 0);
+    let mut i: usize = 0;
+    while i < count {
+        let own = front_at(table, width * i);
+        if own >= key_front {
+            break;
+        }
+        i += 1;
+    }
+    place_from(table, width, count, key, i)
 }
 
 // Whether the row at the index comes after the one before it, if there is one. `own` and `last` are the fronts of both: where they

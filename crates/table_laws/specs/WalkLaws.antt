@@ -1,6 +1,6 @@
 -- Laws of a walk over the rows in lent memory, which the proofs of such loops cite: for any layout, rule and width of a key. In order:
--- places; keys; judging; the rule alone, for a table that judges it in a loop of its own; finding from a row on; rows passed; the walk
--- that does both. Assumes nothing.
+-- places; keys; judging; the rule alone, for a table that judges it in a loop of its own; finding from a row on; rows whose fronts are
+-- below the key's; rows passed, where they ascend; the walk that does both. Assumes nothing.
 use mathlib.Core.Bool.{Bool, true, false, _&&_}
 use mathlib.Core.Path.{_≡_, refl, sym, ap, _∙_}
 use mathlib.Core.List.{List, [], _∷_}
@@ -182,7 +182,27 @@ module _ {A : Type 0} (L : Layout A) where
           → answer ≡ placeFrom (i + 1) k (drop (i + 1) (rows L s n))
       find-goes-on h = from-row ∙ place-later i k (rowAt L s i) (drop (i + 1) (rows L s n)) (rw (key-at fits s i) h)
 
--- ════ Rows passed ════
+-- ════ Rows whose fronts are below the key's ════
+
+module _ {A : Type 0} (L : Layout A) (m : ℕ) (s : List ℕ) (n : ℕ) (k : List ℕ) (on : Walkable L m s n k) (i : ℕ) (inside : i < n)
+    (less : front m s (L .width * i) < front m k 0) where
+  -- the key comes after such a row
+  passes : compareBytes k (part s (L .width * i) (L .keyWidth)) ≡ Greater
+  passes =
+      let w : ℕ = L .keyWidth in
+      let own : List ℕ = part s (L .width * i) w in
+      let all : part k 0 w ≡ k = ap (part k 0) (sym (on .key-length)) ∙ part-all k in
+      let room : L .width * i + w ≤ length s = omega (arith, row-in (L .width) i n (length s) inside (on .rows-fit), on .key-fits) in
+      let first : compareBytes own (part k 0 w) ≡ Less =
+      front-less m w s (L .width * i) k 0 (on .front-fits) (on .memory-bytes) (on .key-bytes) room (omega (arith, on .key-length)) less in
+      less-flip own k (ap (compareBytes own) (sym all) ∙ first)
+
+  -- so a search goes on behind it, whatever the order of the rows
+  pub find-passes : (answer : Seek) → answer ≡ placeFrom i k (drop i (rows L s n))
+      → answer ≡ placeFrom (i + 1) k (drop (i + 1) (rows L s n))
+  find-passes answer from = find-goes-on L (on .key-fits) k s n answer i from inside passes
+
+-- ════ Rows passed, where they ascend ════
 
 module _ {A : Type 0} where
   -- where a key comes after one of ascending rows, it comes after each up to that one
@@ -231,23 +251,12 @@ module _ {A : Type 0} (L : Layout A) (rule : Row A → Bool) (m : ℕ) (s : List
     pub walk-breaks-order : i < n → rises (L .width) (L .keyWidth) s i ≡ false → Unsound ≡ seek rule k (rows L s n)
     walk-breaks-order h broken = walk-fails (at .judged ∙ sound-breaks-order L (on .key-fits) s n rule i h broken)
 
-    -- the key comes after a row whose front is below the key's
-    passes : i < n → front m s (L .width * i) < front m k 0 → compareBytes k (part s (L .width * i) (L .keyWidth)) ≡ Greater
-    passes h less =
-        let w : ℕ = L .keyWidth in
-        let own : List ℕ = part s (L .width * i) w in
-        let all : part k 0 w ≡ k = ap (part k 0) (sym (on .key-length)) ∙ part-all k in
-        let room : L .width * i + w ≤ length s = omega (arith, row-in (L .width) i n (length s) h (on .rows-fit), on .key-fits) in
-        let first : compareBytes own (part k 0 w) ≡ Less =
-        front-less m w s (L .width * i) k 0 (on .front-fits) (on .memory-bytes) (on .key-bytes) room (omega (arith, on .key-length)) less in
-        less-flip own k (ap (compareBytes own) (sym all) ∙ first)
-
-    -- the same of the row at the place, which is no later: the key's place is among the rows behind it
+    -- the key comes after a row whose front is below its own, so after the one at the place, which is no later: it is sought behind that
     counts : i < n → front m s (L .width * i) < front m k 0 → ascending (rows L s n) ≡ true
         → placeFrom 0 k (rows L s n) ≡ placeFrom (place + 1) k (drop (place + 1) (rows L s n))
     counts h less order =
         find-goes-on L (on .key-fits) k s n (placeFrom 0 k (rows L s n)) place (at .passed order) (omega (arith, at .place-inside))
-        (after-row L (on .key-fits) k s n place i order (at .place-inside) h (passes h less))
+        (after-row L (on .key-fits) k s n place i order (at .place-inside) h (passes L m s n k on i h less))
 
     module _ (inside : i < n) (ruled : rule (rowAt L s i) ≡ true) (risen : rises (L .width) (L .keyWidth) s i ≡ true)
         (own next : ℕ) (front-is : own ≡ front m s (L .width * i)) where
