@@ -1,12 +1,9 @@
 // The exported functions: a policy is made of the words, the proved call is called, and its answer is left.
 ghost use mathlib.Core.Path.{_≡_};
-ghost use Rattle.peer_message_policy.specs.Calls.{AdmitMeets};
-ghost use Rattle.c_words.specs.Words.{policyOf};
 ghost use Rattle.c_peers.specs.Exported.{keyOf, NewExported, AdmitExported, AdmitExplainedExported, RecordInvalidExported, IsBannedExported, OnDisconnectedExported, ReleaseIngressExported, InFlightExported, HeldTimeExported};
 use c_words::answers;
 use c_words::cause;
 use c_words::words;
-use peer_message_policy::answer::Admission;
 use peer_message_policy::answer::HeldTime;
 use peer_message_policy::answer::InFlight;
 use peer_message_policy::policy::PeerMessagePolicy;
@@ -27,22 +24,7 @@ pub extern "C" fn uglezmir_new(longs: &mut [u64; 8], shorts: &mut [u32; 4], tabl
     words::leave(longs, shorts, answers::numbered_made(answer))
 }
 
-fn admitted(
-    longs: &[u64; 8],
-    shorts: &[u32; 4],
-    table: &mut [u8],
-    peer: &[u8; 33],
-    bytes: u64,
-    now_ms: u64,
-) -> Admission
-    ensures { λ r. ⌜ AdmitMeets (policyOf (now (longs .entry)) (now (shorts .entry))) (now (table .entry)) (keyOf (now (peer .entry))) bytes «now_ms» r (now (table .exit)) ⌝ }
-{
-    let p = words::policy_of(longs, shorts);
-    let key = key_of(peer);
-    p.admit(table, key, bytes, now_ms)
-}
-
-// The Rust's answer.
+// The Rust's answer. The cause is left aside: one function has the call compiled into it, not two.
 #[no_mangle]
 pub extern "C" fn uglezmir_admit(
     longs: &mut [u64; 8],
@@ -54,8 +36,8 @@ pub extern "C" fn uglezmir_admit(
 ) -> u32
     ensures { λ r. ⌜ AdmitExported (now (longs .entry)) (now (shorts .entry)) (now (table .entry)) (now (peer .entry)) bytes «now_ms» r (now (longs .exit)) (now (shorts .exit)) (now (table .exit)) ⌝ }
 {
-    let answer = admitted(longs, shorts, table, peer, bytes, now_ms);
-    words::leave(longs, shorts, answers::numbered_admission(answer.merge()))
+    let mut cause: [u64; 2] = [0, 0];
+    uglezmir_admit_explained(longs, shorts, table, peer, bytes, now_ms, &mut cause)
 }
 
 // The same, and the cause is left in `cause`: its number, and by how much its limit ran short.
@@ -71,7 +53,9 @@ pub extern "C" fn uglezmir_admit_explained(
 ) -> u32
     ensures { λ r. ⌜ AdmitExplainedExported (now (longs .entry)) (now (shorts .entry)) (now (table .entry)) (now (peer .entry)) bytes «now_ms» (now (cause .entry)) r (now (longs .exit)) (now (shorts .exit)) (now (table .exit)) (now (cause .exit)) ⌝ }
 {
-    let answer = admitted(longs, shorts, table, peer, bytes, now_ms);
+    let p = words::policy_of(longs, shorts);
+    let key = key_of(peer);
+    let answer = p.admit(table, key, bytes, now_ms);
     let why = answer.cause;
     cause::leave(cause, why);
     words::leave(longs, shorts, answers::numbered_admission(answer.merge()))

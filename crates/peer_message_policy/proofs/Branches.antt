@@ -1,5 +1,5 @@
 -- The ways out of each call: what it answers and leaves is its outcome. Over plain values. Assumes nothing.
-use mathlib.Core.Path.{_≡_, refl, sym, ap, subst}
+use mathlib.Core.Path.{_≡_, refl, sym, ap}
 use mathlib.Core.Bool.{true, false, _&&_}
 use mathlib.Core.List.{List}
 use mathlib.Core.Option.{none, some}
@@ -7,25 +7,19 @@ use Prim.Native.Nat.{ℕ, _≤_}
 use native.Mathlib.Nat.{max-eq-left, max-eq-right}
 use borrow.Author.Tests.{ltb-true, lt-leb}
 use lib.Dec.{eqb, ltb, leb}
-use lib.ListN.{length}
-use Rattle.truths.specs.TruthLaws.{by-test, both-parts}
+use Rattle.truths.specs.TruthLaws.{both-parts}
 use Rattle.pubkey.specs.declared.Pubkey.{Pubkey}
 use Rattle.refusal.specs.Refusal.{unsound}
-use Rattle.table.specs.Table.{ascending, look, store, erase}
-use Rattle.peer_settings.specs.declared.config.PeerMessagePolicyConfig.{PeerMessagePolicyConfig}
+use Rattle.table.specs.Table.{look, store, erase}
 use Rattle.peer_state.specs.declared.entry.PeerMessagePolicyEntry.{PeerMessagePolicyEntry}
-use Rattle.peer_state.specs.declared.ingress.FiberIngressBudget.{FiberIngressBudget}
 use Rattle.peer_verdict.specs.declared.verdict.Cause.the-variants as Cause
 use Rattle.peer_verdict.specs.declared.verdict.Decision.{Decision}
 use Rattle.peer_verdict.specs.declared.verdict.InvalidCause.the-variants as InvalidCause
 use Rattle.peer_verdict.specs.declared.verdict.InvalidDecision.{InvalidDecision}
-use Rattle.peer_settings.specs.Config.{limit}
-use Rattle.peer_state.specs.Entry.{entryNew, entryIsBanned, entryIsSpent, entryExpireWindows}
+use Rattle.peer_state.specs.Entry.{entryIsBanned, entryIsSpent, entryExpireWindows}
 use Rattle.peer_state.specs.Ingress.{tryReserve}
-use Rattle.peer_state.specs.Private.{entryToUpdate}
 use Rattle.peer_verdict.specs.Verdict.{decision, invalidDecision, refuses}
 use Rattle.peer_rows.specs.Rows.{Peers}
-use Rattle.peer_table.specs.Room.{makeRoom}
 use Rattle.peer_message_policy.specs.declared.policy.PeerMessagePolicy.{PeerMessagePolicy}
 use Rattle.peer_message_policy.specs.declared.answer.Standing.{Standing}
 use Rattle.peer_message_policy.specs.declared.answer.Standing.the-variants as Standing
@@ -37,33 +31,6 @@ use Rattle.peer_message_policy.specs.Policy.{rowsOf, sound, carriedOut, 
 use Rattle.peer_message_policy.specs.Calls.{admissionOf, invalidOf, admitOutcome, AdmitMeets, recordInvalidOutcome, RecordInvalidMeets}
 use Rattle.peer_message_policy.specs.Calls.{isBannedOutcome, IsBannedMeets, onDisconnectedOutcome, OnDisconnectedMeets, HeldTimeMeets}
 use Rattle.peer_message_policy.specs.Private.{Left}
-use Rattle.peer_message_policy.specs.UpdateLaws.{spent-in-place}
-
--- ════ What is judged ════
-
--- a call goes on with this entry, and what it stores is stored as among all rows
-pub record GoesOn (c : PeerMessagePolicyConfig) (now : ℕ) (rs : Peers) (k : List ℕ) (x : PeerMessagePolicyEntry) : Type 0 where
-  pub among : Peers
-  pub found : entryForUpdate c now rs k (look k rs) ≡ update x among
-  pub stores : (e : PeerMessagePolicyEntry) → store k e among ≡ store k e rs
-
--- a known peer that is not banned is judged on its entry, or on a new one, which is stored in its place
-pub update-known : (c : PeerMessagePolicyConfig) (now : ℕ) (rs : Peers) (k : List ℕ) → length rs ≤ limit c → ascending rs ≡ true → (e : PeerMessagePolicyEntry) → look k rs ≡ some e → entryIsBanned e now ≡ false → (x : PeerMessagePolicyEntry) → x ≡ entryToUpdate c e now → GoesOn c now rs k x
-unfolding entryForUpdate
-update-known c now rs k few order e found free x v =
-    by-test (entryIsSpent e now)
-    (λ spent.
-    record { among = makeRoom c now (erase k rs); found = rw (v, found, free, spent); stores = spent-in-place c now k rs few order found })
-    (λ unspent. record { among = rs; found = rw (v, found, free, unspent); stores = λ y. refl })
-
--- a peer without a row on a new one, and gets room
-pub update-new : (c : PeerMessagePolicyConfig) (now : ℕ) (rs : Peers) (k : List ℕ) → look k rs ≡ none → (x : PeerMessagePolicyEntry) → x ≡ entryNew c now → entryForUpdate c now rs k (look k rs) ≡ update x (makeRoom c now rs)
-unfolding entryForUpdate
-update-new c now rs k missing x v = rw (v, missing)
-
--- rows that are equal are left
-pub left-same : {p q : PeerMessagePolicy} {i : FiberIngressBudget} {s t : List ℕ} {rs xs : Peers} → xs ≡ rs → Left p i s rs q t → Left p i s xs q t
-left-same {p} {q} {i} {s} {t} e h = subst (λ (l : Peers). Left p i s l q t) (sym e) h
 
 -- ════ Admit ════
 

@@ -2,15 +2,20 @@
 -- values. Assumes nothing.
 use mathlib.Core.Path.{_≡_, refl, sym, ap, _∙_}
 use mathlib.Core.Bool.{true, false}
-use mathlib.Core.List.{List}
+use mathlib.Core.List.{List, [], _∷_}
+use mathlib.Core.Logic.{⊎-elim}
 use mathlib.Core.Option.{none, some}
 use Prim.Native.Nat.{ℕ, _+_, _*_, _≤_, _<_}
 use native.Mathlib.Omega.{arith}
 use borrow.Author.Tests.{leb-true}
 use lib.Dec.{leb}
 use lib.ListN.{length}
+use types.Run.{OneOf}
+use denote.Enum.Declared.{tagOf}
 use Rattle.truths.specs.TruthLaws.{both-parts, chosen}
+use Rattle.table.specs.declared.seek.Seek.{Seek}
 use Rattle.table.specs.declared.seek.Seek.the-variants.{Unsound, At, Gap}
+use Rattle.table.proofs.seek.Seek.{the-type as seek-type}
 use Rattle.table.specs.Table.{ascending, look}
 use Rattle.table.specs.PlaceLaws.{gap-look}
 use Rattle.table.specs.MemoryLaws.{length-rows}
@@ -28,7 +33,7 @@ use Rattle.peer_rows.specs.Private.{entryAt}
 use Rattle.peer_message_policy.specs.declared.policy.PeerMessagePolicy.{PeerMessagePolicy}
 use Rattle.peer_message_policy.specs.Policy.{rowsOf, policySound, sound}
 use Rattle.peer_message_policy.specs.Private.{soughtIn}
-use Rattle.peer_message_policy.specs.Private.{Known, Unknown}
+use Rattle.peer_message_policy.specs.Private.{Found, Known, Unknown}
 
 -- ════ A policy and its memory as a lent table ════
 
@@ -66,6 +71,12 @@ module _ (p : PeerMessagePolicy) (s k : List ℕ) where
   sought-unknown h =
       let j = laws.sought-unknown peerLayout (peerSound (p .config)) (policySound p) (limit (p .config)) s (p .rows) k h in
       record { is-sound = sound-lent p s ∙ j .is-sound; place = j .place }
+
+  -- any answer but Unsound, which has the tag 0: the peer's row is there, or would stand there
+  pub sought-found : (f : Seek) → soughtIn p s k ≡ f → OneOf (1 ∷ 2 ∷ []) (tagOf seek-type f) → Found p s k f
+  sought-found (At i) h t = sought-known h
+  sought-found (Gap i) h t = sought-unknown h
+  sought-found Unsound h t = absurd (⊎-elim (λ (e : 0 ≡ 1). omega arith) (λ (e : 0 ≡ 2). omega arith) t)
 
 -- ════ What soundness says ════
 

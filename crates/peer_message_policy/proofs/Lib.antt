@@ -1,3 +1,4 @@
 pub mod Judged
 pub mod Branches
+pub mod Found
 pub mod Changes

@@ -101,14 +101,13 @@ impl PeerMessagePolicy {
         ensures { λ r. ⌜ AdmitMeets self (now (table .entry)) peer bytes «now_ms» r (now (table .exit)) ⌝ }
     {
         let found = judge::sought(self, table, peer);
-        match found {
-            Seek::Unsound => Admission {
+        if let Seek::Unsound = found {
+            return Admission {
                 cause: Cause::Refused(refusal::UNSOUND),
                 policy: self,
-            },
-            Seek::At(index) => calls::admit_known(self, table, peer, index, bytes, now_ms),
-            Seek::Gap(gap) => calls::admit_new(self, table, peer, gap, bytes, now_ms),
+            };
         }
+        calls::admit_found(self, table, peer, found, bytes, now_ms)
     }
 
     // Counts a message that turned out to be invalid.
@@ -116,14 +115,13 @@ impl PeerMessagePolicy {
         ensures { λ r. ⌜ RecordInvalidMeets self (now (table .entry)) peer «now_ms» r (now (table .exit)) ⌝ }
     {
         let found = judge::sought(self, table, peer);
-        match found {
-            Seek::Unsound => Invalid {
+        if let Seek::Unsound = found {
+            return Invalid {
                 cause: InvalidCause::Refused(refusal::UNSOUND),
                 policy: self,
-            },
-            Seek::At(index) => calls::invalid_known(self, table, peer, index, now_ms),
-            Seek::Gap(gap) => calls::invalid_new(self, table, peer, gap, now_ms),
+            };
         }
+        calls::invalid_found(self, table, peer, found, now_ms)
     }
 
     // Whether a peer is banned. A ban that is over is forgotten, with its peer's row.

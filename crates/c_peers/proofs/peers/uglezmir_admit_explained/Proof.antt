@@ -3,8 +3,14 @@ use borrow.Author.Needs.{needs}
 use Rattle.c_peers.proofs.peers.uglezmir_admit_explained.Statement.{statement}
 use Rattle.c_peers.proofs.peers.uglezmir_admit_explained.Tie as tie
 
-admitted-requires : tie.Need-admitted-requires
-admitted-requires c κs = search needs
+policy-of-requires : tie.Need-policy-of-requires
+policy-of-requires c κs = search needs
+
+key-of-requires : tie.Need-key-of-requires
+key-of-requires c κs = search needs
+
+admit-requires : tie.Need-admit-requires
+admit-requires c κs = search needs
 
 leave-requires : tie.Need-leave-requires
 leave-requires c κs = search needs
@@ -27,8 +33,8 @@ returns c =
     let cause-left = at-merge .before .before .before in
     let called = cause-left .before .before .before .before in
     record {
-      answer = called .admitted .result;
-      met = called .admitted .ensures;
+      answer = called .admit .result;
+      met = rw (called .before .before .before .policy-of .ensures, called .before .before .key-of .ensures) at (called .admit .ensures);
       leaves = (rw (c .before .numbered-admission .ensures, at-merge .merge .ensures) at (c .leave2 .ensures), cause-left .leave .ensures);
     }
 
@@ -36,7 +42,9 @@ pub uglezmir-admit-explained-spec : {M : Type 1} → statement M
 uglezmir-admit-explained-spec =
     tie.close
     (tie.spec
-    admitted-requires
+    policy-of-requires
+    key-of-requires
+    admit-requires
     leave-requires
     merge-requires
     numbered-admission-requires
