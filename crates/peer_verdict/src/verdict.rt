@@ -213,19 +213,21 @@ fn violated(
     }
 }
 
-// Both buckets pass, and `charged` is the entry after their takes: where the ceiling has no room it is thrown away.
+// Both buckets pass, and these are their charged copies: where the ceiling has no room they are thrown away.
 fn ceiling_decides(
     ingress: FiberIngressBudget,
     entry: PeerMessagePolicyEntry,
-    charged: PeerMessagePolicyEntry,
+    messages: DiscreteTokenBucket,
+    bytes: ByteTokenBucket,
     reservation: Reservation,
 ) -> Decision
-    ensures { λ r. ⌜ r ≡ ceilingDecides ingress entry charged reservation ⌝ }
+    requires { ⌜ natural (value (bytes .«available_bytes»)) < 18446744073709551616 ⌝ }
+    ensures { λ r. ⌜ r ≡ ceilingDecides ingress entry (withBuckets entry messages bytes) reservation ⌝ }
 {
     match reservation {
         Reservation::Reserved(after) => Decision {
             cause: Cause::Allowed,
-            entry: charged,
+            entry: with_buckets(entry, messages, bytes),
             ingress: after,
         },
         Reservation::NoSlot => Decision {
@@ -273,15 +275,14 @@ pub fn decide(
     }
     let byte_level = used.bytes;
     let bytes = take_bytes(config, byte_level, size, now_ms);
-    let message_bucket = messages.bucket;
-    let byte_bucket = bytes.bucket;
-    let charged = with_buckets(used, message_bucket, byte_bucket);
     let byte_answer = bytes.answer;
     if !passes(byte_answer) {
         let cause = Cause::Short(Shortage::Bytes(missing(byte_answer)));
         return violated(config, ingress, used, now_ms, cause);
     }
-    ceiling_decides(ingress, used, charged, reservation)
+    let message_bucket = messages.bucket;
+    let byte_bucket = bytes.bucket;
+    ceiling_decides(ingress, used, message_bucket, byte_bucket, reservation)
 }
 
 // An invalid message on an entry that is not banned: it is counted in a window of its own, and may begin a ban too.

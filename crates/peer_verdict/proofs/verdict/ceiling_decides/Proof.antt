@@ -6,6 +6,9 @@ use Rattle.peer_verdict.proofs.verdict.ceiling_decides.Tie as tie
 enum-known-reservation : tie.Need-enum-known-reservation
 enum-known-reservation c = search needs
 
+with-buckets-requires : tie.Need-with-buckets-requires
+with-buckets-requires c κs = search needs
+
 enum-told : tie.Need-enum-told
 enum-told c = search needs
 
@@ -16,7 +19,7 @@ enum-known-reservation-3 : tie.Need-enum-known-reservation-3
 enum-known-reservation-3 c = search needs
 
 returns : tie.Need-returns
-returns c = rw (c .before .reservation .given .1)
+returns c = rw (c .before .before .reservation .given .1, c .with-buckets .ensures)
 
 returns-2 : tie.Need-returns-2
 returns-2 c = rw (c .enum-told .given .1)
@@ -32,6 +35,7 @@ ceiling-decides-spec =
     tie.close
     (tie.spec
     enum-known-reservation
+    with-buckets-requires
     enum-told
     enum-known-reservation-2
     enum-known-reservation-3

@@ -36,17 +36,6 @@ take-bytes-requires c κs =
     let at-used = c .before .before .before .before .before in
     rw (at-used .used .ensures) (used-holds _ _ (sound-holds (at-used .before .pre)) .bytes)
 
-with-buckets-requires : tie.Need-with-buckets-requires
-with-buckets-requires c κs =
-    let at-used = c .before .before .before .before .before .before .before .before in
-    let begin = at-used .before in
-    let a = begin .args in
-    let holds : EntryHolds (a .config) (at-used .used .result) =
-    rw (at-used .used .ensures) (used-holds _ _ (sound-holds (begin .pre)))
-    in
-    rw (c .before .before .take-bytes .ensures)
-    (omega (arith, begin .good, bytes-level (a .config) (at-used .used .result .bytes) (a .size) (a .now-ms) (holds .bytes)))
-
 passes-requires-2 : tie.Need-passes-requires-2
 passes-requires-2 c κs = search needs
 
@@ -62,7 +51,7 @@ returns-2 c =
     let at-missing = c .before in
     let at-if2 = at-missing .before in
     let at-passes2 = at-if2 .before in
-    let at-take-bytes = at-passes2 .before .before .before .before in
+    let at-take-bytes = at-passes2 .before in
     let at-if1 = at-take-bytes .before .before in
     let at-passes = at-if1 .before in
     let at-take-message = at-passes .before in
@@ -70,20 +59,28 @@ returns-2 c =
     rw (← at-used .used .ensures, c .violated2 .ensures, at-missing .missing .ensures, rw (at-take-message .take-message .ensures) at (sym (at-passes .passes .ensures) ∙ not-false (at-passes .passes .result) (at-if1 .if1 .left)), rw (at-take-bytes .take-bytes .ensures) at (sym (at-passes2 .passes2 .ensures) ∙ not-true (at-passes2 .passes2 .result) (at-if2 .if2 .taken)), at-take-bytes .take-bytes .ensures)
 
 ceiling-decides-requires : tie.Need-ceiling-decides-requires
-ceiling-decides-requires c κs = search needs
+ceiling-decides-requires c κs =
+    let at-take-bytes = c .before .before .before .before in
+    let at-used = at-take-bytes .before .before .before .before .before .before in
+    let begin = at-used .before in
+    let a = begin .args in
+    let holds : EntryHolds (a .config) (at-used .used .result) =
+    rw (at-used .used .ensures) (used-holds _ _ (sound-holds (begin .pre)))
+    in
+    rw (at-take-bytes .take-bytes .ensures)
+    (omega (arith, begin .good, bytes-level (a .config) (at-used .used .result .bytes) (a .size) (a .now-ms) (holds .bytes)))
 
 returns-3 : tie.Need-returns-3
 unfolding decision
 returns-3 c =
-    let at-if2 = c .before in
+    let at-if2 = c .before .before .before in
     let at-passes2 = at-if2 .before in
-    let at-with-buckets = at-passes2 .before in
-    let at-take-bytes = at-with-buckets .before .before .before in
+    let at-take-bytes = at-passes2 .before in
     let at-if1 = at-take-bytes .before .before in
     let at-passes = at-if1 .before in
     let at-take-message = at-passes .before in
     let at-used = at-take-message .before .before in
-    rw (← at-used .used .ensures, c .ceiling-decides .ensures, at-with-buckets .with-buckets .ensures, at-take-bytes .take-bytes .ensures, at-take-message .take-message .ensures, rw (at-take-message .take-message .ensures) at (sym (at-passes .passes .ensures) ∙ not-false (at-passes .passes .result) (at-if1 .if1 .left)), rw (at-take-bytes .take-bytes .ensures) at (sym (at-passes2 .passes2 .ensures) ∙ not-false (at-passes2 .passes2 .result) (at-if2 .if2 .left)))
+    rw (← at-used .used .ensures, c .ceiling-decides .ensures, at-take-bytes .take-bytes .ensures, at-take-message .take-message .ensures, rw (at-take-message .take-message .ensures) at (sym (at-passes .passes .ensures) ∙ not-false (at-passes .passes .result) (at-if1 .if1 .left)), rw (at-take-bytes .take-bytes .ensures) at (sym (at-passes2 .passes2 .ensures) ∙ not-false (at-passes2 .passes2 .result) (at-if2 .if2 .left)))
 
 pub decide-spec : {M : Type 1} → statement M
 decide-spec =
@@ -95,7 +92,6 @@ decide-spec =
     violated-requires
     returns
     take-bytes-requires
-    with-buckets-requires
     passes-requires-2
     missing-requires
     violated-requires-2
