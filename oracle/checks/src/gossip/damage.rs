@@ -212,12 +212,12 @@ fn damage_making(harm: Harm, table: usize, chosen: u64, call: &mut GossipCall, l
     lent.words = with_anything_unread(call, &lent.words, chosen);
     let shapes = call.subject.shapes();
     if let Harm::MakingLimit = harm {
-        lent.words.longs[LIMIT] = if chosen % 3 == 0 {
+        lent.words.longs[LIMIT] = if chosen.is_multiple_of(3) {
             u64::MAX - chosen
         } else {
             1_025 + chosen % 7
         };
-        if chosen % 2 == 0 {
+        if chosen.is_multiple_of(2) {
             lent.tables[0].clear();
         }
         return Harmed::Refused(2);

@@ -14,8 +14,8 @@ pub fn lengthened(mut input: Vec<u8>, length: usize) -> Vec<u8> {
     while input.len() + long.len() + 12 <= length {
         input.extend_from_slice(long);
     }
-    while input.len() + 12 <= length || input.len() + 4 <= length && (length - input.len()) % 4 == 0 {
-        let line: &[u8] = if (length - input.len()) % 4 == 0 {
+    while input.len() + 12 <= length || input.len() + 4 <= length && (length - input.len()).is_multiple_of(4) {
+        let line: &[u8] = if (length - input.len()).is_multiple_of(4) {
             b"r 0\n"
         } else {
             b"r 10\n"
