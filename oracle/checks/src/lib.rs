@@ -2,7 +2,7 @@
 //!
 //! `calls` makes traces up, `both_sides` runs one and compares after each call, `compare` runs many of them,
 //! `shrink` makes a mismatch small, `show` writes it down. `gossip` is the gossip policy's part, `snapshots` that of the snapshots.
-//! `lists` are the recorded answers, `mutants` the edits of the self-test.
+//! `lists` are the recorded answers, `mutants` the edits of the self-test, `walk` the yardstick of the bench.
 
 pub mod amounts;
 pub mod both_sides;
@@ -20,4 +20,5 @@ pub mod shrink;
 pub mod snapshots;
 pub mod tally;
 pub mod trace;
+pub mod walk;
 pub mod watch;
