@@ -20,7 +20,7 @@ const USAGE: &str = "usage:
   oracle replay FILE               run a trace that compare printed
   oracle mutants [CALLS SEED]      the self-test on edited copies of the Rust
   oracle record [FOLDER]           write the lists of recorded answers
-  oracle bench                     time both sides on two traces";
+  oracle bench [PLOT.svg]          time both sides; draw how an admit's time grows";
 
 /// Calls for each edited copy, and their seed.
 const MUTANT_RUN: (u64, u64) = (200_000, 1);
@@ -36,7 +36,8 @@ fn main() -> ExitCode {
         ["mutants", calls, seed] => with_numbers(calls, seed, self_test),
         ["record"] => record::run(&oracle_folder().join("..")),
         ["record", folder] => record::run(Path::new(folder)),
-        ["bench"] => bench::run(&PORT),
+        ["bench"] => bench::run(&PORT, None),
+        ["bench", picture] => bench::run(&PORT, Some(picture)),
         _ => usage(),
     }
 }

@@ -1,11 +1,11 @@
 //! Times calls of the gossip policy on both sides, each over 16 and over 1,024 rows, all of which are asked about.
 
-use super::{median, processor_time, FIRST_TIME, RUNS, SEED};
+use super::clock::{median, time_each, RUNS};
+use super::trace::{FIRST_TIME, SEED};
 use checks::dice::Dice;
 use original::UnchangedRust;
-use std::hint::black_box;
 use vocabulary::gossip::*;
-use vocabulary::{Amount, Answer, ByteBucket, GossipCall, GossipRow, GossipState, LongKey, Original, Port, Subject};
+use vocabulary::{Amount, ByteBucket, GossipCall, GossipRow, GossipState, LongKey, Original, Port, Subject};
 
 const CALLS: usize = 10_000;
 
@@ -78,15 +78,6 @@ fn calls(subject: Subject, operation: u32, keys: &[LongKey]) -> Vec<GossipCall> 
     (0..CALLS).map(call).collect()
 }
 
-/// Nanoseconds a call.
-fn time(calls: &[GossipCall], mut answer: impl FnMut(&GossipCall) -> Answer) -> f64 {
-    let began = processor_time();
-    for call in black_box(calls) {
-        black_box(answer(call));
-    }
-    (processor_time() - began) / calls.len() as f64
-}
-
 fn time_port<P: Port>(port: &P, subject: Subject, start: &GossipState, calls: &[GossipCall]) -> f64 {
     let mut words = start.words;
     let mut tables = [Vec::new(), Vec::new()];
@@ -95,7 +86,7 @@ fn time_port<P: Port>(port: &P, subject: Subject, start: &GossipState, calls: &[
         shape.lay(&mut tables[table], 0, &start.rows[table]);
     }
     let [first, second] = &mut tables;
-    time(calls, |call| {
+    time_each(calls, |call| {
         let answer = port.gossip(call, &mut words, [&mut *first, &mut *second]);
         assert!(!answer.is_refusal(), "{answer}");
         answer
@@ -112,7 +103,7 @@ pub fn run<P: Port>(port: &P) {
             let (mut rust, mut ours) = (Vec::new(), Vec::new());
             for _ in 0..RUNS {
                 original.set_gossip(subject, &start);
-                rust.push(time(&calls, |call| original.gossip(call)));
+                rust.push(time_each(&calls, |call| original.gossip(call)));
                 if port.has_gossip() {
                     ours.push(time_port(port, subject, &start, &calls));
                 }
