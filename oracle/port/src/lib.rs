@@ -10,7 +10,9 @@ mod traces;
 use traces::Scan;
 use vocabulary::amounts::{DIV_CEIL_LOW, FROM_U64, PRODUCT_PER_THOUSAND, TO_U64};
 use vocabulary::settings::{self, SettingsCall};
-use vocabulary::{Amount, Answer, BucketCall, BucketOperation, Buckets, PeerCall, PeerOperation, Port, Record, Words};
+use vocabulary::{
+    Amount, Answer, BucketCall, BucketOperation, Buckets, Key, PeerCall, PeerOperation, Port, Record, Words,
+};
 use vocabulary::{GossipCall, GossipWords, Snapshots};
 
 pub struct Proved;
@@ -45,6 +47,10 @@ impl Port for Proved {
                 Answer { number, values }
             }
         }
+    }
+
+    fn allows(&self, key: &Key, bytes: u64, now: u64, record: &mut Record, table: &mut [u8]) -> bool {
+        peers::allows(record, table, key, bytes, now)
     }
 
     /// The C functions go by the numbers of the recorded lists. A `set` is no call of the library: it writes the bucket.

@@ -1,7 +1,7 @@
 //! The peers' calls on a record (crate `c_peers`).
 
 use uglezmir_sys::peers;
-use vocabulary::{Answer, Key, Record};
+use vocabulary::{answer, Answer, Key, Record};
 
 pub fn new(record: &mut Record, table: &mut [u8]) -> u32 {
     peers::new(&mut record.longs, &mut record.shorts, table)
@@ -20,6 +20,11 @@ pub fn admit(record: &mut Record, table: &mut [u8], peer: &Key, bytes: u64, now:
         return Answer::plain(number);
     }
     answer
+}
+
+/// Whether the Rust's answer is Allow; no cause is asked for.
+pub fn allows(record: &mut Record, table: &mut [u8], peer: &Key, bytes: u64, now: u64) -> bool {
+    peers::admit(&mut record.longs, &mut record.shorts, table, peer, bytes, now) == answer::ALLOW
 }
 
 pub fn record_invalid(record: &mut Record, table: &mut [u8], peer: &Key, now: u64) -> u32 {

@@ -1,8 +1,8 @@
 //! The two sides of a comparison: the unchanged Rust, and the system under test.
 
 use crate::{
-    Answer, BucketCall, Buckets, GossipCall, GossipState, GossipWords, Key, PeerCall, PeerState, Record, Settings,
-    Subject, Words,
+    answer, Answer, BucketCall, Buckets, GossipCall, GossipState, GossipWords, Key, PeerCall, PeerOperation, PeerState,
+    Record, Settings, Subject, Words,
 };
 
 /// The unchanged Rust. It keeps its own state, which can be read out and set.
@@ -35,6 +35,17 @@ pub trait Port {
     /// `PeerMessagePolicy::new`: the settings stand in the record. Answers DONE or a refusal.
     fn make_peers(&self, record: &mut Record, table: &mut [u8]) -> Answer;
     fn peers(&self, call: &PeerCall, record: &mut Record, table: &mut [u8]) -> Answer;
+
+    /// The bare call of admit, for timing: whether it allows. No cause is told, as the Rust tells none.
+    fn allows(&self, key: &Key, bytes: u64, now: u64, record: &mut Record, table: &mut [u8]) -> bool {
+        let call = PeerCall {
+            operation: PeerOperation::Admit,
+            key: *key,
+            bytes,
+            now,
+        };
+        self.peers(&call, record, table).number == answer::ALLOW
+    }
 
     fn bucket(&self, call: &BucketCall, buckets: &mut Buckets) -> Answer;
 

@@ -4,7 +4,7 @@ use super::clock::{medians, time_each};
 use super::trace::{Event, Trace, FULL};
 use original::UnchangedRust;
 use vocabulary::layout::ROW;
-use vocabulary::{answer, Answer, Original, PeerCall, PeerOperation, PeerState, Port, Record, Settings};
+use vocabulary::{Answer, Original, PeerCall, PeerState, Port, Record, Settings};
 
 /// Nanoseconds an event.
 pub struct Times {
@@ -102,6 +102,6 @@ impl Lent {
     }
 
     fn admit<P: Port>(&mut self, port: &P, event: &Event) -> bool {
-        self.call(port, &event.call(PeerOperation::Admit)).number == answer::ALLOW
+        port.allows(&event.key, event.bytes, event.now, &mut self.record, &mut self.table)
     }
 }
