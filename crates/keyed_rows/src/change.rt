@@ -1,7 +1,7 @@
 // A row stored under its key, its entry as numbers. The contract speaks of raw rows whose keys are as long as the key stored;
 // `stored-under` of `ChangeLaws` carries it to any layout of those widths.
 ghost use mathlib.Core.Path.{_≡_};
-ghost use Prim.Native.Nat.{_+_, _*_, _<_, _≤_};
+ghost use Prim.Native.Nat.{_+_, _*_, _≤_};
 ghost use lib.ListN.{length};
 ghost use Rattle.table.specs.Memory.{wordBytes};
 ghost use Rattle.table_laws.specs.Private.{RawStored};
