@@ -53,7 +53,7 @@ def declared():
             if not m:
                 continue
             name = m[1]
-            if line.startswith("    ") or name in ("in", "let", "elim", "where"):
+            if line.startswith("    ") and (generated or snake(name) == name) or name in ("in", "let", "elim", "where"):
                 continue
             if generated and (re.search(r": (tie|goal)\.", line) or name.endswith(("-spec", "_spec"))):
                 continue

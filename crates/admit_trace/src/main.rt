@@ -1,5 +1,7 @@
 // admit-trace: reads a trace from standard input, all of it, and then writes the policy's answers to standard output.
 // Crate `trace` has the answers, `trace_output` writes them, `standard` reads.
+#![tactic(auto)]
+
 ghost use Rattle.std.specs.Prelude.{◌≡◌, ◌<◌, length};
 ghost use Rattle.trace.specs.Scan.{longest_input};
 

@@ -3,6 +3,7 @@
 // Every contract goes through `value`, the integer that an amount stands for, and is total: any limbs and either sign may come
 // in, minus zero too. An i128 answer saturates at -2^127 and 2^127 - 1, a u128 answer at 2^128 - 1, and no answer is minus zero.
 // A value in range has one representation (`AmountLaws.one_representation`), so these contracts determine the limbs.
+#![tactic(auto)]
 
 mod magnitude;
 mod signed;
@@ -19,7 +20,7 @@ mod divide;
 mod product;
 
 // An integer of up to 128 bits and a sign: the limbs' number, the least limb first, negated where `negative` is set.
-#[derive(Drop)]
+#[derive(Clone, Copy)]
 pub struct Amount {
     pub negative: bool,
     pub limbs: [u32; 4],

@@ -4,7 +4,7 @@ ghost use Rattle.std.specs.Prelude.{◌≡◌, ◌+◌, ◌-◌, ◌*◌, ◌^�
 ghost use Rattle.amount_limbs.specs.Limbs.{digits};
 ghost use Rattle.amount.specs.Private.{size};
 
-#[derive(Drop)]
+#[derive(Clone, Copy)]
 pub struct Magnitude {
     pub low: u64,
     pub high: u64,
@@ -81,7 +81,7 @@ pub fn excess(a: Magnitude, b: Magnitude) -> Magnitude
 }
 
 // A sum of two halves, and what it carries into the next half.
-#[derive(Drop)]
+#[derive(Clone, Copy)]
 pub struct Carried {
     pub sum: u64,
     pub carry: u64,

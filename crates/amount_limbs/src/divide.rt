@@ -3,14 +3,14 @@ ghost use Rattle.std.specs.Prelude.{◌≡◌, ◌+◌, ◌*◌, ◌%◌, ◌^�
 ghost use Rattle.amount_limbs.specs.Limbs.{digits};
 
 // One bit or one limb of a quotient, and what is left for what stands below it.
-#[derive(Drop)]
+#[derive(Clone, Copy)]
 struct QuotientPart {
     quotient: u32,
     rest: u64,
 }
 
 // A whole quotient, and what is left of the dividend.
-#[derive(Drop)]
+#[derive(Clone, Copy)]
 pub struct Quotient {
     pub limbs: [u32; 4],
     pub rest: u64,

@@ -5,14 +5,14 @@ ghost use Rattle.std.specs.Prelude.{◌≡◌, ◌+◌, ◌*◌, ◌/◌, ◌<�
 ghost use Rattle.amount_limbs.specs.Limbs.{digits, saturated_unsigned};
 
 // A number below 2^64 in its two halves of 32 bits.
-#[derive(Drop)]
+#[derive(Clone, Copy)]
 struct Wide {
     lo: u32,
     hi: u32,
 }
 
 // A limb of a quotient by a u32, and what is left for the limb below it.
-#[derive(Drop)]
+#[derive(Clone, Copy)]
 struct LimbOver {
     quotient: u32,
     rest: u32,

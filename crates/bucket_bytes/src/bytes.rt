@@ -8,26 +8,26 @@ use amount::Amount;
 use bucket_terms::answer::{Consumed, Delay, Refilled, Told};
 use bucket_terms::limit::ByteRateLimitConfig;
 
-#[derive(Drop)]
+#[derive(Clone, Copy)]
 pub struct ByteTokenBucket {
     pub config: ByteRateLimitConfig,
     pub available_bytes: Amount,
     pub last_refill_ms: u64,
 }
 
-#[derive(Drop)]
+#[derive(Clone, Copy)]
 pub struct ByteRefilled {
     pub bucket: ByteTokenBucket,
     pub answer: Refilled,
 }
 
-#[derive(Drop)]
+#[derive(Clone, Copy)]
 pub struct ByteConsumed {
     pub bucket: ByteTokenBucket,
     pub answer: Consumed,
 }
 
-#[derive(Drop)]
+#[derive(Clone, Copy)]
 pub struct ByteReserved {
     pub bucket: ByteTokenBucket,
     pub answer: Delay,

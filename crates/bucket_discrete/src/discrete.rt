@@ -5,7 +5,7 @@ ghost use Rattle.bucket_discrete.specs.DiscreteBucket.{DiscreteRefillMeets, Disc
 
 use bucket_terms::answer::{Consumed, Refilled, Told};
 
-#[derive(Drop)]
+#[derive(Clone, Copy)]
 pub struct DiscreteTokenBucket {
     pub interval_ms: u64,
     pub capacity: u32,
@@ -13,13 +13,13 @@ pub struct DiscreteTokenBucket {
     pub last_refill_ms: u64,
 }
 
-#[derive(Drop)]
+#[derive(Clone, Copy)]
 pub struct DiscreteRefilled {
     pub bucket: DiscreteTokenBucket,
     pub answer: Refilled,
 }
 
-#[derive(Drop)]
+#[derive(Clone, Copy)]
 pub struct DiscreteConsumed {
     pub bucket: DiscreteTokenBucket,
     pub answer: Consumed,

@@ -4,7 +4,7 @@ use Rattle.refusal.specs.OneOutcomeLaws.{one_outcome}
 use Rattle.pubkey.specs.declared.Pubkey.{Pubkey}
 use Rattle.gossip_settings.specs.Settings.{max_tracked_peers}
 use Rattle.gossip_bans.specs.declared.tracker.GossipBanTracker.{GossipBanTracker}
-use Rattle.gossip_laws.specs.BanOutcomeLaws.{made_one, record-violation-one, is-banned-one, score-one, prune-expired-one, tracked_peers_one}
+use Rattle.gossip_laws.specs.BanOutcomeLaws.{made_one, record_violation_one, is_banned_one, score_one, prune_expired_one, tracked_peers_one}
 use Rattle.c_terms.specs.SomeLaws.{some_one, some_alone}
 use Rattle.c_bans.specs.declared.blame.Blame.{Blame}
 use Rattle.c_bans.specs.declared.blame.Blame.TheVariants as Blame
@@ -21,7 +21,7 @@ module _ (before : List ℕ) {first second : List ℕ} where
     blame_one : (b : Blame) (d e : BanDone) → BlameDoes b t before k now d first → BlameDoes b t before k now e second
         → (d ≡ e) × (first ≡ second)
     blame_one (Blame.Violation v) d e =
-        some_one (λ a b. record-violation-one before {first = first} {second = second} t now k v {r = a} {q = b}) (λ a. one_outcome)
+        some_one (λ a b. record_violation_one before {first = first} {second = second} t now k v {r = a} {q = b}) (λ a. one_outcome)
     blame_one Blame.Unknown d e = untouched_one _ d e before
 
     does_one : (o : BanOperation) (v : ℕ) (d e : BanDone) → BanDoes o t before k v now d first → BanDoes o t before k v now e second
@@ -32,11 +32,11 @@ module _ (before : List ℕ) {first second : List ℕ} where
         some_one (λ a b. made_one before {first = first} {second = second} t.config t.max_entries {r = a} {q = b}) (λ a. one_outcome)
     does_one BanOperation.RecordViolation v d e = blame_one (blame_of v) d e
     does_one BanOperation.IsBanned v d e =
-        some_one (λ a b. is-banned-one before {first = first} {second = second} t now k {r = a} {q = b}) (λ a. one_outcome)
+        some_one (λ a b. is_banned_one before {first = first} {second = second} t now k {r = a} {q = b}) (λ a. one_outcome)
     does_one BanOperation.Score v d e =
-        some_one (λ a b. score-one before {first = first} {second = second} t now k {r = a} {q = b}) (λ a. one_outcome)
+        some_one (λ a b. score_one before {first = first} {second = second} t now k {r = a} {q = b}) (λ a. one_outcome)
     does_one BanOperation.PruneExpired v d e =
-        some_one (λ a b. prune-expired-one before {first = first} {second = second} t now {r = a} {q = b}) (λ a. one_outcome)
+        some_one (λ a b. prune_expired_one before {first = first} {second = second} t now {r = a} {q = b}) (λ a. one_outcome)
     does_one BanOperation.TrackedPeers v d e =
         some_alone (λ a b. tracked_peers_one t {r = a} {q = b}) (λ a. untouched_one _ d e before)
     does_one BanOperation.Unknown v d e = untouched_one _ d e before

@@ -13,7 +13,7 @@ use gossip_bans::tracker::GossipBanTracker;
 use gossip_settings::ban::GossipBanConfig;
 use pubkey::Pubkey;
 
-#[derive(Drop)]
+#[derive(Clone, Copy)]
 pub enum BanOperation {
     New,
     WithMaxEntries,
@@ -26,7 +26,7 @@ pub enum BanOperation {
 }
 
 // The tracker after a call, and what the call said.
-#[derive(Drop)]
+#[derive(Clone, Copy)]
 pub struct BanDone {
     pub tracker: GossipBanTracker,
     pub reply: Reply,

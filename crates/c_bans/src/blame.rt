@@ -4,7 +4,7 @@ ghost use Rattle.c_bans.specs.Blame.{blame_of};
 
 use gossip_settings::violation::GossipViolation;
 
-#[derive(Drop)]
+#[derive(Clone, Copy)]
 pub enum Blame {
     Violation(GossipViolation),
     Unknown,

@@ -8,7 +8,7 @@ use c_terms::reply::Reply;
 use c_terms::{amount_words, reply};
 use token_bucket::bytes::ByteTokenBucket;
 
-#[derive(Drop)]
+#[derive(Clone, Copy)]
 pub enum AmountOperation {
     FromU64,
     IsNegative,
@@ -27,7 +27,7 @@ pub enum AmountOperation {
 }
 
 // The amount that a call answers, or its first operand where it answers no amount, and what the call said.
-#[derive(Drop)]
+#[derive(Clone, Copy)]
 pub struct AmountDone {
     pub amount: Amount,
     pub reply: Reply,

@@ -7,7 +7,7 @@ use c_terms::reply::Reply;
 use c_terms::{amount_words, reply};
 use token_bucket::bytes::{ByteRateLimitConfig, ByteTokenBucket};
 
-#[derive(Drop)]
+#[derive(Clone, Copy)]
 pub enum ByteOperation {
     New,
     Refill,
@@ -22,7 +22,7 @@ pub enum ByteOperation {
 }
 
 // The bucket after a call, and what the call said.
-#[derive(Drop)]
+#[derive(Clone, Copy)]
 pub struct ByteDone {
     pub bucket: ByteTokenBucket,
     pub reply: Reply,

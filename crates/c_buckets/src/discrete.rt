@@ -6,7 +6,7 @@ use c_terms::reply;
 use c_terms::reply::Reply;
 use token_bucket::discrete::DiscreteTokenBucket;
 
-#[derive(Drop)]
+#[derive(Clone, Copy)]
 pub enum DiscreteOperation {
     New,
     Refill,
@@ -16,7 +16,7 @@ pub enum DiscreteOperation {
 }
 
 // The bucket after a call, and what the call said.
-#[derive(Drop)]
+#[derive(Clone, Copy)]
 pub struct DiscreteDone {
     pub bucket: DiscreteTokenBucket,
     pub reply: Reply,

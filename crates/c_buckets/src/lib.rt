@@ -10,6 +10,8 @@
 // The caller answers for what types would rule out there: no null, and no two of them over the same memory. The answer is a number:
 // below 256 a refusal, on which nothing changes (0 where there is no such operation, and for a division by 0), or 259 for no, 260 for
 // yes, 261 for what is left in the words and in `value`.
+#![tactic(auto)]
+
 pub mod amounts;
 pub mod bytes;
 pub mod discrete;

@@ -6,7 +6,7 @@ use c_terms::reply;
 use c_terms::reply::Reply;
 use token_bucket::bytes::ByteRateLimitConfig;
 
-#[derive(Drop)]
+#[derive(Clone, Copy)]
 pub enum LimitOperation {
     DefaultGlobal,
     DefaultPeer,
@@ -15,7 +15,7 @@ pub enum LimitOperation {
 }
 
 // The limit after a call, and what the call said.
-#[derive(Drop)]
+#[derive(Clone, Copy)]
 pub struct LimitDone {
     pub limit: ByteRateLimitConfig,
     pub reply: Reply,

@@ -7,7 +7,7 @@ use c_terms::reply;
 use c_terms::reply::Reply;
 use peer_settings::config::PeerMessagePolicyConfig;
 
-#[derive(Drop)]
+#[derive(Clone, Copy)]
 pub enum SettingsOperation {
     Default,
     WithLimits,
@@ -18,7 +18,7 @@ pub enum SettingsOperation {
 }
 
 // The settings after a call, and what the call said.
-#[derive(Drop)]
+#[derive(Clone, Copy)]
 pub struct SettingsDone {
     pub config: PeerMessagePolicyConfig,
     pub reply: Reply,

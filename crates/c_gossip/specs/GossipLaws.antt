@@ -7,15 +7,15 @@ use Rattle.gossip_settings.specs.Settings.{gossip_default}
 use Rattle.gossip_policy.specs.declared.state.GossipPolicyState.{GossipPolicyState}
 use Rattle.gossip_laws.specs.PolicyOutcomeLaws.{
   policy_new_one,
-  policy-record-violation-one,
-  policy-is-banned-one,
-  prune-bans-one,
-  allow-outbound-message-one,
-  remove-outbound-peer-one,
-  reserve-outbound-message-one,
-  refund-outbound-message-one,
-  estimate-outbound-message-delay-one,
-  should-bypass-one,
+  policy_record_violation_one,
+  policy_is_banned_one,
+  prune_bans_one,
+  allow_outbound_message_one,
+  remove_outbound_peer_one,
+  reserve_outbound_message_one,
+  refund_outbound_message_one,
+  estimate_outbound_message_delay_one,
+  should_bypass_one,
 }
 use Rattle.c_terms.specs.SomeLaws.{some_one, some_alone}
 use Rattle.c_bans.specs.declared.blame.Blame.{Blame}
@@ -32,7 +32,7 @@ use Rattle.c_gossip.specs.Gossip.{gossip_operation, BlameDoes, Reads, GossipDoes
 blame_one : (b : Blame) (s : GossipPolicyState) (before : List ℕ) (k : Pubkey) (now : ℕ) {first second : List ℕ} (d e : GossipDone)
     → BlameDoes b s before k now d first → BlameDoes b s before k now e second → (d ≡ e) × (first ≡ second)
 blame_one (Blame.Violation v) s before k now {first} {second} d e =
-    some_one (λ a b. policy-record-violation-one s before {first = first} {second = second} now k v {r = a} {q = b}) (λ a. one_outcome)
+    some_one (λ a b. policy_record_violation_one s before {first = first} {second = second} now k v {r = a} {q = b}) (λ a. one_outcome)
 blame_one Blame.Unknown s before k now d e = untouched_one _ d e before
 
 module _ (b o : List ℕ) {b' b'' o' o'' : List ℕ} (d e : GossipDone) where
@@ -57,26 +57,26 @@ module _ (s : GossipPolicyState) (b o : List ℕ) (k : Pubkey) (v n now : ℕ) {
   does_one Operation.RecordViolation d e p q = on_bans b o d e (blame_one (blame_of v) s b k now d e p.0 q.0) p.1 q.1
   does_one Operation.IsBanned d e p q =
       on_bans b o d e
-      (some_one (λ x y. policy-is-banned-one s b {first = b'} {second = b''} now k {r = x} {q = y}) (λ a. one_outcome) p.0 q.0) p.1 q.1
+      (some_one (λ x y. policy_is_banned_one s b {first = b'} {second = b''} now k {r = x} {q = y}) (λ a. one_outcome) p.0 q.0) p.1 q.1
   does_one Operation.PruneBans d e p q =
       on_bans b o d e
-      (some_one (λ x y. prune-bans-one s b {first = b'} {second = b''} now {r = x} {q = y}) (λ a. one_outcome) p.0 q.0) p.1 q.1
+      (some_one (λ x y. prune_bans_one s b {first = b'} {second = b''} now {r = x} {q = y}) (λ a. one_outcome) p.0 q.0) p.1 q.1
   does_one Operation.Allow d e p q =
       on_outbound b o d e
-      (some_one (λ x y. allow-outbound-message-one s o {first = o'} {second = o''} k n now {r = x} {q = y}) (λ a. one_outcome) p.0 q.0) p.1 q.1
+      (some_one (λ x y. allow_outbound_message_one s o {first = o'} {second = o''} k n now {r = x} {q = y}) (λ a. one_outcome) p.0 q.0) p.1 q.1
   does_one Operation.EstimateDelay d e p q =
-      some_alone (λ x y. estimate-outbound-message-delay-one s o k n now {r = x} {q = y}) (λ a. reads_one b o d e _) p q
+      some_alone (λ x y. estimate_outbound_message_delay_one s o k n now {r = x} {q = y}) (λ a. reads_one b o d e _) p q
   does_one Operation.RemovePeer d e p q =
       on_outbound b o d e
-      (some_one (λ x y. remove-outbound-peer-one s o {first = o'} {second = o''} k {r = x} {q = y}) (λ a. one_outcome) p.0 q.0) p.1 q.1
+      (some_one (λ x y. remove_outbound_peer_one s o {first = o'} {second = o''} k {r = x} {q = y}) (λ a. one_outcome) p.0 q.0) p.1 q.1
   does_one Operation.Reserve d e p q =
       on_outbound b o d e
-      (some_one (λ x y. reserve-outbound-message-one s o {first = o'} {second = o''} k n now {r = x} {q = y}) (λ a. one_outcome) p.0 q.0) p.1 q.1
+      (some_one (λ x y. reserve_outbound_message_one s o {first = o'} {second = o''} k n now {r = x} {q = y}) (λ a. one_outcome) p.0 q.0) p.1 q.1
   does_one Operation.Refund d e p q =
       on_outbound b o d e
-      (some_one (λ x y. refund-outbound-message-one s o {first = o'} {second = o''} k n now {r = x} {q = y}) (λ a. one_outcome) p.0 q.0) p.1 q.1
+      (some_one (λ x y. refund_outbound_message_one s o {first = o'} {second = o''} k n now {r = x} {q = y}) (λ a. one_outcome) p.0 q.0) p.1 q.1
   does_one Operation.ShouldBypass d e p q =
-      some_alone (λ x y. should-bypass-one s o k n now {r = x} {q = y}) (λ a. reads_one b o d e _) p q
+      some_alone (λ x y. should_bypass_one s o k n now {r = x} {q = y}) (λ a. reads_one b o d e _) p q
   does_one Operation.Exceeds d e p q = reads_one b o d e _ p q
   does_one Operation.QueueCapacity d e p q = reads_one b o d e _ p q
   does_one Operation.GlobalCapacity d e p q = reads_one b o d e _ p q

@@ -18,7 +18,7 @@ use gossip_policy::answer::{
 use gossip_policy::state::GossipPolicyState;
 use pubkey::Pubkey;
 
-#[derive(Drop)]
+#[derive(Clone, Copy)]
 pub enum GossipOperation {
     New,
     Default,
@@ -39,7 +39,7 @@ pub enum GossipOperation {
 }
 
 // The state after a call, and what the call said.
-#[derive(Drop)]
+#[derive(Clone, Copy)]
 pub struct GossipDone {
     pub state: GossipPolicyState,
     pub reply: Reply,

@@ -11,7 +11,7 @@ use gossip_limiter::limiter::ChannelUpdateLimiter;
 use gossip_settings::channel_update::ChannelUpdateRateLimitConfig;
 use pubkey::{ChannelUpdateLimiterKey, OutPoint, Pubkey};
 
-#[derive(Drop)]
+#[derive(Clone, Copy)]
 pub enum LimiterOperation {
     New,
     WithMaxEntries,
@@ -21,7 +21,7 @@ pub enum LimiterOperation {
 }
 
 // The limiter after a call, and what the call said.
-#[derive(Drop)]
+#[derive(Clone, Copy)]
 pub struct LimiterDone {
     pub limiter: ChannelUpdateLimiter,
     pub reply: Reply,

@@ -36,36 +36,36 @@ module _ (longs shorts : List ℕ) {r q : ℕ} {longs' longs'' shorts' shorts'' 
         some_one (λ a b. Calls.new_one before {first = first} {second = second} (config_of longs shorts) {r = a} {q = b}) (λ a. leaves_one (made_numbered a) longs shorts)
 
     module _ (k : List ℕ) where
-      pub admit-one : (size now : ℕ) → AdmitExported longs shorts before k size now r longs' shorts' first
+      pub admit_one : (size now : ℕ) → AdmitExported longs shorts before k size now r longs' shorts' first
           → AdmitExported longs shorts before k size now q longs'' shorts'' second → Alike r q longs' longs'' shorts' shorts'' × (first ≡ second)
-      admit-one size now =
-          some_one (λ a b. Calls.admit-one before {first = first} {second = second} (policy_of longs shorts) (key_of k) size now {r = a} {q = b})
+      admit_one size now =
+          some_one (λ a b. Calls.admit_one before {first = first} {second = second} (policy_of longs shorts) (key_of k) size now {r = a} {q = b})
           (λ a. leaves_one (admission_numbered (merge a)) longs shorts)
 
-      pub admit-explained-one : (size now : ℕ) (cause : List ℕ) {cause' cause'' : List ℕ}
+      pub admit_explained_one : (size now : ℕ) (cause : List ℕ) {cause' cause'' : List ℕ}
           → AdmitExplainedExported longs shorts before k size now cause r longs' shorts' first cause'
           → AdmitExplainedExported longs shorts before k size now cause q longs'' shorts'' second cause''
           → (Alike r q longs' longs'' shorts' shorts'' × (cause' ≡ cause'')) × (first ≡ second)
-      admit-explained-one size now cause =
-          some_one (λ a b. Calls.admit-one before {first = first} {second = second} (policy_of longs shorts) (key_of k) size now {r = a} {q = b})
+      admit_explained_one size now cause =
+          some_one (λ a b. Calls.admit_one before {first = first} {second = second} (policy_of longs shorts) (key_of k) size now {r = a} {q = b})
           (λ a m n. (leaves_one (admission_numbered (merge a)) longs shorts m.0 n.0, one_outcome m.1 n.1))
 
-      pub record-invalid-one : (now : ℕ) → RecordInvalidExported longs shorts before k now r longs' shorts' first
+      pub record_invalid_one : (now : ℕ) → RecordInvalidExported longs shorts before k now r longs' shorts' first
           → RecordInvalidExported longs shorts before k now q longs'' shorts'' second → Alike r q longs' longs'' shorts' shorts'' × (first ≡ second)
-      record-invalid-one now =
-          some_one (λ a b. Calls.record-invalid-one before {first = first} {second = second} (policy_of longs shorts) (key_of k) now {r = a} {q = b})
+      record_invalid_one now =
+          some_one (λ a b. Calls.record_invalid_one before {first = first} {second = second} (policy_of longs shorts) (key_of k) now {r = a} {q = b})
           (λ a. leaves_one (invalid_numbered a) longs shorts)
 
-      pub is-banned-one : (now : ℕ) → IsBannedExported longs shorts before k now r longs' shorts' first
+      pub is_banned_one : (now : ℕ) → IsBannedExported longs shorts before k now r longs' shorts' first
           → IsBannedExported longs shorts before k now q longs'' shorts'' second → Alike r q longs' longs'' shorts' shorts'' × (first ≡ second)
-      is-banned-one now =
-          some_one (λ a b. Calls.is-banned-one before {first = first} {second = second} (policy_of longs shorts) (key_of k) now {r = a} {q = b})
+      is_banned_one now =
+          some_one (λ a b. Calls.is_banned_one before {first = first} {second = second} (policy_of longs shorts) (key_of k) now {r = a} {q = b})
           (λ a. leaves_one (standing_numbered a) longs shorts)
 
-      pub on-disconnected-one : (now : ℕ) → OnDisconnectedExported longs shorts before k now r longs' shorts' first
+      pub on_disconnected_one : (now : ℕ) → OnDisconnectedExported longs shorts before k now r longs' shorts' first
           → OnDisconnectedExported longs shorts before k now q longs'' shorts'' second → Alike r q longs' longs'' shorts' shorts'' × (first ≡ second)
-      on-disconnected-one now =
-          some_one (λ a b. Calls.on-disconnected-one before {first = first} {second = second} (policy_of longs shorts) (key_of k) now {r = a} {q = b})
+      on_disconnected_one now =
+          some_one (λ a b. Calls.on_disconnected_one before {first = first} {second = second} (policy_of longs shorts) (key_of k) now {r = a} {q = b})
           (λ a. leaves_one (changed_numbered a) longs shorts)
 
   pub release_ingress_one : (size : ℕ) → ReleaseIngressExported longs shorts size r longs' shorts'

@@ -6,4 +6,6 @@
 // A table is a pointer, then its length; a key is a pointer to 33 bytes. The caller answers for what types would rule out there: no
 // null, every length true, and no two of them over the same memory. The answer is a number: a refusal itself, on which nothing
 // changes, or 256 and up. A cause is two words: its number, and by how much its limit ran short.
+#![tactic(auto)]
+
 pub mod peers;

@@ -15,7 +15,7 @@ pub const DONE: u32 = 261;
 // No operation has the number that was given.
 pub const UNKNOWN: u32 = 0;
 
-#[derive(Drop)]
+#[derive(Clone, Copy)]
 pub struct Reply {
     pub number: u32,
     pub value: u64,

@@ -27,13 +27,13 @@ module _ {place' place'' longs' longs'' shorts' shorts'' : List ℕ} where
   open_one input = scan_left (open_of input)
 
   module _ {r q : ℕ} {line line' : List ℕ} where
-    handed-left : (h : Handed) → HandedLeft h r place' longs' shorts' line → HandedLeft h q place'' longs'' shorts'' line'
+    handed_left : (h : Handed) → HandedLeft h r place' longs' shorts' line → HandedLeft h q place'' longs'' shorts'' line'
         → Alike place' place'' longs' longs'' shorts' shorts'' × (r ≡ q) × (line ≡ line')
-    handed-left h m n = (scan_left h.scan m.0 n.0, one_outcome m.1.0 n.1.0, one_outcome m.1.1 n.1.1)
+    handed_left h m n = (scan_left h.scan m.0 n.0, one_outcome m.1.0 n.1.0, one_outcome m.1.1 n.1.1)
 
     pub next_one : (place longs shorts input before : List ℕ) {first second : List ℕ}
         → NextExported place longs shorts input before r place' longs' shorts' first line
         → NextExported place longs shorts input before q place'' longs'' shorts'' second line'
         → (Alike place' place'' longs' longs'' shorts' shorts'' × (r ≡ q) × (line ≡ line')) × (first ≡ second)
     next_one place longs shorts input before {first} {second} =
-        some_one (λ a b. Trace.next_one (scan_of place longs shorts) input before a b first second) handed-left
+        some_one (λ a b. Trace.next_one (scan_of place longs shorts) input before a b first second) handed_left

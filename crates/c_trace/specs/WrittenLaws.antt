@@ -99,14 +99,14 @@ module _ (input : List ℕ) (h : Handed) (after : List ℕ) where
   by_phase Phase.Done scan before m = by_ended scan m.0
 
   module _ (scan : Scan) (before : List ℕ) (m : NextMeets scan input before h after) where
-    pub handed-written : Written h.line
+    pub handed_written : Written h.line
     unfolding NextMeets
-    handed-written = let w = by_phase scan.phase scan before m in record { text = w.text; is = w.is }
+    handed_written = let w = by_phase scan.phase scan before m in record { text = w.text; is = w.is }
 
     -- a length of 0 says that the scan is done, and nothing else does
-    pub zero-is-done : eqb h.line.length 0 ≡ h.done
+    pub zero_is_done : eqb h.line.length 0 ≡ h.done
     unfolding NextMeets
-    zero-is-done = let w = by_phase scan.phase scan before m in ap (λ (l : TraceLine). eqb l.length 0) w.is ∙ w.empty
+    zero_is_done = let w = by_phase scan.phase scan before m in ap (λ (l : TraceLine). eqb l.length 0) w.is ∙ w.empty
 
 -- in a line's bytes
 pub written_fits : (line : TraceLine) → Written line → length line.bytes ≡ line_size → line.length ≤ line_size

@@ -6,5 +6,7 @@
 //   longs, shorts: the policy, as in crate `c_peers`
 // The input and the table are each a pointer, then a length; `line` is a pointer to 73 bytes. The caller answers for what types would rule
 // out there: no null, every length true, and no two of them over the same memory. It lends the same input and table at every call.
+#![tactic(auto)]
+
 pub mod scan;
 mod words;

@@ -19,7 +19,7 @@ pub const YES: u32 = 260;
 pub const DONE: u32 = 261;
 
 // A number with the policy to go on with, or a refusal.
-#[derive(Drop)]
+#[derive(Clone, Copy)]
 pub enum Numbered {
     Answered(u32, PeerMessagePolicy),
     Refused(u32),

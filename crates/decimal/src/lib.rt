@@ -1,6 +1,8 @@
 // Numbers as decimal text, without extra zeros (a support crate: `put_decimal` requires room for what it writes).
 //
 // A number has one spelling: what `put_decimal` writes, `scan` reads back, and `scan` takes nothing else.
+#![tactic(auto)]
+
 ghost use Rattle.std.specs.Prelude.{◌≡◌, ◌+◌, ◌≤◌, length, get_or, drop};
 ghost use Rattle.lent_bytes.specs.LentBytes.{put};
 ghost use Rattle.decimal.specs.Ascii.{code};
@@ -10,7 +12,7 @@ ghost use Rattle.decimal.specs.Decimal.{is_digit, digits_of, digits_at_front, va
 pub const MOST_DIGITS: usize = 20;
 
 // What stands at a place: a number and the place behind it, or nothing that is one.
-#[derive(Drop)]
+#[derive(Clone, Copy)]
 pub enum Scanned {
     Number(u64, usize),
     Bad,

@@ -29,21 +29,21 @@ module _ (limit duration now : ℕ) (s : List ℕ) (n : ℕ) (b : Bytes s) (h : 
       counted_same (sym (room_free limit duration now (rows ban_layout s n) (omega arith))) (unchanged ban_faithful s s n b h refl, sym count)
 
   module _ (full : limit ≤ n) (t : List ℕ) (k : ℕ) where
-    full-rows : limit ≤ length (rows ban_layout s n)
-    full-rows = omega (arith, length_rows ban_layout s n)
+    full_rows : limit ≤ length (rows ban_layout s n)
+    full_rows = omega (arith, length_rows ban_layout s n)
 
     -- the expired entries have gone, and there is room
     pub made_pruned : k < limit → Counted ban_layout s t n k (prune_expired duration now (rows ban_layout s n))
         → Counted ban_layout s t n k (room_for limit duration now (rows ban_layout s n))
     made_pruned l left =
-        counted_same (sym (room_pruned limit duration now (rows ban_layout s n) full-rows (omega (arith, left.1)))) left
+        counted_same (sym (room_pruned limit duration now (rows ban_layout s n) full_rows (omega (arith, left.1)))) left
 
     -- the table was still full, and one row more has gone
-    pub made-evicted : limit ≤ k → Counted ban_layout s t n k (prune_expired duration now (rows ban_layout s n)) → (u : List ℕ) (r : ℕ)
+    pub made_evicted : limit ≤ k → Counted ban_layout s t n k (prune_expired duration now (rows ban_layout s n)) → (u : List ℕ) (r : ℕ)
         → Counted ban_layout t u k r (evict now (rows ban_layout t k)) → Counted ban_layout s u n r (room_for limit duration now (rows ban_layout s n))
-    made-evicted l left u r gone =
+    made_evicted l left u r gone =
         let rs : Bans = prune_expired duration now (rows ban_layout s n) in
         let fit : AllFit ban_layout EntryFits rs = fit_retain ban_faithful (unexpired duration now) (rows ban_layout s n) (fit_rows ban_faithful s n b h) in
         let fewer : length rs ≤ n = omega (arith, sub_length (sub_prune duration now (rows ban_layout s n)), length_rows ban_layout s n) in
-        counted_same (sym (room_evicted limit duration now (rows ban_layout s n) full-rows (omega (arith, left.1))))
+        counted_same (sym (room_evicted limit duration now (rows ban_layout s n) full_rows (omega (arith, left.1))))
         (counted_then ban_faithful (evict now) s t u n k r rs fit (omega arith) left gone)

@@ -2,7 +2,7 @@
 use Rattle.std.specs.Prelude.{Bool, true, false, ◌&&◌, ◌||◌, cond, ◌≡◌, ℕ, ◌+◌, ◌*◌, ◌^◌, ◌≤◌, ◌<◌, ltb, eqb}
 use Rattle.std.proofs.Math.Bool.{or-false}
 use Rattle.std.proofs.Common.{sym, ap, ◌∙◌, mul-le-mul_right, add-mul, one-mul, arith, eq-eqb, ne_eqb, le-ltb}
-use Rattle.table_laws.specs.RankLaws.{ranked, ltb-pair}
+use Rattle.table_laws.specs.RankLaws.{ranked, ltb_pair}
 use Rattle.gossip_ban_rows.specs.declared.entry.GossipBanEntry.{GossipBanEntry}
 use Rattle.gossip_ban_rows.specs.Entry.{is_currently_banned}
 use Rattle.gossip_ban_rows.specs.Room.{rank}
@@ -19,8 +19,8 @@ three : (base x a b y c d : ℕ) → a < base → b < base → c < base → d < 
     → ltb (ranked (base * base) x (ranked base a b)) (ranked (base * base) y (ranked base c d))
     ≡ (ltb x y || (eqb x y && (ltb a c || (eqb a c && ltb b d))))
 three base x a b y c d h i j k =
-    ltb-pair (base * base) x (ranked base a b) y (ranked base c d) (two_digits base a b h i) (two_digits base c d j k)
-    ∙ ap (λ (t : Bool). ltb x y || (eqb x y && t)) (ltb-pair base a b c d i k)
+    ltb_pair (base * base) x (ranked base a b) y (ranked base c d) (two_digits base a b h i) (two_digits base c d j k)
+    ∙ ap (λ (t : Bool). ltb x y || (eqb x y && t)) (ltb_pair base a b c d i k)
 
 -- of two entries the one without a live ban, then that of the smaller score, then that of the older update
 abbrev pub goes_before : Bool → GossipBanEntry → Bool → GossipBanEntry → Bool

@@ -11,7 +11,7 @@ use Rattle.truths.specs.TruthLaws.{by_test, or_else}
 use Rattle.table.specs.Table.{nothing, best, minimum_from, ascending, look, erase, remove_at}
 use Rattle.table.specs.TableLaws.{Sub, sub_all, sub_length, sub_erase, sub_retain, sub_remove_at, sub_trans}
 use Rattle.table.specs.LookLaws.{some_is_not_none, sub_look_none}
-use Rattle.table.specs.MinimumLaws.{least-found, least-nothing}
+use Rattle.table.specs.MinimumLaws.{least_found, least_nothing}
 use Rattle.table.specs.PlaceLaws.{length_remove_at}
 use Rattle.table_laws.specs.RoomLaws.{by_best}
 use Rattle.gossip_ban_rows.specs.declared.entry.GossipBanEntry.{GossipBanEntry}
@@ -63,8 +63,8 @@ pub length_evict : (now : ℕ) (rs : Bans) → 0 < length rs → length (evict n
 length_evict now [] h = absurd (omega arith)
 length_evict now (r ∷ rs) h =
     by_best (minimum_from (eviction_rank now) nothing 0 (r ∷ rs))
-    (λ e. absurd (some_is_not_none refl (least-nothing (eviction_rank now) (r ∷ rs) r e 0 h)))
-    (λ j n e. rw (evict_found_lem now (r ∷ rs) e) (length_remove_at j (r ∷ rs) (least-found (eviction_rank now) (r ∷ rs) r e).inside))
+    (λ e. absurd (some_is_not_none refl (least_nothing (eviction_rank now) (r ∷ rs) r e 0 h)))
+    (λ j n e. rw (evict_found_lem now (r ∷ rs) e) (length_remove_at j (r ∷ rs) (least_found (eviction_rank now) (r ∷ rs) r e).inside))
 
 -- at most a row is taken out
 pub sub_evict : (now : ℕ) (rs : Bans) → Sub (evict now rs) rs

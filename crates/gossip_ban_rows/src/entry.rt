@@ -9,7 +9,7 @@ ghost use Rattle.gossip_ban_rows.specs.Private.{unexpired_or_default};
 use gossip_settings::ban::GossipBanConfig;
 
 // `mark` and `until_ms` are the Rust's `banned_until_ms: Option<u64>`: a mark, 1 where there is a ban, beside its end.
-#[derive(Drop)]
+#[derive(Clone, Copy)]
 pub struct GossipBanEntry {
     pub score: u64,
     pub mark: u64,

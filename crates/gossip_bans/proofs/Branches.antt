@@ -35,7 +35,7 @@ use Rattle.gossip_bans.specs.declared.answer.MadeTracker.TheVariants as MadeTrac
 use Rattle.gossip_bans.specs.declared.answer.Scored.TheVariants as Scored
 use Rattle.gossip_bans.specs.declared.answer.Pruned.TheVariants as Pruned
 use Rattle.gossip_bans.specs.Tracker.{rows_of, limit_of, sound, turn, recorded_over, record_violation}
-use Rattle.gossip_bans.specs.TrackerLaws.{violation-off, violation-known, violation-new, banned_off, banned-absent, banned-expired, banned-live, score_absent, score_expired, score_live}
+use Rattle.gossip_bans.specs.TrackerLaws.{violation_off, violation_known, violation_new, banned_off, banned_absent, banned_expired, banned_live, score_absent, score_expired, score_live}
 use Rattle.gossip_bans.specs.Calls.{carried, fresh, made_outcome, MadeMeets, ban_told, record_violation_outcome, RecordViolationMeets, is_banned_outcome, IsBannedMeets, ban_scored, score_outcome, ScoreMeets, ban_pruned, prune_expired_outcome, PruneExpiredMeets}
 use Rattle.gossip_bans.specs.Private.{Left}
 use Rattle.gossip_bans.proofs.Judged.{few_rows, rows_fit, order}
@@ -99,10 +99,10 @@ module _ (t : GossipBanTracker) (s : List ℕ) (k : Pubkey) (v : GossipViolation
   violation_unsound h = refuses _ t s _ h
 
   module _ (h : sound t s ≡ true) where
-    pub violated-off : gossip_ban_disabled t.config ≡ true → RecordViolationMeets t s k v now (ban_told t false) s
+    pub violated_off : gossip_ban_disabled t.config ≡ true → RecordViolationMeets t s k v now (ban_told t false) s
     unfolding RecordViolationMeets record_violation_outcome
-    violated-off off =
-        met ban_told _ t s s h (violation-off t.config k.bytes now (rows_of t s) (limit_of t.max_entries) (violation_score v) off)
+    violated_off off =
+        met ban_told _ t s s h (violation_off t.config k.bytes now (rows_of t s) (limit_of t.max_entries) (violation_score v) off)
         (stays ban_told t s false)
 
     module _ (on : gossip_ban_disabled t.config ≡ false) (q : GossipBanTracker) (u : List ℕ) (points : ℕ) (is : points ≡ violation_score v) where
@@ -111,9 +111,9 @@ module _ (t : GossipBanTracker) (s : List ℕ) (k : Pubkey) (v : GossipViolation
           (step : record_violation t.config (limit_of t.max_entries) k.bytes (violation_score v) now (rows_of t s) ≡ recorded_over t.config k.bytes (violation_score v) now rs before)
           (raised_is : x ≡ raised before points now) (bans-is : bans ≡ reaches t.config x) (answer_is : answer ≡ told bans)
           (ban-is : y ≡ banned_if_reached t.config x now) where
-        violated-over : Left t s (store k.bytes y rs) q u → RecordViolationMeets t s k v now (record { tracker = q; answer = answer }) u
+        violated_over : Left t s (store k.bytes y rs) q u → RecordViolationMeets t s k v now (record { tracker = q; answer = answer }) u
         unfolding RecordViolationMeets record_violation_outcome
-        violated-over left =
+        violated_over left =
             let z : GossipBanEntry = raised before (violation_score v) now in
             let same_entry : x ≡ z = raised_is ∙ ap (λ (n : ℕ). raised before n now) is in
             let said : answer ≡ told (reaches t.config z) = answer_is ∙ ap told (bans-is ∙ ap (reaches t.config) same_entry) in
@@ -126,22 +126,22 @@ module _ (t : GossipBanTracker) (s : List ℕ) (k : Pubkey) (v : GossipViolation
               leaves = here.memory;
             })
 
-      pub violated-known : (e kept x y : GossipBanEntry) (bans : Bool) (answer : Told) → look k.bytes (rows_of t s) ≡ some e
+      pub violated_known : (e kept x y : GossipBanEntry) (bans : Bool) (answer : Told) → look k.bytes (rows_of t s) ≡ some e
           → kept ≡ unexpired_or_default e t.config.duration_ms now → x ≡ raised kept points now → bans ≡ reaches t.config x → answer ≡ told bans
           → y ≡ banned_if_reached t.config x now → Left t s (store k.bytes y (rows_of t s)) q u
           → RecordViolationMeets t s k v now (record { tracker = q; answer = answer }) u
-      violated-known e kept x y bans answer found kept-is raised_is =
-          violated-over (unexpired_or_default e t.config.duration_ms now) x y bans answer (rows_of t s)
-          (violation-known t.config k.bytes now (rows_of t s) (limit_of t.max_entries) (violation_score v) on (order t s h) (few_rows t s h) e found)
+      violated_known e kept x y bans answer found kept-is raised_is =
+          violated_over (unexpired_or_default e t.config.duration_ms now) x y bans answer (rows_of t s)
+          (violation_known t.config k.bytes now (rows_of t s) (limit_of t.max_entries) (violation_score v) on (order t s h) (few_rows t s h) e found)
           (raised_is ∙ ap (λ (b : GossipBanEntry). raised b points now) kept-is)
 
-      pub violated-new : (first x y : GossipBanEntry) (bans : Bool) (answer : Told) → look k.bytes (rows_of t s) ≡ none → first ≡ entry_default
+      pub violated_new : (first x y : GossipBanEntry) (bans : Bool) (answer : Told) → look k.bytes (rows_of t s) ≡ none → first ≡ entry_default
           → x ≡ raised first points now → bans ≡ reaches t.config x → answer ≡ told bans → y ≡ banned_if_reached t.config x now
           → Left t s (store k.bytes y (room_for (limit_of t.max_entries) t.config.duration_ms now (rows_of t s))) q u
           → RecordViolationMeets t s k v now (record { tracker = q; answer = answer }) u
-      violated-new first x y bans answer found first-is raised_is =
-          violated-over entry_default x y bans answer (room_for (limit_of t.max_entries) t.config.duration_ms now (rows_of t s))
-          (violation-new t.config k.bytes now (rows_of t s) (limit_of t.max_entries) (violation_score v) on (order t s h) (few_rows t s h) (omega arith) found)
+      violated_new first x y bans answer found first-is raised_is =
+          violated_over entry_default x y bans answer (room_for (limit_of t.max_entries) t.config.duration_ms now (rows_of t s))
+          (violation_new t.config k.bytes now (rows_of t s) (limit_of t.max_entries) (violation_score v) on (order t s h) (few_rows t s h) (omega arith) found)
           (raised_is ∙ ap (λ (b : GossipBanEntry). raised b points now) first-is)
 
 -- ════ is_banned ════
@@ -152,28 +152,28 @@ module _ (t : GossipBanTracker) (s : List ℕ) (k : Pubkey) (now : ℕ) where
   standing_unsound h = refuses _ t s _ h
 
   module _ (h : sound t s ≡ true) where
-    pub standing-off : gossip_ban_disabled t.config ≡ true → IsBannedMeets t s k now (ban_told t false) s
+    pub standing_off : gossip_ban_disabled t.config ≡ true → IsBannedMeets t s k now (ban_told t false) s
     unfolding IsBannedMeets is_banned_outcome
-    standing-off off = met ban_told _ t s s h (banned_off t.config k.bytes now (rows_of t s) off) (stays ban_told t s false)
+    standing_off off = met ban_told _ t s s h (banned_off t.config k.bytes now (rows_of t s) off) (stays ban_told t s false)
 
-    pub standing-absent : Bytes s → look k.bytes (rows_of t s) ≡ none → IsBannedMeets t s k now (ban_told t false) s
+    pub standing_absent : Bytes s → look k.bytes (rows_of t s) ≡ none → IsBannedMeets t s k now (ban_told t false) s
     unfolding IsBannedMeets is_banned_outcome
-    standing-absent b found =
+    standing_absent b found =
         by_test (gossip_ban_disabled t.config)
         (λ off. met ban_told _ t s s h (banned_off t.config k.bytes now (rows_of t s) off) (stays ban_told t s false))
-        (λ on. met ban_told _ t s s h (banned-absent t.config k.bytes now (rows_of t s) on found) (keeps ban_told t s false b h))
+        (λ on. met ban_told _ t s s h (banned_absent t.config k.bytes now (rows_of t s) on found) (keeps ban_told t s false b h))
 
     module _ (on : gossip_ban_disabled t.config ≡ false) (e : GossipBanEntry) (found : look k.bytes (rows_of t s) ≡ some e) where
-      pub standing-expired : is_expired e t.config.duration_ms now ≡ true → (q : GossipBanTracker) (u : List ℕ)
+      pub standing_expired : is_expired e t.config.duration_ms now ≡ true → (q : GossipBanTracker) (u : List ℕ)
           → Left t s (erase k.bytes (rows_of t s)) q u → IsBannedMeets t s k now (ban_told q false) u
       unfolding IsBannedMeets is_banned_outcome
-      standing-expired x q u left =
-          met ban_told _ t s u h (banned-expired t.config k.bytes now (rows_of t s) on e (order t s h) found x) (becomes ban_told t s false _ q u left)
+      standing_expired x q u left =
+          met ban_told _ t s u h (banned_expired t.config k.bytes now (rows_of t s) on e (order t s h) found x) (becomes ban_told t s false _ q u left)
 
-      pub standing-live : Bytes s → is_expired e t.config.duration_ms now ≡ false → IsBannedMeets t s k now (ban_told t (is_currently_banned e now)) s
+      pub standing_live : Bytes s → is_expired e t.config.duration_ms now ≡ false → IsBannedMeets t s k now (ban_told t (is_currently_banned e now)) s
       unfolding IsBannedMeets is_banned_outcome
-      standing-live b x =
-          met ban_told _ t s s h (banned-live t.config k.bytes now (rows_of t s) on e found x) (keeps ban_told t s (is_currently_banned e now) b h)
+      standing_live b x =
+          met ban_told _ t s s h (banned_live t.config k.bytes now (rows_of t s) on e found x) (keeps ban_told t s (is_currently_banned e now) b h)
 
   -- ════ Score ════
 
@@ -182,20 +182,20 @@ module _ (t : GossipBanTracker) (s : List ℕ) (k : Pubkey) (now : ℕ) where
   scored_unsound h = refuses _ t s _ h
 
   module _ (h : sound t s ≡ true) where
-    pub scored-absent : Bytes s → look k.bytes (rows_of t s) ≡ none → ScoreMeets t s k now (ban_scored t 0) s
+    pub scored_absent : Bytes s → look k.bytes (rows_of t s) ≡ none → ScoreMeets t s k now (ban_scored t 0) s
     unfolding ScoreMeets score_outcome
-    scored-absent b found = met ban_scored _ t s s h (score_absent t.config k.bytes now (rows_of t s) found) (keeps ban_scored t s 0 b h)
+    scored_absent b found = met ban_scored _ t s s h (score_absent t.config k.bytes now (rows_of t s) found) (keeps ban_scored t s 0 b h)
 
     module _ (e : GossipBanEntry) (found : look k.bytes (rows_of t s) ≡ some e) where
-      pub scored-expired : is_expired e t.config.duration_ms now ≡ true → (q : GossipBanTracker) (u : List ℕ)
+      pub scored_expired : is_expired e t.config.duration_ms now ≡ true → (q : GossipBanTracker) (u : List ℕ)
           → Left t s (erase k.bytes (rows_of t s)) q u → ScoreMeets t s k now (ban_scored q 0) u
       unfolding ScoreMeets score_outcome
-      scored-expired x q u left =
+      scored_expired x q u left =
           met ban_scored _ t s u h (score_expired t.config k.bytes now (rows_of t s) e (order t s h) found x) (becomes ban_scored t s 0 _ q u left)
 
-      pub scored-live : Bytes s → is_expired e t.config.duration_ms now ≡ false → ScoreMeets t s k now (ban_scored t e.score) s
+      pub scored_live : Bytes s → is_expired e t.config.duration_ms now ≡ false → ScoreMeets t s k now (ban_scored t e.score) s
       unfolding ScoreMeets score_outcome
-      scored-live b x = met ban_scored _ t s s h (score_live t.config k.bytes now (rows_of t s) e found x) (keeps ban_scored t s e.score b h)
+      scored_live b x = met ban_scored _ t s s h (score_live t.config k.bytes now (rows_of t s) e found x) (keeps ban_scored t s e.score b h)
 
 -- ════ prune_expired ════
 

@@ -28,19 +28,19 @@ use Rattle.gossip_bans.specs.Private.{Known, Unknown}
 module _ (t : GossipBanTracker) (s : List ℕ) where
   module _ (k : List ℕ) where
     -- the record breaks its own rules
-    pub sought-own : tracker_sound t ≡ false → sought_in t s k ≡ Unsound
-    sought-own = lent.sought-own ban_layout ban_sound (tracker_sound t) (limit_of t.max_entries) s t.rows k
+    pub sought_own : tracker_sound t ≡ false → sought_in t s k ≡ Unsound
+    sought_own = lent.sought_own ban_layout ban_sound (tracker_sound t) (limit_of t.max_entries) s t.rows k
 
     -- the memory is too short
-    pub sought-length : tracker_sound t ≡ true → length s / 65 < limit_of t.max_entries → sought_in t s k ≡ Unsound
-    sought-length own short =
-        lent.sought-length ban_layout ban_sound (tracker_sound t) (limit_of t.max_entries) s t.rows k own
+    pub sought_length : tracker_sound t ≡ true → length s / 65 < limit_of t.max_entries → sought_in t s k ≡ Unsound
+    sought_length own short =
+        lent.sought_length ban_layout ban_sound (tracker_sound t) (limit_of t.max_entries) s t.rows k own
         (lent.too_short_lem ban_layout (limit_of t.max_entries) s (omega arith) short)
 
     -- the walk over the rows is the answer
-    pub sought-rows : tracker_sound t ≡ true → limit_of t.max_entries ≤ length s / 65 → sought_in t s k ≡ seek ban_sound k (rows_of t s)
-    sought-rows own long =
-        lent.sought-rows ban_layout ban_sound (tracker_sound t) (limit_of t.max_entries) s t.rows k own
+    pub sought_rows : tracker_sound t ≡ true → limit_of t.max_entries ≤ length s / 65 → sought_in t s k ≡ seek ban_sound k (rows_of t s)
+    sought_rows own long =
+        lent.sought_rows ban_layout ban_sound (tracker_sound t) (limit_of t.max_entries) s t.rows k own
         (lent.long_enough_lem ban_layout (limit_of t.max_entries) s (omega arith) long)
 
     -- what the answers say
@@ -56,7 +56,7 @@ module _ (t : GossipBanTracker) (s : List ℕ) where
   module _ (h : sound t s ≡ true) where
     -- the rows are within the limit
     pub few : t.rows ≤ limit_of t.max_entries
-    few = rows_within t (lent.own-sound ban_layout ban_sound (tracker_sound t) (limit_of t.max_entries) s t.rows h)
+    few = rows_within t (lent.own_sound_lem ban_layout ban_sound (tracker_sound t) (limit_of t.max_entries) s t.rows h)
 
     pub few_rows : length (rows_of t s) ≤ limit_of t.max_entries
     few_rows = omega (arith, few, length_rows ban_layout s t.rows)
@@ -71,7 +71,7 @@ module _ (t : GossipBanTracker) (s : List ℕ) where
 
     -- the keys ascend
     pub order : ascending (rows_of t s) ≡ true
-    order = lent.order-kept ban_layout ban_sound (tracker_sound t) (limit_of t.max_entries) s t.rows h
+    order = lent.order_kept ban_layout ban_sound (tracker_sound t) (limit_of t.max_entries) s t.rows h
 
   module _ (k : List ℕ) (i : ℕ) (h : Known t s k i) where
     -- a known peer's row is one of the tracker's
@@ -94,7 +94,7 @@ module _ (t : GossipBanTracker) (s : List ℕ) where
       score_fits =
           leb-true _ _
           (both_parts (leb e.score 4294967295) _
-          (ap entry_sound read ∙ lent.known-rule ban_layout ban_sound (tracker_sound t) (limit_of t.max_entries) s t.rows k i h)).0
+          (ap entry_sound read ∙ lent.known_rule ban_layout ban_sound (tracker_sound t) (limit_of t.max_entries) s t.rows k i h)).0
 
 -- nothing is found for a peer without a row
 pub unknown_look : (t : GossipBanTracker) (s : List ℕ) (k : List ℕ) (i : ℕ) → Unknown t s k i → look k (rows_of t s) ≡ none

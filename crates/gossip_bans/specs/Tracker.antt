@@ -4,7 +4,7 @@ use Rattle.std.proofs.Math.Option.{Option, none, some}
 use Rattle.table.specs.Table.{look, store}
 use Rattle.table.specs.Memory.{rows}
 use Rattle.table.specs.Outcome.{Change, same, become, Outcome}
-use Rattle.table_laws.specs.Lent.{lentSound}
+use Rattle.table_laws.specs.Lent.{lent_sound}
 use Rattle.gossip_settings.specs.declared.ban.GossipBanConfig.{GossipBanConfig}
 use Rattle.gossip_settings.specs.Settings.{gossip_ban_disabled, max_tracked_peers}
 use Rattle.gossip_ban_rows.specs.declared.entry.GossipBanEntry.{GossipBanEntry}
@@ -29,7 +29,7 @@ tracker_sound t = leb t.max_entries max_tracked_peers && leb t.rows (limit_of t.
 
 -- a tracker and the memory lent to it
 abbrev pub sound : GossipBanTracker → List ℕ → Bool
-sound t s = lentSound ban_layout ban_sound (tracker_sound t) (limit_of t.max_entries) s t.rows
+sound t s = lent_sound ban_layout ban_sound (tracker_sound t) (limit_of t.max_entries) s t.rows
 
 -- ════ The calls, on rows ════
 

@@ -10,8 +10,8 @@ use borrow.Author.Tests.{leb-true, le-leb}
 use Rattle.std.proofs.Math.ListN.{length}
 use Rattle.truths.specs.TruthLaws.{by_test, both, both_parts}
 use Rattle.table.specs.Table.{ascending, look, erase}
-use Rattle.table.specs.LookLaws.{look-erase-same, sub_look_none}
-use Rattle.table.specs.PlaceLaws.{length-erase-some}
+use Rattle.table.specs.LookLaws.{look_erase_same, sub_look_none}
+use Rattle.table.specs.PlaceLaws.{length_erase_some}
 use Rattle.table.specs.Outcome.{become, same}
 use Rattle.table_laws.specs.StoreLaws.{store_erase}
 use Rattle.gossip_settings.specs.declared.ban.GossipBanConfig.{GossipBanConfig}
@@ -48,9 +48,9 @@ module _ (c : GossipBanConfig) (k : List ℕ) (now : ℕ) (rs : Bans) where
 
   module _ (limit points : ℕ) where
     -- bans are off
-    pub violation-off : gossip_ban_disabled c ≡ true → record_violation c limit k points now rs ≡ turn false same
+    pub violation_off : gossip_ban_disabled c ≡ true → record_violation c limit k points now rs ≡ turn false same
     unfolding record_violation
-    violation-off h = rw h
+    violation_off h = rw h
 
     module _ (on : gossip_ban_disabled c ≡ false) (order : ascending rs ≡ true) (few : length rs ≤ limit) where
       -- rows after expiry and room, and what is then found for the peer
@@ -62,16 +62,16 @@ module _ (c : GossipBanConfig) (k : List ℕ) (now : ℕ) (rs : Bans) where
           ∙ ap (recorded_among c k points now) room ∙ ap (λ (o : Option GossipBanEntry). recorded_over c k points now qs (or_default o)) looked
 
       -- the peer has an entry: it is added to, or made anew where it is expired, in its place; no other row goes
-      pub violation-known : (e : GossipBanEntry) → look k rs ≡ some e
+      pub violation_known : (e : GossipBanEntry) → look k rs ≡ some e
           → record_violation c limit k points now rs ≡ recorded_over c k points now rs (unexpired_or_default e c.duration_ms now)
       unfolding unexpired_or_default
-      violation-known e found =
+      violation_known e found =
           let duration : ℕ = c.duration_ms in
           by_test (is_expired e duration now)
           (λ h. let gone : maybe_expire duration now k rs ≡ erase k rs = expire_expired duration now k rs e found h in
-          let fewer : length (erase k rs) < limit = omega (arith, length-erase-some k rs found) in
+          let fewer : length (erase k rs) < limit = omega (arith, length_erase_some k rs found) in
           let x : GossipBanEntry = raised entry_default points now in
-          stepped (erase k rs) none (ap (make_room limit duration now k) gone ∙ make_free limit duration now k (erase k rs) fewer) (look-erase-same k rs order)
+          stepped (erase k rs) none (ap (make_room limit duration now k) gone ∙ make_free limit duration now k (erase k rs) fewer) (look_erase_same k rs order)
           ∙ ap (λ (qs : Bans). turn (reaches c x) (become qs)) (store_erase k (banned_if_reached c x now) rs order)
           ∙ sym (ap (λ (b : Bool). recorded_over c k points now rs (cond b entry_default e)) h))
           (λ h. let stays : maybe_expire duration now k rs ≡ rs = expire_live duration now k rs e found h in
@@ -79,9 +79,9 @@ module _ (c : GossipBanConfig) (k : List ℕ) (now : ℕ) (rs : Bans) where
           ∙ sym (ap (λ (b : Bool). recorded_over c k points now rs (cond b entry_default e)) h))
 
       -- the peer has none: room is made for a new one
-      pub violation-new : 0 < limit → look k rs ≡ none
+      pub violation_new : 0 < limit → look k rs ≡ none
           → record_violation c limit k points now rs ≡ recorded_over c k points now (room_for limit c.duration_ms now rs) entry_default
-      violation-new least found =
+      violation_new least found =
           let duration : ℕ = c.duration_ms in
           stepped (room_for limit duration now rs) none
           (ap (make_room limit duration now k) (expire_absent duration now k rs found) ∙ room_absent limit duration now k rs found order least few)
@@ -95,27 +95,27 @@ module _ (c : GossipBanConfig) (k : List ℕ) (now : ℕ) (rs : Bans) where
   banned_off h = rw h
 
   module _ (on : gossip_ban_disabled c ≡ false) where
-    banned-among : (qs : Bans) (found : Option GossipBanEntry) → maybe_expire c.duration_ms now k rs ≡ qs → look k qs ≡ found
+    banned_among_lem : (qs : Bans) (found : Option GossipBanEntry) → maybe_expire c.duration_ms now k rs ≡ qs → look k qs ≡ found
         → is_banned c k now rs ≡ turn (is_live now found) (become qs)
     unfolding is_banned
-    banned-among qs found step looked =
+    banned_among_lem qs found step looked =
         ap (λ (b : Bool). cond b (turn false same) (banned_among k now (maybe_expire c.duration_ms now k rs))) on
         ∙ ap (banned_among k now) step ∙ ap (λ (o : Option GossipBanEntry). turn (is_live now o) (become qs)) looked
 
     -- the peer has no entry
-    pub banned-absent : look k rs ≡ none → is_banned c k now rs ≡ turn false (become rs)
-    banned-absent found = banned-among rs none (expire_absent c.duration_ms now k rs found) found
+    pub banned_absent : look k rs ≡ none → is_banned c k now rs ≡ turn false (become rs)
+    banned_absent found = banned_among_lem rs none (expire_absent c.duration_ms now k rs found) found
 
     -- its entry is expired
-    pub banned-expired : (e : GossipBanEntry) → ascending rs ≡ true → look k rs ≡ some e → is_expired e c.duration_ms now ≡ true
+    pub banned_expired : (e : GossipBanEntry) → ascending rs ≡ true → look k rs ≡ some e → is_expired e c.duration_ms now ≡ true
         → is_banned c k now rs ≡ turn false (become (erase k rs))
-    banned-expired e order found h =
-        banned-among (erase k rs) none (expire_expired c.duration_ms now k rs e found h) (look-erase-same k rs order)
+    banned_expired e order found h =
+        banned_among_lem (erase k rs) none (expire_expired c.duration_ms now k rs e found h) (look_erase_same k rs order)
 
     -- it is not
-    pub banned-live : (e : GossipBanEntry) → look k rs ≡ some e → is_expired e c.duration_ms now ≡ false
+    pub banned_live : (e : GossipBanEntry) → look k rs ≡ some e → is_expired e c.duration_ms now ≡ false
         → is_banned c k now rs ≡ turn (is_currently_banned e now) (become rs)
-    banned-live e found h = banned-among rs (some e) (expire_live c.duration_ms now k rs e found h) found
+    banned_live e found h = banned_among_lem rs (some e) (expire_live c.duration_ms now k rs e found h) found
 
   -- ════ Score ════
 
@@ -133,7 +133,7 @@ module _ (c : GossipBanConfig) (k : List ℕ) (now : ℕ) (rs : Bans) where
   pub score_expired : (e : GossipBanEntry) → ascending rs ≡ true → look k rs ≡ some e → is_expired e c.duration_ms now ≡ true
       → score c k now rs ≡ turn 0 (become (erase k rs))
   score_expired e order found h =
-      score_among_lem (erase k rs) none (expire_expired c.duration_ms now k rs e found h) (look-erase-same k rs order)
+      score_among_lem (erase k rs) none (expire_expired c.duration_ms now k rs e found h) (look_erase_same k rs order)
 
   -- it is not
   pub score_live : (e : GossipBanEntry) → look k rs ≡ some e → is_expired e c.duration_ms now ≡ false

@@ -3,6 +3,8 @@
 //
 // The tracker goes by value and comes back beside the answer; its rows stand in bytes that the caller lends. Every call takes any
 // arguments over any lent memory. One on an unsound tracker or table is refused with 3, and a refused call changes no byte.
+#![tactic(auto)]
+
 pub mod answer;
 mod calls;
 mod carry;

@@ -14,7 +14,7 @@ use table::seek::Seek;
 
 // Settings, how many peers have an entry at most (the limit as it was given; 0 counts as 1), and how many rows of the lent memory are
 // in use.
-#[derive(Drop)]
+#[derive(Clone, Copy)]
 pub struct GossipBanTracker {
     pub config: GossipBanConfig,
     pub max_entries: u64,

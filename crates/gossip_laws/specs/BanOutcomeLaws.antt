@@ -22,25 +22,25 @@ module _ (before : List ℕ) {first second : List ℕ} where
   made_one c limit m n = one_meets m n
 
   module _ (t : GossipBanTracker) (now : ℕ) where
-    pub record-violation-one : (k : Pubkey) (v : GossipViolation) {r q : BanTold} → RecordViolationMeets t before k v now r first
+    pub record_violation_one : (k : Pubkey) (v : GossipViolation) {r q : BanTold} → RecordViolationMeets t before k v now r first
         → RecordViolationMeets t before k v now q second → (r ≡ q) × (first ≡ second)
     unfolding RecordViolationMeets
-    record-violation-one k v m n = one_meets m n
+    record_violation_one k v m n = one_meets m n
 
-    pub is-banned-one : (k : Pubkey) {r q : BanTold} → IsBannedMeets t before k now r first → IsBannedMeets t before k now q second
+    pub is_banned_one : (k : Pubkey) {r q : BanTold} → IsBannedMeets t before k now r first → IsBannedMeets t before k now q second
         → (r ≡ q) × (first ≡ second)
     unfolding IsBannedMeets
-    is-banned-one k m n = one_meets m n
+    is_banned_one k m n = one_meets m n
 
-    pub score-one : (k : Pubkey) {r q : BanScored} → ScoreMeets t before k now r first → ScoreMeets t before k now q second
+    pub score_one : (k : Pubkey) {r q : BanScored} → ScoreMeets t before k now r first → ScoreMeets t before k now q second
         → (r ≡ q) × (first ≡ second)
     unfolding ScoreMeets
-    score-one k m n = one_meets m n
+    score_one k m n = one_meets m n
 
-    pub prune-expired-one : {r q : BanPruned} → PruneExpiredMeets t before now r first → PruneExpiredMeets t before now q second
+    pub prune_expired_one : {r q : BanPruned} → PruneExpiredMeets t before now r first → PruneExpiredMeets t before now q second
         → (r ≡ q) × (first ≡ second)
     unfolding PruneExpiredMeets
-    prune-expired-one m n = one_meets m n
+    prune_expired_one m n = one_meets m n
 
 pub tracked_peers_one : (t : GossipBanTracker) {r q : Tracked} → TrackedPeersMeets t r → TrackedPeersMeets t q → r ≡ q
 unfolding TrackedPeersMeets

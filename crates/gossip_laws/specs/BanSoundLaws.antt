@@ -13,14 +13,14 @@ use Rattle.lent_bytes.specs.LentBytes.{Bytes}
 use Rattle.pubkey.specs.declared.Pubkey.{Pubkey}
 use Rattle.table.specs.Table.{every, ascending, look}
 use Rattle.table.specs.LookLaws.{look_rule, sub_look_none}
-use Rattle.table.specs.PlaceLaws.{length-store-some, length-store-none}
+use Rattle.table.specs.PlaceLaws.{length_store_some, length_store_none}
 use Rattle.table.specs.Memory.{rows}
 use Rattle.table.specs.Outcome.{Change, become, count_after, Memory, Outcome, Meets}
 use Rattle.table_laws.specs.Lent.{long_enough}
-use Rattle.table_laws.specs.LentLaws.{own-sound}
+use Rattle.table_laws.specs.LentLaws.{own_sound_lem}
 use Rattle.table_laws.specs.WordsLaws.{OfNumbers, of_numbers, length_encode, encode_bytes}
 use Rattle.table_laws.specs.Kept.{Key, Encodes, RowsHold, ChangeHolds, LentHolds, LentKept}
-use Rattle.table_laws.specs.KeptLaws.{sub_hold, store_hold, lent-holds, holds-lent, rows_hold, change_kept, length-laid-keyed}
+use Rattle.table_laws.specs.KeptLaws.{sub_hold, store_hold, lent_holds, holds_lent, rows_hold, change_kept, length_laid_keyed}
 use Rattle.gossip_settings.specs.declared.ban.GossipBanConfig.{GossipBanConfig}
 use Rattle.gossip_settings.specs.declared.violation.GossipViolation.{GossipViolation}
 use Rattle.gossip_settings.specs.Settings.{gossip_ban_disabled, violation_score}
@@ -39,7 +39,7 @@ use Rattle.gossip_bans.specs.declared.answer.BanScored.{BanScored}
 use Rattle.gossip_bans.specs.declared.answer.BanPruned.{BanPruned}
 use Rattle.gossip_bans.specs.declared.answer.Pruned.TheVariants as Pruned
 use Rattle.gossip_bans.specs.Tracker.{rows_of, limit_of, tracker_sound, sound, turn, record_violation, is_banned, score}
-use Rattle.gossip_bans.specs.TrackerLaws.{limit_within, rows_within, within_sound, violation-off, violation-known, violation-new}
+use Rattle.gossip_bans.specs.TrackerLaws.{limit_within, rows_within, within_sound, violation_off, violation_known, violation_new}
 use Rattle.gossip_bans.specs.Calls.{tracker_after, carried, refuse, fresh, made_outcome, MadeMeets, ban_told, record_violation_outcome, RecordViolationMeets, is_banned_outcome, IsBannedMeets, ban_scored, score_outcome, ScoreMeets, ban_pruned, prune_expired_outcome, PruneExpiredMeets}
 
 -- ════ Entries ════
@@ -89,10 +89,10 @@ ban_encodes = record { key_fits = omega arith; length_encode = length_encode ban
 
 module _ (t : GossipBanTracker) (s : List ℕ) (h : sound t s ≡ true) (b : Bytes s) where
   own : tracker_sound t ≡ true
-  own = own-sound ban_layout ban_sound (tracker_sound t) (limit_of t.max_entries) s t.rows h
+  own = own_sound_lem ban_layout ban_sound (tracker_sound t) (limit_of t.max_entries) s t.rows h
 
   held : LentHolds ban_layout ban_sound (limit_of t.max_entries) s t.rows
-  held = lent-holds ban_layout ban_sound (limit_of t.max_entries) s t.rows (tracker_sound t) (rows_within t own) h
+  held = lent_holds ban_layout ban_sound (limit_of t.max_entries) s t.rows (tracker_sound t) (rows_within t own) h
 
   -- the rows of a sound tracker
   tracked_hold : RowsHold ban_layout ban_sound (limit_of t.max_entries) (rows_of t s)
@@ -106,7 +106,7 @@ module _ (t : GossipBanTracker) (s : List ℕ) (h : sound t s ≡ true) (b : Byt
       change_kept ban_encodes ban_sound (limit_of t.max_entries) s u t.rows change held b rs m in
       record {
         stays_sound =
-            holds-lent ban_layout ban_sound (limit_of t.max_entries) u (count_after t.rows change)
+            holds_lent ban_layout ban_sound (limit_of t.max_entries) u (count_after t.rows change)
             (within_sound (tracker_after t change) (limit_within t own) kept.holds.few) kept.holds;
         same_length = kept.same_length;
         holds_bytes = kept.holds_bytes;
@@ -142,33 +142,33 @@ module _ (c : GossipBanConfig) (limit now : ℕ) (k : List ℕ) (rs : Bans) (h :
 
   module _ (points : ℕ) (key : Key ban_layout k) (least : 0 < limit) where
     -- an entry that a violation was added to
-    violated-sound : (e : GossipBanEntry) → entry_sound e ≡ true → entry_sound (banned_if_reached c (raised e points now) now) ≡ true
-    violated-sound e sound-entry = ban_sound_lem c (raised e points now) now (raised_sound e points now sound-entry)
+    violated_sound : (e : GossipBanEntry) → entry_sound e ≡ true → entry_sound (banned_if_reached c (raised e points now) now) ≡ true
+    violated_sound e sound-entry = ban_sound_lem c (raised e points now) now (raised_sound e points now sound-entry)
 
-    violation-by : gossip_ban_disabled c ≡ false → (found : Option GossipBanEntry) → look k rs ≡ found
+    violation_by : gossip_ban_disabled c ≡ false → (found : Option GossipBanEntry) → look k rs ≡ found
         → ChangeHolds ban_layout ban_sound limit (record_violation c limit k points now rs).change
-    violation-by on none l =
+    violation_by on none l =
         let left : Bans = room_for limit c.duration_ms now rs in
         let x : GossipBanEntry = banned_if_reached c (raised entry_default points now) now in
         let gone : look k left ≡ none = sub_look_none (sub_room limit c.duration_ms now rs) h.order k l in
         subst (λ (o : Outcome GossipBanEntry Bool). ChangeHolds ban_layout ban_sound limit o.change)
-        (sym (violation-new c k now rs limit points on h.order h.few least l))
-        (store_hold ban_layout ban_sound limit k x left key (violated-sound entry_default default_sound)
+        (sym (violation_new c k now rs limit points on h.order h.few least l))
+        (store_hold ban_layout ban_sound limit k x left key (violated_sound entry_default default_sound)
         (sub_hold ban_layout ban_sound limit (sub_room limit c.duration_ms now rs) h)
-        (omega (arith, length-store-none k left x gone, room_for_one limit c.duration_ms now rs least h.few)))
-    violation-by on (some e) l =
+        (omega (arith, length_store_none k left x gone, room_for_one limit c.duration_ms now rs least h.few)))
+    violation_by on (some e) l =
         let start : GossipBanEntry = unexpired_or_default e c.duration_ms now in
         let x : GossipBanEntry = banned_if_reached c (raised start points now) now in
         let sound-start : entry_sound start ≡ true = anew_sound e c.duration_ms now (look_rule ban_sound k rs h.rules l) in
         subst (λ (o : Outcome GossipBanEntry Bool). ChangeHolds ban_layout ban_sound limit o.change)
-        (sym (violation-known c k now rs limit points on h.order h.few e l))
-        (store_hold ban_layout ban_sound limit k x rs key (violated-sound start sound-start) h (omega (arith, length-store-some k rs x l, h.few)))
+        (sym (violation_known c k now rs limit points on h.order h.few e l))
+        (store_hold ban_layout ban_sound limit k x rs key (violated_sound start sound-start) h (omega (arith, length_store_some k rs x l, h.few)))
 
-    violation-holds : ChangeHolds ban_layout ban_sound limit (record_violation c limit k points now rs).change
-    violation-holds =
+    violation_holds : ChangeHolds ban_layout ban_sound limit (record_violation c limit k points now rs).change
+    violation_holds =
         by_test (gossip_ban_disabled c)
-        (λ t. subst (λ (o : Outcome GossipBanEntry Bool). ChangeHolds ban_layout ban_sound limit o.change) (sym (violation-off c k now rs limit points t)) tt)
-        (λ t. violation-by t (look k rs) refl)
+        (λ t. subst (λ (o : Outcome GossipBanEntry Bool). ChangeHolds ban_layout ban_sound limit o.change) (sym (violation_off c k now rs limit points t)) tt)
+        (λ t. violation_by t (look k rs) refl)
 
 -- ════ Making ════
 
@@ -189,9 +189,9 @@ module _ (c : GossipBanConfig) (limit : ℕ) (s u : List ℕ) where
       let within : limit ≤ 1024 = ltb-false 1024 limit parts.1.0 in
       let long : row_width * limit_of limit ≤ length s = leb-true (row_width * limit_of limit) (length s) parts.1.1.0 in
       let same_length : length u ≡ length s =
-      ap length parts.1.1.1.memory ∙ length-laid-keyed ban_encodes s (limit_of limit) [] tt long (omega arith) in
+      ap length parts.1.1.1.memory ∙ length_laid_keyed ban_encodes s (limit_of limit) [] tt long (omega arith) in
       let here : sound (fresh c limit) u ≡ true =
-      holds-lent ban_layout ban_sound (limit_of limit) u 0 (within_sound (fresh c limit) within (omega arith))
+      holds_lent ban_layout ban_sound (limit_of limit) u 0 (within_sound (fresh c limit) within (omega arith))
       (record { few = omega arith; long = omega arith; rules = refl; order = refl }) in
       (subst (λ (q : GossipBanTracker). sound q u ≡ true) (sym parts.0) here, (same_length, parts.0))
 
@@ -199,22 +199,22 @@ module _ (c : GossipBanConfig) (limit : ℕ) (s u : List ℕ) where
 
 module _ (t : GossipBanTracker) (s u : List ℕ) (now : ℕ) (h : sound t s ≡ true) (b : Bytes s) where
   module _ (k : Pubkey) where
-    pub record-violation-kept : (v : GossipViolation) (r : BanTold) → Key ban_layout k.bytes → RecordViolationMeets t s k v now r u → BanKept t s r.tracker u
+    pub record_violation_kept : (v : GossipViolation) (r : BanTold) → Key ban_layout k.bytes → RecordViolationMeets t s k v now r u → BanKept t s r.tracker u
     unfolding RecordViolationMeets record_violation_outcome
-    record-violation-kept v r key m =
+    record_violation_kept v r key m =
         carried_kept t s h b ban_told (λ (p : BanTold). p.tracker) (λ q a. refl) u r
         (record_violation t.config (limit_of t.max_entries) k.bytes (violation_score v) now (rows_of t s)) (rw h)
-        (violation-holds t.config (limit_of t.max_entries) now k.bytes (rows_of t s) (tracked_hold t s h b) (violation_score v) key (omega arith)) m
+        (violation_holds t.config (limit_of t.max_entries) now k.bytes (rows_of t s) (tracked_hold t s h b) (violation_score v) key (omega arith)) m
 
-    pub is-banned-kept : (r : BanTold) → IsBannedMeets t s k now r u → BanKept t s r.tracker u
+    pub is_banned_kept : (r : BanTold) → IsBannedMeets t s k now r u → BanKept t s r.tracker u
     unfolding IsBannedMeets is_banned_outcome
-    is-banned-kept r m =
+    is_banned_kept r m =
         carried_kept t s h b ban_told (λ (p : BanTold). p.tracker) (λ q a. refl) u r (is_banned t.config k.bytes now (rows_of t s)) (rw h)
         (is_banned_holds t.config (limit_of t.max_entries) now k.bytes (rows_of t s) (tracked_hold t s h b)) m
 
-    pub score-kept : (r : BanScored) → ScoreMeets t s k now r u → BanKept t s r.tracker u
+    pub score_kept : (r : BanScored) → ScoreMeets t s k now r u → BanKept t s r.tracker u
     unfolding ScoreMeets score_outcome
-    score-kept r m =
+    score_kept r m =
         carried_kept t s h b ban_scored (λ (p : BanScored). p.tracker) (λ q a. refl) u r (score t.config k.bytes now (rows_of t s)) (rw h)
         (score_holds t.config (limit_of t.max_entries) now k.bytes (rows_of t s) (tracked_hold t s h b)) m
 

@@ -15,7 +15,7 @@ use Rattle.gossip_limiter_rows.specs.Entry.{asked_of}
 use Rattle.gossip_limiter_rows.specs.Rows.{Limits}
 use Rattle.gossip_limiter_rows.specs.Prune.{room_for}
 use Rattle.gossip_limiter.specs.Limiter.{try_acquire}
-use Rattle.gossip_limiter.specs.LimiterLaws.{acquire-new}
+use Rattle.gossip_limiter.specs.LimiterLaws.{acquire_new}
 
 -- a full bucket stays full
 refill_full : (interval burst now : ℕ) → (discrete_refill (discrete_new interval burst) now).available ≡ burst
@@ -37,5 +37,5 @@ fresh_asked interval burst now some-burst = rw (refill_full interval burst now, 
 pub new_key_let_in : (c : ChannelUpdateRateLimitConfig) (limit : ℕ) (k : List ℕ) (now : ℕ) (rs : Limits) → channel_update_disabled c ≡ false
     → look k rs ≡ none → length (room_for limit c now rs) < limit → (try_acquire c limit k now rs).answer ≡ Told.Yes
 new_key_let_in c limit k now rs on missing free =
-    ap (λ (o : Outcome ChannelUpdateLimiterEntry Told). o.answer) (acquire-new c limit k now rs on missing free)
+    ap (λ (o : Outcome ChannelUpdateLimiterEntry Told). o.answer) (acquire_new c limit k now rs on missing free)
     ∙ fresh_asked c.interval_ms c.burst now (neither (eqb c.interval_ms 0) (eqb c.burst 0) on).1

@@ -5,7 +5,7 @@ use Rattle.std.proofs.Math.Path.{refl}
 use mathlib.Core.List.{List, [], ◌∷◌}
 use Rattle.std.proofs.Math.Option.{none}
 use Rattle.table.specs.Table.{row_under, look, store, retain}
-use Rattle.table.specs.LookLaws.{look-store-other}
+use Rattle.table.specs.LookLaws.{look_store_other}
 use Rattle.table.specs.Outcome.{become, Outcome}
 use Rattle.table_laws.specs.Raw.{map_entries}
 use Rattle.bucket_terms.specs.declared.answer.Told.{Told}
@@ -34,7 +34,7 @@ module _ (a b : List ℕ) (other : b ≡ a → ⊥) where
   -- B is not found beside A
   missing : (e : ChannelUpdateLimiterEntry) → look b (row_under a e ∷ []) ≡ none
   unfolding store look
-  missing e = look-store-other a e b other []
+  missing e = look_store_other a e b other []
 
   pub sample_H_first : acquire_h a 100 [] ≡ turn Told.Yes (become (used_h a 100))
   unfolding try_acquire room_for asked_of discrete_try_consume discrete_refill discrete_take store look

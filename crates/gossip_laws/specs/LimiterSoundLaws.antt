@@ -18,16 +18,16 @@ use Rattle.table.specs.Table.{row_under, every, ascending, look}
 use Rattle.table.specs.Memory.{rows}
 use Rattle.table.specs.TableLaws.{sub_retain}
 use Rattle.table.specs.LookLaws.{look_rule}
-use Rattle.table.specs.PlaceLaws.{length-store-some}
+use Rattle.table.specs.PlaceLaws.{length_store_some}
 use Rattle.table.specs.Outcome.{Change, become, count_after, Memory, Outcome, Meets}
 use Rattle.table_laws.specs.Raw.{map_entries}
 use Rattle.table_laws.specs.ChangeLaws.{length_store_most}
 use Rattle.table_laws.specs.Lent.{long_enough}
-use Rattle.table_laws.specs.LentLaws.{own-sound}
-use Rattle.table_laws.specs.MapLaws.{map-hold}
+use Rattle.table_laws.specs.LentLaws.{own_sound_lem}
+use Rattle.table_laws.specs.MapLaws.{map_hold}
 use Rattle.table_laws.specs.WordsLaws.{OfNumbers, of_numbers, length_encode, encode_bytes}
 use Rattle.table_laws.specs.Kept.{Key, Encodes, RowsHold, ChangeHolds, LentHolds, LentKept}
-use Rattle.table_laws.specs.KeptLaws.{sub_hold, store_hold, lent-holds, holds-lent, rows_hold, change_kept, length-laid-keyed}
+use Rattle.table_laws.specs.KeptLaws.{sub_hold, store_hold, lent_holds, holds_lent, rows_hold, change_kept, length_laid_keyed}
 use Rattle.bucket_terms.specs.declared.answer.Told.{Told}
 use Rattle.bucket_discrete.specs.declared.discrete.DiscreteTokenBucket.{DiscreteTokenBucket}
 use Rattle.bucket_discrete.specs.DiscreteBucket.{discrete_new}
@@ -44,7 +44,7 @@ use Rattle.gossip_limiter.specs.declared.answer.MadeLimiter.{MadeLimiter}
 use Rattle.gossip_limiter.specs.declared.answer.MadeLimiter.TheVariants as MadeLimiter
 use Rattle.gossip_limiter.specs.declared.answer.LimiterTold.{LimiterTold}
 use Rattle.gossip_limiter.specs.Limiter.{rows_of, limit_of, limiter_record_sound, sound, turn, try_acquire}
-use Rattle.gossip_limiter.specs.LimiterLaws.{limit_within, rows_within, within_sound, acquire_off, acquire-known, acquire-full, acquire-new}
+use Rattle.gossip_limiter.specs.LimiterLaws.{limit_within, rows_within, within_sound, acquire_off, acquire_known, acquire_full, acquire_new}
 use Rattle.gossip_limiter.specs.Calls.{limiter_after, carried, refuse, fresh, made_outcome, MadeMeets, try_acquire_outcome, TryAcquireMeets}
 
 -- ════ A row stored ════
@@ -92,7 +92,7 @@ module _ (c : ChannelUpdateRateLimitConfig) (limit now : ℕ) (k : List ℕ) (rs
   room_holds =
       by_room c now limit rs (RowsHold limiter_layout (limiter_sound c) limit) h
       (sub_hold limiter_layout (limiter_sound c) limit (sub_retain (not_full c) (map_entries (refilled c now) rs))
-      (map-hold (refilled c now) (limiter_sound c) (refilled_sound c now) limiter_layout limit rs h))
+      (map_hold (refilled c now) (limiter_sound c) (refilled_sound c now) limiter_layout limit rs h))
 
   module _ (key : Key limiter_layout k) (side : get_or k side_place 0 ≤ 1) where
     -- the call's change, by an equation of what it comes to
@@ -100,27 +100,27 @@ module _ (c : ChannelUpdateRateLimitConfig) (limit now : ℕ) (k : List ℕ) (rs
         → ChangeHolds limiter_layout (limiter_sound c) limit o.change → ChangeHolds limiter_layout (limiter_sound c) limit (try_acquire c limit k now rs).change
     comes o e held = subst (λ (x : Outcome ChannelUpdateLimiterEntry Told). ChangeHolds limiter_layout (limiter_sound c) limit x.change) (sym e) held
 
-    acquire-by : channel_update_disabled c ≡ false → (found : Option ChannelUpdateLimiterEntry) → look k rs ≡ found
+    acquire_by : channel_update_disabled c ≡ false → (found : Option ChannelUpdateLimiterEntry) → look k rs ≡ found
         → ChangeHolds limiter_layout (limiter_sound c) limit (try_acquire c limit k now rs).change
-    acquire-by on none l =
+    acquire_by on none l =
         let left : Limits = room_for limit c now rs in
         let b : DiscreteTokenBucket = discrete_new c.interval_ms c.burst in
         by_test (leb limit (length left))
-        (λ t. comes _ (acquire-full c limit k now rs on l (leb-true limit (length left) t)) room_holds)
+        (λ t. comes _ (acquire_full c limit k now rs on l (leb-true limit (length left) t)) room_holds)
         (λ t. let free : length left < limit = leb-false limit (length left) t in
-        comes _ (acquire-new c limit k now rs on l free)
+        comes _ (acquire_new c limit k now rs on l free)
         (store_hold limiter_layout (limiter_sound c) limit k (asked_of b now).entry left key (asked_sound c k b now side refl (omega arith)) room_holds
         (omega (arith, length_store_most k (asked_of b now).entry left))))
-    acquire-by on (some e) l =
+    acquire_by on (some e) l =
         let b : DiscreteTokenBucket = bucket_of c e in
-        comes _ (acquire-known c limit k now rs on e l)
+        comes _ (acquire_known c limit k now rs on e l)
         (store_hold limiter_layout (limiter_sound c) limit k (asked_of b now).entry rs key
         (asked_sound c k b now side refl (sound_level c (row_under k e) (look_rule (limiter_sound c) k rs h.rules l))) h
-        (omega (arith, length-store-some k rs (asked_of b now).entry l, h.few)))
+        (omega (arith, length_store_some k rs (asked_of b now).entry l, h.few)))
 
-    acquire-holds : ChangeHolds limiter_layout (limiter_sound c) limit (try_acquire c limit k now rs).change
-    acquire-holds =
-        by_test (channel_update_disabled c) (λ t. comes _ (acquire_off c limit k now rs t) tt) (λ t. acquire-by t (look k rs) refl)
+    acquire_holds : ChangeHolds limiter_layout (limiter_sound c) limit (try_acquire c limit k now rs).change
+    acquire_holds =
+        by_test (channel_update_disabled c) (λ t. comes _ (acquire_off c limit k now rs t) tt) (λ t. acquire_by t (look k rs) refl)
 
 -- ════ A change kept ════
 
@@ -141,11 +141,11 @@ limiter_encodes =
 
 module _ (l : ChannelUpdateLimiter) (s : List ℕ) (h : sound l s ≡ true) (b : Bytes s) where
   own : limiter_record_sound l ≡ true
-  own = own-sound limiter_layout (limiter_sound l.config) (limiter_record_sound l) (limit_of l.max_entries) s l.rows h
+  own = own_sound_lem limiter_layout (limiter_sound l.config) (limiter_record_sound l) (limit_of l.max_entries) s l.rows h
 
   held : LentHolds limiter_layout (limiter_sound l.config) (limit_of l.max_entries) s l.rows
   held =
-      lent-holds limiter_layout (limiter_sound l.config) (limit_of l.max_entries) s l.rows (limiter_record_sound l) (rows_within l own) h
+      lent_holds limiter_layout (limiter_sound l.config) (limit_of l.max_entries) s l.rows (limiter_record_sound l) (rows_within l own) h
 
   -- the rows of a sound limiter
   limited_hold : RowsHold limiter_layout (limiter_sound l.config) (limit_of l.max_entries) (rows_of l s)
@@ -160,7 +160,7 @@ module _ (l : ChannelUpdateLimiter) (s : List ℕ) (h : sound l s ≡ true) (b :
       change_kept limiter_encodes (limiter_sound l.config) (limit_of l.max_entries) s u l.rows change held b rs m in
       record {
         stays_sound =
-            holds-lent limiter_layout (limiter_sound l.config) (limit_of l.max_entries) u (count_after l.rows change)
+            holds_lent limiter_layout (limiter_sound l.config) (limit_of l.max_entries) u (count_after l.rows change)
             (within_sound (limiter_after l change) (limit_within l own) kept.holds.few) kept.holds;
         same_length = kept.same_length;
         holds_bytes = kept.holds_bytes;
@@ -187,9 +187,9 @@ module _ (c : ChannelUpdateRateLimitConfig) (limit : ℕ) (s u : List ℕ) where
       let within : limit ≤ 1024 = ltb-false 1024 limit parts.1.0 in
       let long : row_width * limit_of limit ≤ length s = leb-true (row_width * limit_of limit) (length s) parts.1.1.0 in
       let same_length : length u ≡ length s =
-      ap length parts.1.1.1.memory ∙ length-laid-keyed limiter_encodes s (limit_of limit) [] tt long (omega arith) in
+      ap length parts.1.1.1.memory ∙ length_laid_keyed limiter_encodes s (limit_of limit) [] tt long (omega arith) in
       let here : sound (fresh c limit) u ≡ true =
-      holds-lent limiter_layout (limiter_sound c) (limit_of limit) u 0 (within_sound (fresh c limit) within (omega arith))
+      holds_lent limiter_layout (limiter_sound c) (limit_of limit) u 0 (within_sound (fresh c limit) within (omega arith))
       (record { few = omega arith; long = omega arith; rules = refl; order = refl }) in
       (subst (λ (q : ChannelUpdateLimiter). sound q u ≡ true) (sym parts.0) here, (same_length, parts.0))
 
@@ -204,5 +204,5 @@ module _ (l : ChannelUpdateLimiter) (s u : List ℕ) (now : ℕ) (h : sound l s 
       let met : Meets limiter_layout r s u l.rows (carried l o) = rw h at m in
       subst (λ (q : ChannelUpdateLimiter). LimiterKept l s q u) (sym (ap (λ (p : LimiterTold). p.limiter) met.answers))
       (changed l s h b u o.change
-      (acquire-holds l.config (limit_of l.max_entries) now (limiter_key_bytes k) (rows_of l s) (limited_hold l s h b)
+      (acquire_holds l.config (limit_of l.max_entries) now (limiter_key_bytes k) (rows_of l s) (limited_hold l s h b)
       (key_held k w peer outpoint) (side_last k w)) met.leaves)

@@ -13,11 +13,11 @@ use Rattle.table.specs.Memory.{rows}
 use Rattle.table.specs.Outcome.{Change, same, become, Memory, count_after, Meets}
 use Rattle.table.specs.TableLaws.{sub_erase}
 use Rattle.table.specs.LookLaws.{look_rule}
-use Rattle.table.specs.PlaceLaws.{length-store-some, length-store-none}
+use Rattle.table.specs.PlaceLaws.{length_store_some, length_store_none}
 use Rattle.table.specs.MemoryLaws.{length_rows}
 use Rattle.table_laws.specs.Kept.{Encodes, RowsHold, ChangeHolds, LentHolds}
-use Rattle.table_laws.specs.KeptLaws.{sub_hold, store_hold, lent-holds, holds-lent, rows_hold, change_kept}
-use Rattle.table_laws.specs.LentLaws.{own-sound}
+use Rattle.table_laws.specs.KeptLaws.{sub_hold, store_hold, lent_holds, holds_lent, rows_hold, change_kept}
+use Rattle.table_laws.specs.LentLaws.{own_sound_lem}
 use Rattle.table_laws.specs.WordsLaws.{of_numbers, length_encode, encode_bytes}
 use Rattle.bucket_terms.specs.declared.answer.Told.TheVariants as Told
 use Rattle.bucket_terms.specs.declared.answer.Delay.TheVariants as Delay
@@ -54,7 +54,7 @@ outbound_encodes =
 pub fresh_sound : (g c : ByteRateLimitConfig) (s : List ℕ) → g.burst_bytes < 2 ^ 64 → 66560 ≤ length s → sound (fresh g c) s ≡ true
 unfolding rows every ascending
 fresh_sound g c s fits long =
-    holds-lent outbound_layout (outbound_sound c) 1024 s 0
+    holds_lent outbound_layout (outbound_sound c) 1024 s 0
     (within_own (fresh g c) (omega arith) (byte_new_sound g fits))
     (record { few = omega arith; long = long; rules = refl; order = refl })
 
@@ -62,10 +62,10 @@ fresh_sound g c s fits long =
 
 module _ (o : Outbound) (s : List ℕ) (k : Pubkey) (h : sound o s ≡ true) (given : Given o s k.bytes) where
   own : own_sound o ≡ true
-  own = own-sound outbound_layout (outbound_sound o.peer_outbound_config) (own_sound o) 1024 s o.rows h
+  own = own_sound_lem outbound_layout (outbound_sound o.peer_outbound_config) (own_sound o) 1024 s o.rows h
 
   held : LentHolds outbound_layout (outbound_sound o.peer_outbound_config) 1024 s o.rows
-  held = lent-holds outbound_layout (outbound_sound o.peer_outbound_config) 1024 s o.rows (own_sound o) (rows_within o own) h
+  held = lent_holds outbound_layout (outbound_sound o.peer_outbound_config) 1024 s o.rows (own_sound o) (rows_within o own) h
 
   holding : RowsHold outbound_layout (outbound_sound o.peer_outbound_config) 1024 (rows_of o s)
   holding = rows_hold outbound_layout (outbound_sound o.peer_outbound_config) 1024 s o.rows (omega arith) held given.memory
@@ -80,7 +80,7 @@ module _ (o : Outbound) (s : List ℕ) (k : Pubkey) (h : sound o s ≡ true) (gi
       let safe : Kept o s after t =
       record {
         stays_sound =
-            holds-lent outbound_layout (outbound_sound o.peer_outbound_config) 1024 t (count_after o.rows change)
+            holds_lent outbound_layout (outbound_sound o.peer_outbound_config) 1024 t (count_after o.rows change)
             (within_own after k.holds.few (left_sound (own_global o own) left)) k.holds;
         same_length = k.same_length;
         holds_bytes = k.holds_bytes;
@@ -115,9 +115,9 @@ module _ (o : Outbound) (s : List ℕ) (k : Pubkey) (h : sound o s ≡ true) (gi
       by : (found : Option OutboundEntry) → look k.bytes (rows_of o s) ≡ found → full o.rows found ≡ false
           → length (store k.bytes (entry_of b) (rows_of o s)) ≤ 1024
       by none e f =
-          omega (arith, length-store-none k.bytes (rows_of o s) (entry_of b) e, length_rows outbound_layout s o.rows, leb-false 1024 o.rows f)
+          omega (arith, length_store_none k.bytes (rows_of o s) (entry_of b) e, length_rows outbound_layout s o.rows, leb-false 1024 o.rows f)
       by (some x) e f =
-          omega (arith, length-store-some k.bytes (rows_of o s) {x = x} (entry_of b) e, length_rows outbound_layout s o.rows, rows_within o own)
+          omega (arith, length_store_some k.bytes (rows_of o s) {x = x} (entry_of b) e, length_rows outbound_layout s o.rows, rows_within o own)
 
   abbrev peer : ByteTokenBucket
   peer = bucket_or_fresh o.peer_outbound_config (look k.bytes (rows_of o s))
@@ -129,11 +129,11 @@ module _ (o : Outbound) (s : List ℕ) (k : Pubkey) (h : sound o s ≡ true) (gi
 
   module _ (bytes now : ℕ) where
     -- both buckets as they were, or both charged
-    charge-by : (P : Charged → Type 0) → P (charged o.global_outbound peer false)
+    charge_by : (P : Charged → Type 0) → P (charged o.global_outbound peer false)
         → P (charged (byte_try_consume o.global_outbound bytes now).bucket (byte_try_consume peer bytes now).bucket true)
         → P (charge_both o.global_outbound peer bytes now)
     unfolding charge_both
-    charge-by P stay both = by (is_yes (byte_try_consume o.global_outbound bytes now).answer) (is_yes (byte_try_consume peer bytes now).answer)
+    charge_by P stay both = by (is_yes (byte_try_consume o.global_outbound bytes now).answer) (is_yes (byte_try_consume peer bytes now).answer)
       where
         by : (x y : Bool)
             → P (cond x (cond y (charged (byte_try_consume o.global_outbound bytes now).bucket (byte_try_consume peer bytes now).bucket true) (charged o.global_outbound peer false)) (charged o.global_outbound peer false))
@@ -141,19 +141,19 @@ module _ (o : Outbound) (s : List ℕ) (k : Pubkey) (h : sound o s ≡ true) (gi
         by true false = stay
         by false y = stay
 
-    charge-global : Left o.global_outbound (charge_both o.global_outbound peer bytes now).global
-    charge-global =
-        charge-by (λ (c : Charged). Left o.global_outbound c.global) (as_it_was refl)
+    charge_global : Left o.global_outbound (charge_both o.global_outbound peer bytes now).global
+    charge_global =
+        charge_by (λ (c : Charged). Left o.global_outbound c.global) (as_it_was refl)
         (try_consume_left o.global_outbound given.global_fits (own_global o own) bytes now)
 
-    charge-peer : Stands o.peer_outbound_config (charge_both o.global_outbound peer bytes now).peer
-    charge-peer =
-        charge-by (λ (c : Charged). Stands o.peer_outbound_config c.peer) peer_stands
+    charge_peer : Stands o.peer_outbound_config (charge_both o.global_outbound peer bytes now).peer
+    charge_peer =
+        charge_by (λ (c : Charged). Stands o.peer_outbound_config c.peer) peer_stands
         (left_stands o.peer_outbound_config peer_stands (try_consume_left peer peer_left_fits peer_stands.sound bytes now))
 
-    pub allow-kept : (r : OutboundTold) (t : List ℕ) → AllowMeets o s k bytes now r t → Kept o s r.outbound t
+    pub allow_kept : (r : OutboundTold) (t : List ℕ) → AllowMeets o s k bytes now r t → Kept o s r.outbound t
     unfolding AllowMeets allow_outcome
-    allow-kept r t m = by both.yes (full o.rows (look k.bytes (rows_of o s))) refl (rw h at m)
+    allow_kept r t m = by both.yes (full o.rows (look k.bytes (rows_of o s))) refl (rw h at m)
       where
         both : Charged
         both = charge_both o.global_outbound peer bytes now
@@ -169,7 +169,7 @@ module _ (o : Outbound) (s : List ℕ) (k : Pubkey) (h : sound o s ≡ true) (gi
         by true true e met = unchanged r.outbound t (ap (λ (x : OutboundTold). x.outbound) met.answers) met.leaves
         by true false e met =
             changed r.outbound t both.global (become (kept k.bytes both.peer (rows_of o s)))
-            (ap (λ (x : OutboundTold). x.outbound) met.answers) charge-global (written both.peer charge-peer e) met.leaves
+            (ap (λ (x : OutboundTold). x.outbound) met.answers) charge_global (written both.peer charge_peer e) met.leaves
         by false f e met = unchanged r.outbound t (ap (λ (x : OutboundTold). x.outbound) met.answers) met.leaves
 
   -- ════ Remove ════
@@ -185,9 +185,9 @@ module _ (o : Outbound) (s : List ℕ) (k : Pubkey) (h : sound o s ≡ true) (gi
   -- ════ Reserve ════
 
   module _ (bytes now : ℕ) where
-    pub reserve-kept : (r : OutboundReserved) (t : List ℕ) → ReserveMeets o s k bytes now r t → Kept o s r.outbound t
+    pub reserve_kept : (r : OutboundReserved) (t : List ℕ) → ReserveMeets o s k bytes now r t → Kept o s r.outbound t
     unfolding ReserveMeets reserve_outcome promise_both
-    reserve-kept r t m = by (full o.rows (look k.bytes (rows_of o s))) refl (rw h at m)
+    reserve_kept r t m = by (full o.rows (look k.bytes (rows_of o s))) refl (rw h at m)
       where
         g : ByteTokenBucket
         g = (byte_reserve o.global_outbound bytes now).bucket
@@ -210,9 +210,9 @@ module _ (o : Outbound) (s : List ℕ) (k : Pubkey) (h : sound o s ≡ true) (gi
 
     -- ════ Refund ════
 
-    pub refund-kept : (r : OutboundSettled) (t : List ℕ) → RefundMeets o s k bytes now r t → Kept o s r.outbound t
+    pub refund_kept : (r : OutboundSettled) (t : List ℕ) → RefundMeets o s k bytes now r t → Kept o s r.outbound t
     unfolding RefundMeets refund_outcome
-    refund-kept r t m = by (byte_disabled o.peer_outbound_config) (full o.rows (look k.bytes (rows_of o s))) refl (rw h at m)
+    refund_kept r t m = by (byte_disabled o.peer_outbound_config) (full o.rows (look k.bytes (rows_of o s))) refl (rw h at m)
       where
         g : ByteTokenBucket
         g = byte_refund o.global_outbound bytes now

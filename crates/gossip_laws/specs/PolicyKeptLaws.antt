@@ -28,9 +28,9 @@ use Rattle.gossip_policy.specs.declared.answer.GossipSettled.{GossipSettled}
 use Rattle.gossip_policy.specs.declared.answer.GossipReserved.{GossipReserved}
 use Rattle.gossip_policy.specs.State.{outbound_of, with_tracker, with_outbound}
 use Rattle.gossip_policy.specs.Calls.{RecordViolationMeets, IsBannedMeets, PruneBansMeets, AllowMeets, RemoveMeets, ReserveMeets, RefundMeets}
-use Rattle.gossip_laws.specs.BanSoundLaws.{BanKept, record-violation-kept, is-banned-kept, prune_expired_kept}
+use Rattle.gossip_laws.specs.BanSoundLaws.{BanKept, record_violation_kept, is_banned_kept, prune_expired_kept}
 use Rattle.gossip_laws.specs.OutboundKept.{Given, Kept}
-use Rattle.gossip_laws.specs.OutboundKeptLaws.{allow-kept, remove_kept, reserve-kept, refund-kept}
+use Rattle.gossip_laws.specs.OutboundKeptLaws.{allow_kept, remove_kept, reserve_kept, refund_kept}
 use Rattle.gossip_laws.specs.PolicyKept.{BansKept, OutboundKept}
 
 -- ════ Bans ════
@@ -45,14 +45,14 @@ module _ (s : GossipPolicyState) (before after : List ℕ) (now : ℕ) (h : bans
   policy_record_violation_kept k v r key m =
       let a : BanTold = (record_violation_outcome s.ban_tracker before k v now).answer in
       subst (λ (x : GossipTold). BansKept s before x.state after) (sym m.answers)
-      (with_tracker_lem a.tracker (record-violation-kept s.ban_tracker before after now h b k v a key (record { answers = refl; leaves = m.leaves })))
+      (with_tracker_lem a.tracker (record_violation_kept s.ban_tracker before after now h b k v a key (record { answers = refl; leaves = m.leaves })))
 
   pub policy_is_banned_kept : (k : Pubkey) (r : GossipTold) → IsBannedMeets s before k now r after → BansKept s before r.state after
   unfolding IsBannedMeets bans-calls.IsBannedMeets
   policy_is_banned_kept k r m =
       let a : BanTold = (is_banned_outcome s.ban_tracker before k now).answer in
       subst (λ (x : GossipTold). BansKept s before x.state after) (sym m.answers)
-      (with_tracker_lem a.tracker (is-banned-kept s.ban_tracker before after now h b k a (record { answers = refl; leaves = m.leaves })))
+      (with_tracker_lem a.tracker (is_banned_kept s.ban_tracker before after now h b k a (record { answers = refl; leaves = m.leaves })))
 
   pub prune_bans_kept : (r : GossipPruned) → PruneBansMeets s before now r after → BansKept s before r.state after
   unfolding PruneBansMeets PruneExpiredMeets
@@ -83,25 +83,25 @@ module _ (s : GossipPolicyState) (before : List ℕ) (k : Pubkey) (h : outbound.
       (with_outbound_lem a.outbound (remove_kept (outbound_of s) before k h given a after (record { answers = refl; leaves = m.leaves })))
 
   module _ (bytes now : ℕ) where
-    pub allow-outbound-message-kept : (r : GossipTold) (after : List ℕ) → AllowMeets s before k bytes now r after → OutboundKept s before r.state after
+    pub allow_outbound_message_kept : (r : GossipTold) (after : List ℕ) → AllowMeets s before k bytes now r after → OutboundKept s before r.state after
     unfolding AllowMeets outbound-calls.AllowMeets
-    allow-outbound-message-kept r after m =
+    allow_outbound_message_kept r after m =
         let a : OutboundTold = (outbound-calls.allow_outcome (outbound_of s) before k bytes now).answer in
         subst (λ (x : GossipTold). OutboundKept s before x.state after) (sym m.answers)
-        (with_outbound_lem a.outbound (allow-kept (outbound_of s) before k h given bytes now a after (record { answers = refl; leaves = m.leaves })))
+        (with_outbound_lem a.outbound (allow_kept (outbound_of s) before k h given bytes now a after (record { answers = refl; leaves = m.leaves })))
 
-    pub reserve-outbound-message-kept : (r : GossipReserved) (after : List ℕ) → ReserveMeets s before k bytes now r after
+    pub reserve_outbound_message_kept : (r : GossipReserved) (after : List ℕ) → ReserveMeets s before k bytes now r after
         → OutboundKept s before r.state after
     unfolding ReserveMeets outbound-calls.ReserveMeets
-    reserve-outbound-message-kept r after m =
+    reserve_outbound_message_kept r after m =
         let a : OutboundReserved = (outbound-calls.reserve_outcome (outbound_of s) before k bytes now).answer in
         subst (λ (x : GossipReserved). OutboundKept s before x.state after) (sym m.answers)
-        (with_outbound_lem a.outbound (reserve-kept (outbound_of s) before k h given bytes now a after (record { answers = refl; leaves = m.leaves })))
+        (with_outbound_lem a.outbound (reserve_kept (outbound_of s) before k h given bytes now a after (record { answers = refl; leaves = m.leaves })))
 
-    pub refund-outbound-message-kept : (r : GossipSettled) (after : List ℕ) → RefundMeets s before k bytes now r after
+    pub refund_outbound_message_kept : (r : GossipSettled) (after : List ℕ) → RefundMeets s before k bytes now r after
         → OutboundKept s before r.state after
     unfolding RefundMeets outbound-calls.RefundMeets
-    refund-outbound-message-kept r after m =
+    refund_outbound_message_kept r after m =
         let a : OutboundSettled = (outbound-calls.refund_outcome (outbound_of s) before k bytes now).answer in
         subst (λ (x : GossipSettled). OutboundKept s before x.state after) (sym m.answers)
-        (with_outbound_lem a.outbound (refund-kept (outbound_of s) before k h given bytes now a after (record { answers = refl; leaves = m.leaves })))
+        (with_outbound_lem a.outbound (refund_kept (outbound_of s) before k h given bytes now a after (record { answers = refl; leaves = m.leaves })))

@@ -7,7 +7,7 @@ use Rattle.refusal.specs.Refusal.{too_short}
 use Rattle.table.specs.Memory.{Layout}
 use Rattle.table.specs.Outcome.{same, become, Memory, Meets}
 use Rattle.table_laws.specs.Lent.{long_enough}
-use Rattle.table_laws.specs.KeptLaws.{length-laid-keyed}
+use Rattle.table_laws.specs.KeptLaws.{length_laid_keyed}
 use Rattle.gossip_settings.specs.declared.ban.GossipBanConfig.{GossipBanConfig}
 use Rattle.gossip_settings.specs.declared.policy.GossipPolicyConfig.{GossipPolicyConfig}
 use Rattle.gossip_ban_rows.specs.Rows.{ban_layout}
@@ -60,7 +60,7 @@ new_sound c b o b' o' r bytes fits done m =
     let made = ban-laws.fresh_sound c.ban 1024 b b' (tracker.fresh c.ban 1024) bytes (tracker_made c.ban b b' long.0 first.1.1) in
     let wide : 66560 ≤ length o = leb-true 66560 (length o) long.1 in
     let same_outbound_length : length o' ≡ length o =
-    ap length second.1.1.memory ∙ length-laid-keyed outbound-laws.outbound_encodes o 1024 [] tt wide (omega arith) in
+    ap length second.1.1.memory ∙ length_laid_keyed outbound-laws.outbound_encodes o 1024 [] tt wide (omega arith) in
     let here : Made (fresh c) b o b' o' =
     record {
       bans_sound = made.0;

@@ -29,50 +29,50 @@ policy_new_one c b o m n =
 
 module _ (s : GossipPolicyState) (before : List ℕ) {first second : List ℕ} where
   module _ (now : ℕ) where
-    pub policy-record-violation-one : (k : Pubkey) (v : GossipViolation) {r q : GossipTold} → RecordViolationMeets s before k v now r first
+    pub policy_record_violation_one : (k : Pubkey) (v : GossipViolation) {r q : GossipTold} → RecordViolationMeets s before k v now r first
         → RecordViolationMeets s before k v now q second → (r ≡ q) × (first ≡ second)
     unfolding RecordViolationMeets
-    policy-record-violation-one k v m n = one_meets m n
+    policy_record_violation_one k v m n = one_meets m n
 
-    pub policy-is-banned-one : (k : Pubkey) {r q : GossipTold} → IsBannedMeets s before k now r first → IsBannedMeets s before k now q second
+    pub policy_is_banned_one : (k : Pubkey) {r q : GossipTold} → IsBannedMeets s before k now r first → IsBannedMeets s before k now q second
         → (r ≡ q) × (first ≡ second)
     unfolding IsBannedMeets
-    policy-is-banned-one k m n = one_meets m n
+    policy_is_banned_one k m n = one_meets m n
 
-    pub prune-bans-one : {r q : GossipPruned} → PruneBansMeets s before now r first → PruneBansMeets s before now q second
+    pub prune_bans_one : {r q : GossipPruned} → PruneBansMeets s before now r first → PruneBansMeets s before now q second
         → (r ≡ q) × (first ≡ second)
     unfolding PruneBansMeets
-    prune-bans-one m n = one_meets m n
+    prune_bans_one m n = one_meets m n
 
   module _ (k : Pubkey) where
-    pub remove-outbound-peer-one : {r q : GossipSettled} → RemoveMeets s before k r first → RemoveMeets s before k q second
+    pub remove_outbound_peer_one : {r q : GossipSettled} → RemoveMeets s before k r first → RemoveMeets s before k q second
         → (r ≡ q) × (first ≡ second)
     unfolding RemoveMeets
-    remove-outbound-peer-one m n = one_meets m n
+    remove_outbound_peer_one m n = one_meets m n
 
     module _ (bytes now : ℕ) where
-      pub allow-outbound-message-one : {r q : GossipTold} → AllowMeets s before k bytes now r first → AllowMeets s before k bytes now q second
+      pub allow_outbound_message_one : {r q : GossipTold} → AllowMeets s before k bytes now r first → AllowMeets s before k bytes now q second
           → (r ≡ q) × (first ≡ second)
       unfolding AllowMeets
-      allow-outbound-message-one m n = one_meets m n
+      allow_outbound_message_one m n = one_meets m n
 
-      pub reserve-outbound-message-one : {r q : GossipReserved} → ReserveMeets s before k bytes now r first
+      pub reserve_outbound_message_one : {r q : GossipReserved} → ReserveMeets s before k bytes now r first
           → ReserveMeets s before k bytes now q second → (r ≡ q) × (first ≡ second)
       unfolding ReserveMeets
-      reserve-outbound-message-one m n = one_meets m n
+      reserve_outbound_message_one m n = one_meets m n
 
-      pub refund-outbound-message-one : {r q : GossipSettled} → RefundMeets s before k bytes now r first
+      pub refund_outbound_message_one : {r q : GossipSettled} → RefundMeets s before k bytes now r first
           → RefundMeets s before k bytes now q second → (r ≡ q) × (first ≡ second)
       unfolding RefundMeets
-      refund-outbound-message-one m n = one_meets m n
+      refund_outbound_message_one m n = one_meets m n
 
 module _ (s : GossipPolicyState) where
   module _ (lent : List ℕ) (k : Pubkey) (bytes now : ℕ) where
-    pub estimate-outbound-message-delay-one : {r q : Delay} → EstimateMeets s lent k bytes now r → EstimateMeets s lent k bytes now q → r ≡ q
-    estimate-outbound-message-delay-one = estimate_outcome (outbound_of s) lent k bytes now
+    pub estimate_outbound_message_delay_one : {r q : Delay} → EstimateMeets s lent k bytes now r → EstimateMeets s lent k bytes now q → r ≡ q
+    estimate_outbound_message_delay_one = estimate_outcome (outbound_of s) lent k bytes now
 
-    pub should-bypass-one : {r q : Told} → BypassMeets s lent k bytes now r → BypassMeets s lent k bytes now q → r ≡ q
-    should-bypass-one = bypass_outcome (outbound_of s) lent k bytes now
+    pub should_bypass_one : {r q : Told} → BypassMeets s lent k bytes now r → BypassMeets s lent k bytes now q → r ≡ q
+    should_bypass_one = bypass_outcome (outbound_of s) lent k bytes now
 
   pub exceeds_capacity_one : (bytes : ℕ) {r q : Bool} → r ≡ exceeds (outbound_of s) bytes → q ≡ exceeds (outbound_of s) bytes → r ≡ q
   exceeds_capacity_one bytes = one_outcome

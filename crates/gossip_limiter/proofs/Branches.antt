@@ -16,7 +16,7 @@ use Rattle.table.specs.MemoryLaws.{length_rows}
 use Rattle.table.specs.Outcome.{same, become, Memory, Outcome}
 use Rattle.table_laws.specs.ChangeLaws.{stored_at}
 use Rattle.table_laws.specs.Private.{over}
-use Rattle.table_laws.specs.LentLaws.{own-sound, rows_fit, limit_fits, known_look, unknown_look}
+use Rattle.table_laws.specs.LentLaws.{own_sound_lem, rows_fit, limit_fits, known_look, unknown_look}
 use Rattle.table_laws.specs.Private.{Counted}
 use Rattle.table_laws.specs.StoreLaws.{counted_then}
 use Rattle.bucket_terms.specs.declared.answer.Told.{Told}
@@ -31,20 +31,20 @@ use Rattle.gossip_limiter_rows.specs.Entry.{bucket_of, asked_of}
 use Rattle.gossip_limiter_rows.specs.Rows.{Limits, limiter_layout, limiter_sound}
 use Rattle.gossip_limiter_rows.specs.RowsLaws.{limiter_faithful}
 use Rattle.gossip_limiter_rows.specs.Prune.{room_for}
-use Rattle.gossip_limiter_rows.specs.PruneLaws.{length-room, room-fit}
+use Rattle.gossip_limiter_rows.specs.PruneLaws.{length_room, room_fit}
 use Rattle.gossip_limiter.specs.declared.limiter.ChannelUpdateLimiter.{ChannelUpdateLimiter}
 use Rattle.gossip_limiter.specs.declared.answer.LimiterTold.{LimiterTold}
 use Rattle.gossip_limiter.specs.Limiter.{rows_of, limit_of, limiter_record_sound, sound, turn, try_acquire}
 use Rattle.gossip_limiter.specs.Calls.{limiter_with, limiter_after, limiter_told, try_acquire_outcome, TryAcquireMeets}
 use Rattle.gossip_limiter.specs.Private.{Known, Unknown}
-use Rattle.gossip_limiter.specs.LimiterLaws.{rows_within, acquire_off, acquire-known, acquire-full, acquire-new}
+use Rattle.gossip_limiter.specs.LimiterLaws.{rows_within, acquire_off, acquire_known, acquire_full, acquire_new}
 
 -- ════ What soundness gives ════
 
 module _ (l : ChannelUpdateLimiter) (s : List ℕ) (h : sound l s ≡ true) where
   -- the rows are within the limit
   pub few_rows : l.rows ≤ limit_of l.max_entries
-  few_rows = rows_within l (own-sound limiter_layout (limiter_sound l.config) (limiter_record_sound l) (limit_of l.max_entries) s l.rows h)
+  few_rows = rows_within l (own_sound_lem limiter_layout (limiter_sound l.config) (limiter_record_sound l) (limit_of l.max_entries) s l.rows h)
 
   -- the memory has room for the limit
   pub limit_inside : 94 * limit_of l.max_entries ≤ length s
@@ -93,7 +93,7 @@ module _ (l : ChannelUpdateLimiter) (s : List ℕ) (key : ChannelUpdateLimiterKe
       let rs : Limits = rows_of l s in
       let stored = stored_at limiter_faithful s t l.rows k i asked.entry known.place held in
       told_carried known.is_sound (turn asked.answer (become (store k asked.entry rs)))
-      (acquire-known c limit k now rs on found (known_look limiter_layout (limiter_sound c) (limiter_record_sound l) limit s l.rows k i known found read)
+      (acquire_known c limit k now rs on found (known_look limiter_layout (limiter_sound c) (limiter_record_sound l) limit s l.rows k i known found read)
       ∙ ap (λ (a : Asked). turn a.answer (become (store k a.entry rs))) (sym (ask ∙ ap (λ (x : DiscreteTokenBucket). asked_of x now) bucket)))
       (limiter_told l asked.answer) t (ap (λ (n : ℕ). limiter_told (limiter_with l n) asked.answer) stored.1) stored.0
 
@@ -104,28 +104,28 @@ module _ (l : ChannelUpdateLimiter) (s : List ℕ) (key : ChannelUpdateLimiterKe
     missing = unknown_look limiter_layout (limiter_sound l.config) (limiter_record_sound l) (limit_of l.max_entries) s l.rows (limiter_key_bytes key) gap unknown
 
     -- the table is full still
-    pub told-full : limit_of l.max_entries ≤ left → q ≡ limiter_with l left → TryAcquireMeets l s key now (limiter_told q Told.No) t
-    told-full full e =
+    pub told_full : limit_of l.max_entries ≤ left → q ≡ limiter_with l left → TryAcquireMeets l s key now (limiter_told q Told.No) t
+    told_full full e =
         told_carried unknown.is_sound (turn Told.No (become room))
-        (acquire-full l.config (limit_of l.max_entries) (limiter_key_bytes key) now (rows_of l s) on missing (omega (arith, made.1)))
+        (acquire_full l.config (limit_of l.max_entries) (limiter_key_bytes key) now (rows_of l s) on missing (omega (arith, made.1)))
         (limiter_told q Told.No) t
         (ap (λ (x : ChannelUpdateLimiter). limiter_told x Told.No) (e ∙ ap (limiter_with l) made.1)) made.0
 
     -- there is room: a fresh bucket was asked and stored
-    pub told-new : left < limit_of l.max_entries → l.config.burst < 2 ^ 64 → now < 2 ^ 64 → Bytes s → (b : DiscreteTokenBucket)
+    pub told_new : left < limit_of l.max_entries → l.config.burst < 2 ^ 64 → now < 2 ^ 64 → Bytes s → (b : DiscreteTokenBucket)
         → b ≡ discrete_new l.config.interval_ms l.config.burst → (asked : Asked) → asked ≡ asked_of b now → (u : List ℕ) (m : ℕ)
         → Counted limiter_layout t u left m (store (limiter_key_bytes key) asked.entry (rows limiter_layout t left)) → q ≡ limiter_with l m
         → TryAcquireMeets l s key now (limiter_told q asked.answer) u
-    told-new free small time bytes b bucket asked ask u m stored e =
+    told_new free small time bytes b bucket asked ask u m stored e =
         let c : ChannelUpdateRateLimitConfig = l.config in
         let limit : ℕ = limit_of l.max_entries in
         let k : List ℕ = limiter_key_bytes key in
-        let fewer : length room ≤ l.rows = omega (arith, length-room c now limit (rows_of l s), length_rows limiter_layout s l.rows) in
+        let fewer : length room ≤ l.rows = omega (arith, length_room c now limit (rows_of l s), length_rows limiter_layout s l.rows) in
         let all : Counted limiter_layout s u l.rows m (store k asked.entry room) =
         counted_then limiter_faithful (store k asked.entry) s t u l.rows left m room
-        (room-fit c now s l.rows small time bytes (rows_inside l s unknown.is_sound) limit) (omega arith) made stored in
+        (room_fit c now s l.rows small time bytes (rows_inside l s unknown.is_sound) limit) (omega arith) made stored in
         told_carried unknown.is_sound (turn asked.answer (become (store k asked.entry room)))
-        (acquire-new c limit k now (rows_of l s) on missing (omega (arith, made.1))
+        (acquire_new c limit k now (rows_of l s) on missing (omega (arith, made.1))
         ∙ ap (λ (a : Asked). turn a.answer (become (store k a.entry room))) (sym (ask ∙ ap (λ (x : DiscreteTokenBucket). asked_of x now) bucket)))
         (limiter_told q asked.answer) u
         (ap (λ (x : ChannelUpdateLimiter). limiter_told x asked.answer) (e ∙ ap (limiter_with l) all.1)) all.0

@@ -4,7 +4,7 @@ use Rattle.std.proofs.Math.Option.{Option, none, some}
 use Rattle.table.specs.Table.{look, store}
 use Rattle.table.specs.Memory.{rows}
 use Rattle.table.specs.Outcome.{Change, same, become, Outcome}
-use Rattle.table_laws.specs.Lent.{lentSound}
+use Rattle.table_laws.specs.Lent.{lent_sound}
 use Rattle.bucket_terms.specs.declared.answer.Told.{Told}
 use Rattle.bucket_terms.specs.declared.answer.Told.TheVariants as Told
 use Rattle.bucket_discrete.specs.declared.discrete.DiscreteTokenBucket.{DiscreteTokenBucket}
@@ -33,7 +33,7 @@ limiter_record_sound l = leb l.max_entries max_tracked_keys && leb l.rows (limit
 
 -- a limiter and the memory lent to it
 abbrev pub sound : ChannelUpdateLimiter → List ℕ → Bool
-sound l s = lentSound limiter_layout (limiter_sound l.config) (limiter_record_sound l) (limit_of l.max_entries) s l.rows
+sound l s = lent_sound limiter_layout (limiter_sound l.config) (limiter_record_sound l) (limit_of l.max_entries) s l.rows
 
 -- ════ try_acquire, on rows ════
 

@@ -43,18 +43,18 @@ module _ (c : ChannelUpdateRateLimitConfig) (limit : ℕ) (k : List ℕ) (now : 
 
   module _ (on : channel_update_disabled c ≡ false) where
     -- the key has a row
-    pub acquire-known : (e : ChannelUpdateLimiterEntry) → look k rs ≡ some e → try_acquire c limit k now rs ≡ acquire_from (bucket_of c e) k now rs
+    pub acquire_known : (e : ChannelUpdateLimiterEntry) → look k rs ≡ some e → try_acquire c limit k now rs ≡ acquire_from (bucket_of c e) k now rs
     unfolding try_acquire
-    acquire-known e found = rw (on, found)
+    acquire_known e found = rw (on, found)
 
     -- it has none, and the table is full of keys that have used their tokens
-    pub acquire-full : look k rs ≡ none → limit ≤ length (room_for limit c now rs)
+    pub acquire_full : look k rs ≡ none → limit ≤ length (room_for limit c now rs)
         → try_acquire c limit k now rs ≡ turn Told.No (become (room_for limit c now rs))
     unfolding try_acquire
-    acquire-full found full = rw (on, found, le-leb limit (length (room_for limit c now rs)) full)
+    acquire_full found full = rw (on, found, le-leb limit (length (room_for limit c now rs)) full)
 
     -- it has none, and there is room
-    pub acquire-new : look k rs ≡ none → length (room_for limit c now rs) < limit
+    pub acquire_new : look k rs ≡ none → length (room_for limit c now rs) < limit
         → try_acquire c limit k now rs ≡ acquire_from (discrete_new c.interval_ms c.burst) k now (room_for limit c now rs)
     unfolding try_acquire
-    acquire-new found room = rw (on, found, lt-leb limit (length (room_for limit c now rs)) room)
+    acquire_new found room = rw (on, found, lt-leb limit (length (room_for limit c now rs)) room)

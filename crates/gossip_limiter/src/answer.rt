@@ -3,21 +3,21 @@ use super::limiter::ChannelUpdateLimiter;
 use bucket_terms::answer::Told;
 
 // A limiter was made.
-#[derive(Drop)]
+#[derive(Clone, Copy)]
 pub enum MadeLimiter {
     Limiter(ChannelUpdateLimiter),
     Refused(u32),
 }
 
 // Whether an update is let in.
-#[derive(Drop)]
+#[derive(Clone, Copy)]
 pub struct LimiterTold {
     pub limiter: ChannelUpdateLimiter,
     pub answer: Told,
 }
 
 // How many keys have a bucket.
-#[derive(Drop)]
+#[derive(Clone, Copy)]
 pub enum TrackedKeys {
     Keys(u64),
     Refused(u32),

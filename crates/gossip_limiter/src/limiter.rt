@@ -12,7 +12,7 @@ use table::seek::Seek;
 
 // Settings, how many keys have a bucket at most (the limit as it was given; 0 counts as 1), and how many rows of the lent memory are
 // in use.
-#[derive(Drop)]
+#[derive(Clone, Copy)]
 pub struct ChannelUpdateLimiter {
     pub config: ChannelUpdateRateLimitConfig,
     pub max_entries: u64,

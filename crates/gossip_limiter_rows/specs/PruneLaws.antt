@@ -40,17 +40,17 @@ module _ (c : ChannelUpdateRateLimitConfig) (now : ℕ) where
         (λ t. subst B (sym (room_free (leb-false limit (length rs) t))) free)
 
     -- no row is added
-    pub length-room : length (room_for limit c now rs) ≤ length rs
-    length-room = by_room (λ (qs : Limits). length qs ≤ length rs) (omega arith) (length_prune rs)
+    pub length_room : length (room_for limit c now rs) ≤ length rs
+    length_room = by_room (λ (qs : Limits). length qs ≤ length rs) (omega arith) (length_prune rs)
 
   module _ (s : List ℕ) (n : ℕ) (small : c.burst < 2 ^ 64) (time : now < 2 ^ 64) (b : Bytes s) (h : row_width * n ≤ length s) where
     -- rows of the memory, refilled, fit
-    pub refilled-fit : AllFit limiter_layout EntryFits (map_entries (refilled c now) (rows limiter_layout s n))
-    refilled-fit =
+    pub refilled_fit : AllFit limiter_layout EntryFits (map_entries (refilled c now) (rows limiter_layout s n))
+    refilled_fit =
         fit_map (refilled c now) limiter_layout EntryFits (refilled_fits c now small time) (rows limiter_layout s n) (fit_rows limiter_faithful s n b h)
 
     -- and so do those that a new key finds
-    pub room-fit : (limit : ℕ) → AllFit limiter_layout EntryFits (room_for limit c now (rows limiter_layout s n))
-    room-fit limit =
+    pub room_fit : (limit : ℕ) → AllFit limiter_layout EntryFits (room_for limit c now (rows limiter_layout s n))
+    room_fit limit =
         by_room limit (rows limiter_layout s n) (AllFit limiter_layout EntryFits) (fit_rows limiter_faithful s n b h)
-        (fit_retain limiter_faithful (not_full c) (map_entries (refilled c now) (rows limiter_layout s n)) refilled-fit)
+        (fit_retain limiter_faithful (not_full c) (map_entries (refilled c now) (rows limiter_layout s n)) refilled_fit)

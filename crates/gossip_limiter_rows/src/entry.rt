@@ -9,7 +9,7 @@ use bucket_terms::answer::{Consumed, Told};
 use gossip_settings::channel_update::ChannelUpdateRateLimitConfig;
 
 // In a row every number is a u64, so more may be available than the burst allows: then the row is unsound.
-#[derive(Drop)]
+#[derive(Clone, Copy)]
 pub struct ChannelUpdateLimiterEntry {
     pub available: u64,
     pub last_refill_ms: u64,
@@ -17,7 +17,7 @@ pub struct ChannelUpdateLimiterEntry {
 }
 
 // An entry after its bucket was asked for a token, and whether there was one.
-#[derive(Drop)]
+#[derive(Clone, Copy)]
 pub struct Asked {
     pub entry: ChannelUpdateLimiterEntry,
     pub answer: Told,

@@ -51,73 +51,73 @@ module _ (o : Outbound) (s : List ℕ) (k : Pubkey) where
     -- ════ Allow ════
 
     -- an unsound state
-    pub allow-unsound : sound o s ≡ false → AllowMeets o s k bytes now (outbound_told o (Told.Refused unsound)) s
+    pub allow_unsound : sound o s ≡ false → AllowMeets o s k bytes now (outbound_told o (Told.Refused unsound)) s
     unfolding AllowMeets allow_outcome
-    allow-unsound h = stays o s (allow_outcome o s k bytes now) (outbound_told o (Told.Refused unsound)) (rw h)
+    allow_unsound h = stays o s (allow_outcome o s k bytes now) (outbound_told o (Told.Refused unsound)) (rw h)
 
     module _ (found : Seek) (p : Placed o s k.bytes found) (b : ByteTokenBucket) (peers : PeerBucket o s k.bytes b)
         (both : Charged) (asked : both ≡ charge_both o.global_outbound b bytes now) where
-      allow-by : allow_outcome o s k bytes now ≡ allowed o k.bytes (rows_of o s) both
+      allow_by : allow_outcome o s k bytes now ≡ allowed o k.bytes (rows_of o s) both
       unfolding allow_outcome
-      allow-by =
+      allow_by =
           ap (λ (t : Bool). cond t (allow o k.bytes bytes now (rows_of o s)) (refuse (outbound_told o (Told.Refused unsound)))) p.is_sound
           ∙ ap (λ (x : ByteTokenBucket). allowed o k.bytes (rows_of o s) (charge_both o.global_outbound x bytes now)) (sym peers.is_peers)
           ∙ ap (allowed o k.bytes (rows_of o s)) (sym asked)
 
       -- one of the buckets said no
-      pub allow-no : both.yes ≡ false → AllowMeets o s k bytes now (outbound_told o Told.No) s
+      pub allow_no : both.yes ≡ false → AllowMeets o s k bytes now (outbound_told o Told.No) s
       unfolding AllowMeets
-      allow-no h = stays o s (allow_outcome o s k bytes now) (outbound_told o Told.No) (allow-by ∙ rw h)
+      allow_no h = stays o s (allow_outcome o s k bytes now) (outbound_told o Told.No) (allow_by ∙ rw h)
 
       module _ (gave : both.yes ≡ true) where
         -- both said yes, and there is no place for the row
-        pub allow-full : full_at o.rows found ≡ true → AllowMeets o s k bytes now (outbound_told o (Told.Refused no_row)) s
+        pub allow_full : full_at o.rows found ≡ true → AllowMeets o s k bytes now (outbound_told o (Told.Refused no_row)) s
         unfolding AllowMeets
-        allow-full h =
+        allow_full h =
             stays o s (allow_outcome o s k bytes now) (outbound_told o (Told.Refused no_row))
-            (allow-by ∙ rw (gave, sym (placed_full o s k.bytes found p) ∙ h))
+            (allow_by ∙ rw (gave, sym (placed_full o s k.bytes found p) ∙ h))
 
         -- both are kept
-        pub allow-yes : full_at o.rows found ≡ false → (t : List ℕ) (m : ℕ)
+        pub allow_yes : full_at o.rows found ≡ false → (t : List ℕ) (m : ℕ)
             → Counted outbound_layout s t o.rows m (kept k.bytes both.peer (rows_of o s))
             → AllowMeets o s k bytes now (outbound_told (outbound_with o both.global m) Told.Yes) t
         unfolding AllowMeets
-        allow-yes h t m held =
+        allow_yes h t m held =
             becomes o s (allow_outcome o s k bytes now) (λ (n : ℕ). outbound_told (outbound_with o both.global n) Told.Yes)
             (kept k.bytes both.peer (rows_of o s)) t m
-            (allow-by ∙ rw (gave, sym (placed_full o s k.bytes found p) ∙ h)) held
+            (allow_by ∙ rw (gave, sym (placed_full o s k.bytes found p) ∙ h)) held
 
     -- ════ Reserve ════
 
     -- an unsound state
-    pub reserve-unsound : sound o s ≡ false → ReserveMeets o s k bytes now (outbound_reserved o (Delay.Refused unsound)) s
+    pub reserve_unsound : sound o s ≡ false → ReserveMeets o s k bytes now (outbound_reserved o (Delay.Refused unsound)) s
     unfolding ReserveMeets reserve_outcome
-    reserve-unsound h = stays o s (reserve_outcome o s k bytes now) (outbound_reserved o (Delay.Refused unsound)) (rw h)
+    reserve_unsound h = stays o s (reserve_outcome o s k bytes now) (outbound_reserved o (Delay.Refused unsound)) (rw h)
 
     module _ (found : Seek) (p : Placed o s k.bytes found) where
-      reserve-sound : reserve_outcome o s k bytes now ≡ reserve o k.bytes bytes now (rows_of o s)
+      reserve_sound : reserve_outcome o s k bytes now ≡ reserve o k.bytes bytes now (rows_of o s)
       unfolding reserve_outcome
-      reserve-sound =
+      reserve_sound =
           ap (λ (t : Bool). cond t (reserve o k.bytes bytes now (rows_of o s)) (refuse (outbound_reserved o (Delay.Refused unsound)))) p.is_sound
 
       -- there is no place for the row
-      pub reserve-full : full_at o.rows found ≡ true → ReserveMeets o s k bytes now (outbound_reserved o (Delay.Refused no_row)) s
+      pub reserve_full : full_at o.rows found ≡ true → ReserveMeets o s k bytes now (outbound_reserved o (Delay.Refused no_row)) s
       unfolding ReserveMeets
-      reserve-full h =
+      reserve_full h =
           stays o s (reserve_outcome o s k bytes now) (outbound_reserved o (Delay.Refused no_row))
-          (reserve-sound ∙ rw (sym (placed_full o s k.bytes found p) ∙ h))
+          (reserve_sound ∙ rw (sym (placed_full o s k.bytes found p) ∙ h))
 
       -- both promise
-      pub reserve-yes : full_at o.rows found ≡ false → (b : ByteTokenBucket) → PeerBucket o s k.bytes b
+      pub reserve_yes : full_at o.rows found ≡ false → (b : ByteTokenBucket) → PeerBucket o s k.bytes b
           → (both : Promised) → both ≡ promise_both o.global_outbound b bytes now → (t : List ℕ) (m : ℕ)
           → Counted outbound_layout s t o.rows m (kept k.bytes both.peer (rows_of o s))
           → ReserveMeets o s k bytes now (outbound_reserved (outbound_with o both.global m) (Delay.Wait both.delay_ms)) t
       unfolding ReserveMeets
-      reserve-yes h b peers both asked t m held =
+      reserve_yes h b peers both asked t m held =
           becomes o s (reserve_outcome o s k bytes now)
           (λ (n : ℕ). outbound_reserved (outbound_with o both.global n) (Delay.Wait both.delay_ms))
           (kept k.bytes both.peer (rows_of o s)) t m
-          (reserve-sound
+          (reserve_sound
           ∙ ap (λ (x : ByteTokenBucket). reserved o k.bytes (rows_of o s) (promise_both o.global_outbound x bytes now)) (sym peers.is_peers)
           ∙ ap (reserved o k.bytes (rows_of o s)) (sym asked)
           ∙ rw (sym (placed_full o s k.bytes found p) ∙ h))
@@ -126,48 +126,48 @@ module _ (o : Outbound) (s : List ℕ) (k : Pubkey) where
     -- ════ Refund ════
 
     -- an unsound state
-    pub refund-unsound : sound o s ≡ false → RefundMeets o s k bytes now (outbound_settled o (Settled.Refused unsound)) s
+    pub refund_unsound : sound o s ≡ false → RefundMeets o s k bytes now (outbound_settled o (Settled.Refused unsound)) s
     unfolding RefundMeets refund_outcome
-    refund-unsound h = stays o s (refund_outcome o s k bytes now) (outbound_settled o (Settled.Refused unsound)) (rw h)
+    refund_unsound h = stays o s (refund_outcome o s k bytes now) (outbound_settled o (Settled.Refused unsound)) (rw h)
 
     module _ (found : Seek) (p : Placed o s k.bytes found) (g : ByteTokenBucket) (given : g ≡ byte_refund o.global_outbound bytes now) where
-      refund-by : (b : ByteTokenBucket) → b ≡ byte_refund (bucket_or_fresh o.peer_outbound_config (look k.bytes (rows_of o s))) bytes now
+      refund_by : (b : ByteTokenBucket) → b ≡ byte_refund (bucket_or_fresh o.peer_outbound_config (look k.bytes (rows_of o s))) bytes now
           → refund_outcome o s k bytes now ≡ refunded o k.bytes (rows_of o s) g b
       unfolding refund_outcome
-      refund-by b back =
+      refund_by b back =
           ap (λ (t : Bool). cond t (refund o k.bytes bytes now (rows_of o s)) (refuse (outbound_settled o (Settled.Refused unsound)))) p.is_sound
           ∙ ap (λ (x : ByteTokenBucket). refunded o k.bytes (rows_of o s) x (byte_refund (bucket_or_fresh o.peer_outbound_config (look k.bytes (rows_of o s))) bytes now)) (sym given)
           ∙ ap (refunded o k.bytes (rows_of o s) g) (sym back)
 
       anyhow : refund_outcome o s k bytes now
           ≡ refunded o k.bytes (rows_of o s) g (byte_refund (bucket_or_fresh o.peer_outbound_config (look k.bytes (rows_of o s))) bytes now)
-      anyhow = refund-by _ refl
+      anyhow = refund_by _ refl
 
       -- the peers' limit is off
-      pub refund-off : byte_disabled o.peer_outbound_config ≡ true
+      pub refund_off : byte_disabled o.peer_outbound_config ≡ true
           → RefundMeets o s k bytes now (outbound_settled (outbound_with o g o.rows) Settled.Done) s
       unfolding RefundMeets
-      refund-off off =
+      refund_off off =
           stays o s (refund_outcome o s k bytes now) (outbound_settled (outbound_with o g o.rows) Settled.Done) (anyhow ∙ rw off)
 
       module _ (on : byte_disabled o.peer_outbound_config ≡ false) where
         -- there is no place for the row
-        pub refund-full : full_at o.rows found ≡ true → RefundMeets o s k bytes now (outbound_settled o (Settled.Refused no_row)) s
+        pub refund_full : full_at o.rows found ≡ true → RefundMeets o s k bytes now (outbound_settled o (Settled.Refused no_row)) s
         unfolding RefundMeets
-        refund-full h =
+        refund_full h =
             stays o s (refund_outcome o s k bytes now) (outbound_settled o (Settled.Refused no_row))
             (anyhow ∙ rw (on, sym (placed_full o s k.bytes found p) ∙ h))
 
         -- both have it back
-        pub refund-yes : full_at o.rows found ≡ false → (b : ByteTokenBucket) → PeerBucket o s k.bytes b
+        pub refund_yes : full_at o.rows found ≡ false → (b : ByteTokenBucket) → PeerBucket o s k.bytes b
             → (q : ByteTokenBucket) → q ≡ byte_refund b bytes now → (t : List ℕ) (m : ℕ)
             → Counted outbound_layout s t o.rows m (kept k.bytes q (rows_of o s))
             → RefundMeets o s k bytes now (outbound_settled (outbound_with o g m) Settled.Done) t
         unfolding RefundMeets
-        refund-yes h b peers q back t m held =
+        refund_yes h b peers q back t m held =
             becomes o s (refund_outcome o s k bytes now) (λ (n : ℕ). outbound_settled (outbound_with o g n) Settled.Done)
             (kept k.bytes q (rows_of o s)) t m
-            (refund-by q (back ∙ ap (λ (x : ByteTokenBucket). byte_refund x bytes now) peers.is_peers)
+            (refund_by q (back ∙ ap (λ (x : ByteTokenBucket). byte_refund x bytes now) peers.is_peers)
             ∙ rw (on, sym (placed_full o s k.bytes found p) ∙ h))
             held
 
@@ -190,45 +190,45 @@ module _ (o : Outbound) (s : List ℕ) (k : Pubkey) where
     -- ════ Estimate ════
 
     -- an unsound state
-    pub estimate-unsound : sound o s ≡ false → EstimateMeets o s k bytes now (Delay.Refused unsound)
+    pub estimate_unsound : sound o s ≡ false → EstimateMeets o s k bytes now (Delay.Refused unsound)
     unfolding EstimateMeets
-    estimate-unsound h = rw h
+    estimate_unsound h = rw h
 
     -- the longer delay
-    pub estimate-wait : sound o s ≡ true → (g p r : ℕ) → g ≡ byte_peek_delay_after_refill o.global_outbound bytes now
+    pub estimate_wait : sound o s ≡ true → (g p r : ℕ) → g ≡ byte_peek_delay_after_refill o.global_outbound bytes now
         → p ≡ peer_delay o.peer_outbound_config bytes now (look k.bytes (rows_of o s)) → r ≡ max g p
         → EstimateMeets o s k bytes now (Delay.Wait r)
     unfolding EstimateMeets
-    estimate-wait h g p r first second longer = rw h (ap Delay.Wait (longer ∙ ap (λ (n : ℕ). max n p) first ∙ ap (max _) second))
+    estimate_wait h g p r first second longer = rw h (ap Delay.Wait (longer ∙ ap (λ (n : ℕ). max n p) first ∙ ap (max _) second))
 
     -- ════ Bypass ════
 
     -- an unsound state
-    pub bypass-unsound : sound o s ≡ false → BypassMeets o s k bytes now (Told.Refused unsound)
+    pub bypass_unsound : sound o s ≡ false → BypassMeets o s k bytes now (Told.Refused unsound)
     unfolding BypassMeets
-    bypass-unsound h = rw h
+    bypass_unsound h = rw h
 
     module _ (h : sound o s ≡ true) where
-      bypass-by : (x g p : Bool) → exceeds o bytes ≡ x → byte_has_debt o.global_outbound now ≡ g
+      bypass_by : (x g p : Bool) → exceeds o bytes ≡ x → byte_has_debt o.global_outbound now ≡ g
           → peer_debt o.peer_outbound_config now (look k.bytes (rows_of o s)) ≡ p
           → BypassMeets o s k bytes now (told (cond x (cond g false (not p)) false))
       unfolding BypassMeets
-      bypass-by x g p large first second =
+      bypass_by x g p large first second =
           sym (ap (λ (t : Bool). cond t (told (bypasses o k.bytes bytes now (rows_of o s))) (Told.Refused unsound)) h
           ∙ ap (λ (t : Bool). told (cond t (cond (byte_has_debt o.global_outbound now) false (not (peer_debt o.peer_outbound_config now (look k.bytes (rows_of o s))))) false)) large
           ∙ ap (λ (t : Bool). told (cond x (cond t false (not (peer_debt o.peer_outbound_config now (look k.bytes (rows_of o s))))) false)) first
           ∙ ap (λ (t : Bool). told (cond x (cond g false (not t)) false)) second)
 
       -- the message fits
-      pub bypass-fits : exceeds o bytes ≡ false → BypassMeets o s k bytes now Told.No
-      bypass-fits large = bypass-by false _ _ large refl refl
+      pub bypass_fits : exceeds o bytes ≡ false → BypassMeets o s k bytes now Told.No
+      bypass_fits large = bypass_by false _ _ large refl refl
 
       module _ (large : exceeds o bytes ≡ true) where
         -- the global bucket is in debt
-        pub bypass-global-debt : byte_has_debt o.global_outbound now ≡ true → BypassMeets o s k bytes now Told.No
-        bypass-global-debt first = bypass-by true true _ large first refl
+        pub bypass_global_debt : byte_has_debt o.global_outbound now ≡ true → BypassMeets o s k bytes now Told.No
+        bypass_global_debt first = bypass_by true true _ large first refl
 
         -- the peer's bucket is, or is not
-        pub bypass-peer : byte_has_debt o.global_outbound now ≡ false → (p : Bool)
+        pub bypass_peer : byte_has_debt o.global_outbound now ≡ false → (p : Bool)
             → p ≡ peer_debt o.peer_outbound_config now (look k.bytes (rows_of o s)) → BypassMeets o s k bytes now (told (not p))
-        bypass-peer first p second = bypass-by true false p large first (sym second)
+        bypass_peer first p second = bypass_by true false p large first (sym second)

@@ -10,7 +10,7 @@ use bucket_bytes::bytes::ByteTokenBucket;
 use bucket_terms::limit::ByteRateLimitConfig;
 
 // `sign` is 0 for plus and 1 for minus; `low` and `high` are the halves of the magnitude.
-#[derive(Drop)]
+#[derive(Clone, Copy)]
 pub struct OutboundEntry {
     pub sign: u64,
     pub low: u64,

@@ -13,9 +13,9 @@ use Rattle.table.specs.Table.{look, store, erase, remove_at, row_under}
 use Rattle.table.specs.Private.{insert_at}
 use Rattle.table.specs.Memory.{row_of, rows, Holds}
 use Rattle.table.specs.MemoryLaws.{length_rows}
-use Rattle.table.specs.PlaceLaws.{place_is_sound, gap-erase}
+use Rattle.table.specs.PlaceLaws.{place_is_sound, gap_erase}
 use Rattle.table_laws.specs.Private as lent
-use Rattle.table_laws.specs.LentLaws.{sought_unsound, sought_known, sought_unknown, own-sound, limit_fits, known_inside, known-rule, known_look, unknown-within, unknown_look}
+use Rattle.table_laws.specs.LentLaws.{sought_unsound, sought_known, sought_unknown, own_sound_lem, limit_fits, known_inside, known_rule, known_look, unknown_within, unknown_look}
 use Rattle.table_laws.specs.ChangeLaws.{holds_same, stored_at, stored_gap, erased_at, unchanged}
 use Rattle.table_laws.specs.Private.{over}
 use Rattle.table_laws.specs.Private.{Counted}
@@ -49,18 +49,18 @@ module _ (g p : ByteTokenBucket) (bytes now : ℕ) (first : ByteConsumed) (asked
 
   module _ (gave : is_yes first.answer ≡ true) (second : ByteConsumed) (then-asked : second ≡ byte_try_consume p bytes now) where
     -- the peer's said no
-    pub charge-peer-no : is_yes second.answer ≡ false → charged g p false ≡ charge_both g p bytes now
+    pub charge_peer_no : is_yes second.answer ≡ false → charged g p false ≡ charge_both g p bytes now
     unfolding charge_both
-    charge-peer-no h =
+    charge_peer_no h =
         rw (
           ap (λ (r : ByteConsumed). is_yes r.answer) (sym asked) ∙ gave,
           ap (λ (r : ByteConsumed). is_yes r.answer) (sym then-asked) ∙ h,
         )
 
     -- both said yes
-    pub charge-yes : is_yes second.answer ≡ true → charged first.bucket second.bucket true ≡ charge_both g p bytes now
+    pub charge_yes : is_yes second.answer ≡ true → charged first.bucket second.bucket true ≡ charge_both g p bytes now
     unfolding charge_both
-    charge-yes h =
+    charge_yes h =
         rw (
           ap (λ (r : ByteConsumed). is_yes r.answer) (sym asked) ∙ gave,
           ap (λ (r : ByteConsumed). is_yes r.answer) (sym then-asked) ∙ h,
@@ -106,20 +106,20 @@ module _ (o : Outbound) (s k : List ℕ) where
       record { is_sound = h.is_sound; place = h.place }
 
   module _ {found : Seek} (p : Placed o s k found) where
-    own-placed : own_sound o ≡ true
-    own-placed = own-sound outbound_layout (outbound_sound o.peer_outbound_config) (own_sound o) 1024 s o.rows p.is_sound
+    own_placed : own_sound o ≡ true
+    own_placed = own_sound_lem outbound_layout (outbound_sound o.peer_outbound_config) (own_sound o) 1024 s o.rows p.is_sound
 
     -- the global bucket is sound
-    pub placed-global : byte_sound o.global_outbound ≡ true
-    placed-global = own_global o own-placed
+    pub placed_global : byte_sound o.global_outbound ≡ true
+    placed_global = own_global o own_placed
 
     -- rows within 1,024
-    pub placed-few : o.rows ≤ 1024
-    placed-few = rows_within o own-placed
+    pub placed_few : o.rows ≤ 1024
+    placed_few = rows_within o own_placed
 
     -- memory for 1,024 rows
-    pub placed-room : 65 * 1024 ≤ length s
-    placed-room = limit_fits outbound_layout (outbound_sound o.peer_outbound_config) (own_sound o) 1024 s o.rows p.is_sound
+    pub placed_room : 65 * 1024 ≤ length s
+    placed_room = limit_fits outbound_layout (outbound_sound o.peer_outbound_config) (own_sound o) 1024 s o.rows p.is_sound
 
   -- the same place
   pub placed_as : {found other : Seek} → found ≡ other → Placed o s k found → Placed o s k other
@@ -136,31 +136,31 @@ module _ (o : Outbound) (s k : List ℕ) where
     known = record { is_sound = p.is_sound; place = p.place }
 
     -- its row is one of them
-    pub placed-inside : i < o.rows
-    placed-inside = known_inside outbound_layout (outbound_sound o.peer_outbound_config) (own_sound o) 1024 s o.rows k i known
+    pub placed_inside : i < o.rows
+    placed_inside = known_inside outbound_layout (outbound_sound o.peer_outbound_config) (own_sound o) 1024 s o.rows k i known
 
     module _ (e : OutboundEntry) (read : e ≡ (row_of outbound_layout (part s (65 * i) 65)).entry) where
-      found-there : look k (rows_of o s) ≡ some e
-      found-there = known_look outbound_layout (outbound_sound o.peer_outbound_config) (own_sound o) 1024 s o.rows k i known e read
+      found_there : look k (rows_of o s) ≡ some e
+      found_there = known_look outbound_layout (outbound_sound o.peer_outbound_config) (own_sound o) 1024 s o.rows k i known e read
 
       -- its bucket is sound
-      pub known-sound : byte_sound (bucket_of o.peer_outbound_config e) ≡ true
-      known-sound =
+      pub known_sound : byte_sound (bucket_of o.peer_outbound_config e) ≡ true
+      known_sound =
           entry_bucket_sound o.peer_outbound_config e
           (ap (entry_sound o.peer_outbound_config) read
-          ∙ known-rule outbound_layout (outbound_sound o.peer_outbound_config) (own_sound o) 1024 s o.rows k i known)
+          ∙ known_rule outbound_layout (outbound_sound o.peer_outbound_config) (own_sound o) 1024 s o.rows k i known)
 
-      pub known-bucket : PeerBucket o s k (bucket_of o.peer_outbound_config e)
-      known-bucket =
-          record { is_peers = ap (bucket_or_fresh o.peer_outbound_config) (sym found-there); is_sound = known-sound }
+      pub known_bucket : PeerBucket o s k (bucket_of o.peer_outbound_config e)
+      known_bucket =
+          record { is_peers = ap (bucket_or_fresh o.peer_outbound_config) (sym found_there); is_sound = known_sound }
 
-      pub known-delay : (bytes now : ℕ)
+      pub known_delay : (bytes now : ℕ)
           → byte_peek_delay_after_refill (bucket_of o.peer_outbound_config e) bytes now ≡ peer_delay o.peer_outbound_config bytes now (look k (rows_of o s))
-      known-delay bytes now = ap (peer_delay o.peer_outbound_config bytes now) (sym found-there)
+      known_delay bytes now = ap (peer_delay o.peer_outbound_config bytes now) (sym found_there)
 
-      pub known-debt : (now : ℕ)
+      pub known_debt : (now : ℕ)
           → byte_has_debt (bucket_of o.peer_outbound_config e) now ≡ peer_debt o.peer_outbound_config now (look k (rows_of o s))
-      known-debt now = ap (peer_debt o.peer_outbound_config now) (sym found-there)
+      known_debt now = ap (peer_debt o.peer_outbound_config now) (sym found_there)
 
   -- ════ A peer that has none ════
 
@@ -169,28 +169,28 @@ module _ (o : Outbound) (s k : List ℕ) where
     unknown = record { is_sound = p.is_sound; place = p.place }
 
     -- it would stand before a row or behind the last
-    pub placed-within : i ≤ o.rows
-    placed-within = unknown-within outbound_layout (outbound_sound o.peer_outbound_config) (own_sound o) 1024 s o.rows k i unknown
+    pub placed_within : i ≤ o.rows
+    placed_within = unknown_within outbound_layout (outbound_sound o.peer_outbound_config) (own_sound o) 1024 s o.rows k i unknown
 
     found_none : look k (rows_of o s) ≡ none
     found_none = unknown_look outbound_layout (outbound_sound o.peer_outbound_config) (own_sound o) 1024 s o.rows k i unknown
 
-    pub new-bucket : o.peer_outbound_config.burst_bytes < 2 ^ 64 → PeerBucket o s k (byte_new o.peer_outbound_config)
-    new-bucket fits =
+    pub new_bucket : o.peer_outbound_config.burst_bytes < 2 ^ 64 → PeerBucket o s k (byte_new o.peer_outbound_config)
+    new_bucket fits =
         record {
           is_peers = ap (bucket_or_fresh o.peer_outbound_config) (sym found_none);
           is_sound = byte_new_sound o.peer_outbound_config fits;
         }
 
-    pub new-delay : (bytes now : ℕ) → 0 ≡ peer_delay o.peer_outbound_config bytes now (look k (rows_of o s))
-    new-delay bytes now = ap (peer_delay o.peer_outbound_config bytes now) (sym found_none)
+    pub new_delay : (bytes now : ℕ) → 0 ≡ peer_delay o.peer_outbound_config bytes now (look k (rows_of o s))
+    new_delay bytes now = ap (peer_delay o.peer_outbound_config bytes now) (sym found_none)
 
-    pub new-debt : (now : ℕ) → false ≡ peer_debt o.peer_outbound_config now (look k (rows_of o s))
-    new-debt now = ap (peer_debt o.peer_outbound_config now) (sym found_none)
+    pub new_debt : (now : ℕ) → false ≡ peer_debt o.peer_outbound_config now (look k (rows_of o s))
+    new_debt now = ap (peer_debt o.peer_outbound_config now) (sym found_none)
 
     -- there is a place for its row
-    pub room-left : full_at o.rows (Gap i) ≡ false → o.rows + 1 ≤ 1024
-    room-left h = omega (arith, leb-false 1024 o.rows h)
+    pub room_left : full_at o.rows (Gap i) ≡ false → o.rows + 1 ≤ 1024
+    room_left h = omega (arith, leb-false 1024 o.rows h)
 
   -- ════ Full ════
 
@@ -199,7 +199,7 @@ module _ (o : Outbound) (s k : List ℕ) where
   placed_full Unsound p = absurd (not_unsound p)
   placed_full (At i) p =
       let e : OutboundEntry = (row_of outbound_layout (part s (65 * i) 65)).entry in
-      ap (full o.rows) (sym (found-there i p e refl))
+      ap (full o.rows) (sym (found_there i p e refl))
   placed_full (Gap i) p = ap (full o.rows) (sym (found_none i p))
 
   -- ════ Rows written and taken out ════
@@ -217,15 +217,15 @@ module _ (o : Outbound) (s k : List ℕ) where
     written_new i e p held = stored_gap outbound_faithful s t o.rows k i e p.place held
 
     -- the peer's row taken out
-    pub dropped-known : (i : ℕ) → Placed o s k (At i) → Holds outbound_layout s t o.rows (remove_at i (rows_of o s))
+    pub dropped_known : (i : ℕ) → Placed o s k (At i) → Holds outbound_layout s t o.rows (remove_at i (rows_of o s))
         → Counted outbound_layout s t o.rows (o.rows - 1) (erase k (rows_of o s))
-    dropped-known i p held = erased_at outbound_faithful s t o.rows k i p.place held
+    dropped_known i p held = erased_at outbound_faithful s t o.rows k i p.place held
 
     -- no row to take out
-    pub dropped-none : (i : ℕ) → Placed o s k (Gap i) → Bytes s → t ≡ s → Counted outbound_layout s t o.rows o.rows (erase k (rows_of o s))
-    dropped-none i p b e =
-        let stays : erase k (rows_of o s) ≡ rows_of o s = gap-erase k (rows_of o s) p.place in
-        let fits : 65 * o.rows ≤ length s = omega (arith, placed-few p, placed-room p) in (
+    pub dropped_none : (i : ℕ) → Placed o s k (Gap i) → Bytes s → t ≡ s → Counted outbound_layout s t o.rows o.rows (erase k (rows_of o s))
+    dropped_none i p b e =
+        let stays : erase k (rows_of o s) ≡ rows_of o s = gap_erase k (rows_of o s) p.place in
+        let fits : 65 * o.rows ≤ length s = omega (arith, placed_few p, placed_room p) in (
           holds_same (sym stays) (unchanged outbound_faithful s t o.rows b fits e),
           sym (ap length stays ∙ length_rows outbound_layout s o.rows),
         )

@@ -3,7 +3,7 @@
 use Rattle.std.specs.Prelude.{Bool, true, false, ◌&&◌, ◌||◌, not, cond, List, ℕ, max, leb, ltb}
 use Rattle.std.proofs.Math.Option.{Option, none, some}
 use Rattle.table.specs.Memory.{rows}
-use Rattle.table_laws.specs.Lent.{lentSound}
+use Rattle.table_laws.specs.Lent.{lent_sound}
 use Rattle.bucket_terms.specs.declared.answer.Consumed.{Consumed}
 use Rattle.bucket_terms.specs.declared.answer.Consumed.TheVariants as Consumed
 use Rattle.bucket_terms.specs.declared.answer.Delay.{Delay}
@@ -36,7 +36,7 @@ own_sound o = leb o.rows max_rows && byte_sound o.global_outbound
 
 -- a state and the memory lent to it
 abbrev pub sound : Outbound → List ℕ → Bool
-sound o s = lentSound outbound_layout (outbound_sound o.peer_outbound_config) (own_sound o) max_rows s o.rows
+sound o s = lent_sound outbound_layout (outbound_sound o.peer_outbound_config) (own_sound o) max_rows s o.rows
 
 -- ════ A peer's bucket ════
 

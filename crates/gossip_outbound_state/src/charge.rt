@@ -9,7 +9,7 @@ use bucket_terms::answer::{Consumed, Delay, Told};
 use bucket_terms::limit::ByteRateLimitConfig;
 
 // Two buckets, and whether both gave what was asked; as they were where one did not.
-#[derive(Drop)]
+#[derive(Clone, Copy)]
 pub struct Charged {
     pub global: ByteTokenBucket,
     pub peer: ByteTokenBucket,
@@ -17,7 +17,7 @@ pub struct Charged {
 }
 
 // Two buckets that promised what was asked, and the longer of the two delays.
-#[derive(Drop)]
+#[derive(Clone, Copy)]
 pub struct Promised {
     pub global: ByteTokenBucket,
     pub peer: ByteTokenBucket,

@@ -5,35 +5,35 @@ use gossip_bans::answer::Pruned;
 use gossip_outbound::answer::Settled;
 
 // Whether a peer is banned, or a message may be sent and was charged.
-#[derive(Drop)]
+#[derive(Clone, Copy)]
 pub struct GossipTold {
     pub state: GossipPolicyState,
     pub answer: Told,
 }
 
 // The expired bans have gone.
-#[derive(Drop)]
+#[derive(Clone, Copy)]
 pub struct GossipPruned {
     pub state: GossipPolicyState,
     pub answer: Pruned,
 }
 
 // A call that says nothing more was carried out. A maker that is refused answers the state that it would have made.
-#[derive(Drop)]
+#[derive(Clone, Copy)]
 pub struct GossipSettled {
     pub state: GossipPolicyState,
     pub answer: Settled,
 }
 
 // How long to wait before a message that was charged may be sent.
-#[derive(Drop)]
+#[derive(Clone, Copy)]
 pub struct GossipReserved {
     pub state: GossipPolicyState,
     pub answer: Delay,
 }
 
 // How many bytes may wait to be sent.
-#[derive(Drop)]
+#[derive(Clone, Copy)]
 pub enum DelayedByteCapacity {
     Unlimited,
     Bytes(u64),

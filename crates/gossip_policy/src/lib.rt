@@ -2,6 +2,8 @@
 //
 // The state is a value, and its rows stand in two lent tables: a call on bans is lent the one, a call on outbound messages the other, and
 // each is judged on what it is lent. No call has a condition; a refused call changes nothing.
+#![tactic(auto)]
+
 pub mod answer;
 mod parts;
 pub mod state;

@@ -20,7 +20,7 @@ use pubkey::Pubkey;
 
 // The bans; what all peers together may be sent; how many rows of the outbound table are in use; the settings of the delay queue and of
 // each peer's bucket.
-#[derive(Drop)]
+#[derive(Clone, Copy)]
 pub struct GossipPolicyState {
     pub ban_tracker: GossipBanTracker,
     pub global_outbound: ByteTokenBucket,

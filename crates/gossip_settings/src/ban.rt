@@ -3,7 +3,7 @@ ghost use Rattle.std.specs.Prelude.{◌≡◌};
 ghost use Rattle.gossip_settings.specs.Settings.{ban_default, gossip_ban_disabled, max_tracked_peers};
 
 // The score that bans a peer, and how long the ban lasts. A 0 in either switches bans off.
-#[derive(Drop)]
+#[derive(Clone, Copy)]
 pub struct GossipBanConfig {
     pub threshold: u32,
     pub duration_ms: u64,
@@ -19,7 +19,7 @@ impl GossipBanConfig {
     // The constants; the second clause holds the one that no field has.
     pub fn default() -> GossipBanConfig
         ensures value { result ≡ ban_default }
-        ensures* do_value { do ⌜ (← (⟦GossipBanConfig::MAX_TRACKED_PEERS⟧).entry) ≡ max_tracked_peers ⌝ }
+        ensures most_tracked { GossipBanConfig.MAX_TRACKED_PEERS ≡ max_tracked_peers }
     {
         GossipBanConfig {
             threshold: GossipBanConfig::THRESHOLD,

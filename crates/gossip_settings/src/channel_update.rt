@@ -3,7 +3,7 @@ ghost use Rattle.std.specs.Prelude.{◌≡◌};
 ghost use Rattle.gossip_settings.specs.Settings.{channel_update_default, channel_update_disabled, max_tracked_keys};
 
 // How often an update of one side of a channel is let in, and how many may come at once. A 0 in either switches the limit off.
-#[derive(Drop)]
+#[derive(Clone, Copy)]
 pub struct ChannelUpdateRateLimitConfig {
     pub interval_ms: u64,
     pub burst: u32,
@@ -19,7 +19,7 @@ impl ChannelUpdateRateLimitConfig {
     // The constants; the second clause holds the one that no field has.
     pub fn default() -> ChannelUpdateRateLimitConfig
         ensures value { result ≡ channel_update_default }
-        ensures* do_value { do ⌜ (← (⟦ChannelUpdateRateLimitConfig::MAX_TRACKED_KEYS⟧).entry) ≡ max_tracked_keys ⌝ }
+        ensures most_tracked { ChannelUpdateRateLimitConfig.MAX_TRACKED_KEYS ≡ max_tracked_keys }
     {
         ChannelUpdateRateLimitConfig {
             interval_ms: ChannelUpdateRateLimitConfig::INTERVAL_MS,

@@ -7,7 +7,7 @@ use crate::channel_update::ChannelUpdateRateLimitConfig;
 use bucket_terms::limit::ByteRateLimitConfig;
 
 // The settings of each part, in the Rust's order.
-#[derive(Drop)]
+#[derive(Clone, Copy)]
 pub struct GossipPolicyConfig {
     pub ban: GossipBanConfig,
     // What all peers together are sent.

@@ -3,7 +3,7 @@ ghost use Rattle.std.specs.Prelude.{◌≡◌};
 ghost use Rattle.gossip_settings.specs.Settings.{violation_score};
 
 // The kinds of violation, in the Rust's order.
-#[derive(Drop)]
+#[derive(Clone, Copy)]
 pub enum GossipViolation {
     InvalidSyncResponse,
     InvalidBroadcastMessage,

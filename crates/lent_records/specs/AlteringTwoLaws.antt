@@ -36,8 +36,8 @@ use denote.Triple.Spec.{Meets}
 use denote.Triple.Clauses.{ensured, closing, lasts}
 use denote.Triple.Walked.{says, Stays, stay_ref, stay_none, walk_of, Goes-none, Goes-ref, Walks, ends_at, walked, walk_Meets}
 use Rattle.lent_records.specs.Lent.{Lent, Kept, Said, Pair, pair_laws, Record, Answer, Handed, record_ty, pair_ty, record_val, answer_val}
-use Rattle.lent_records.specs.Two.{by_value, lent, lent_function, core-clauses, clauses, ByValue}
-use Rattle.lent_records.specs.PartsLaws.{pair_record, pair_answer, record-typed, answer_typed, pair_typed}
+use Rattle.lent_records.specs.Two.{by_value, lent, lent_function, core_clauses, clauses, ByValue}
+use Rattle.lent_records.specs.PartsLaws.{pair_record, pair_answer, record_typed, answer_typed, pair_typed}
 
 module _ (K : Lent) where
   abbrev stayed : Stays (lent K).signature.params (lent K).kept
@@ -60,15 +60,15 @@ module _ (K : Lent) where
         abbrev Post : Val → SProp 𝓤
         Post = (walk_of 𝓛 (lent K) stayed (clauses K Q 𝓤)).post (((κ, tt), (q, tt), tt, x, at), tt)
 
-        abbrev to-core : Core.Ghost
-        to-core = ((tt, tt, tt, (h, (n, (m, tt))), (record_val K h ∷ [], (vint w64 n ∷ [], (vint w64 m ∷ [], tt)))), tt)
+        abbrev to_core : Core.Ghost
+        to_core = ((tt, tt, tt, (h, (n, (m, tt))), (record_val K h ∷ [], (vint w64 n ∷ [], (vint w64 m ∷ [], tt)))), tt)
 
-        goes-core : Is (Record K) h (record_val K h ∷ []) → ent 𝓤 (emp 𝓤) (Core.pre to-core)
-        goes-core is =
+        goes_core : Is (Record K) h (record_val K h ∷ []) → ent 𝓤 (emp 𝓤) (Core.pre to_core)
+        goes_core is =
             qed 𝓛 [] ∵ nothing ! $ owned ! u64 (Is u64) (uint_Makes 𝓛 w64) m _ (refl, m-fits) $ fjoin ! $ owned ! u64 (Is u64) (uint_Makes 𝓛 w64) n _ (refl, n-fits) $ fjoin ! $
             owned ! (Record K) (Is (Record K)) (LL.makes (Kept K) K.record_type.plain 𝓛) h _ is $ fjoin ! $ nothing ! $ join ! $ frame ! $ done !
 
-        said_of : (r : K.Both) → ent 𝓤 (ensured 𝓛 (by_value K) (core-clauses K Q 𝓤) tt (h, (n, (m, tt))) tt r) (fact 𝓤 (Q h n m r))
+        said_of : (r : K.Both) → ent 𝓤 (ensured 𝓛 (by_value K) (core_clauses K Q 𝓤) tt (h, (n, (m, tt))) tt r) (fact 𝓤 (Q h n m r))
         said_of r = ex_e 𝓤 _ (λ ws. snd∗ 𝓤 (sem 𝓛 (lasts (by_value K) tt (h, (n, (m, tt))) ws)) (fact 𝓤 (Q h n m r)))
 
         -- the record r that was handed back stands where the lent one stood, and its answer is what is returned
@@ -92,17 +92,17 @@ module _ (K : Lent) where
               use1 𝓛 (‵ (fat full_share (record_ty K) b o (record_val K h))) (𝓛.laws.raw_at full_share (record_ty K) b o (record_val K h)) $
               move ! (1 ∷ []) $ peeks ! (Record K) (Is (Record K)) (shows 𝓛 (Record K)) h (record_val K h ∷ []) (λ is. move ! (1 ∷ 0 ∷ []) $
               -- [the record's cell; what it owns; the open borrow; obs; auth; true; the numbers'; _5; …; _4; …; _3; …; _2; …; _1; …; room for _0; …]
-              assigns ! (of_opd ! (load ! (from ! (hop ! (look ! 15 refl) (stop !))) (look ! 0 refl))) (from ! (stop !)) (init ! 7 refl (record-typed K 𝓛 h is)) $
-              use0 𝓛 (raw (Core.pre to-core)) (goes-core is) $
-              calls_at ! fm Core known to-core (and_then ! (load ! (from ! (stop !)) (look ! 8 refl)) (and_then ! (load ! (from ! (stop !)) (look ! 14 refl)) (and_then ! (load ! (from ! (stop !)) (look ! 12 refl)) (no_more !)))) (λ v.
-              use1 𝓛 (later (some (λ (r : K.Both). (‵ ftrue ⊛ ‵ ((Handed K).own r (v ∷ []))) ⊛ raw (ensured 𝓛 (by_value K) (core-clauses K Q 𝓤) tt (h, (n, (m, tt))) tt r)))) (id⊢ 𝓤 _) $ await ! tt $ pick ! (λ r.
+              assigns ! (of_opd ! (load ! (from ! (hop ! (look ! 15 refl) (stop !))) (look ! 0 refl))) (from ! (stop !)) (init ! 7 refl (record_typed K 𝓛 h is)) $
+              use0 𝓛 (raw (Core.pre to_core)) (goes_core is) $
+              calls_at ! fm Core known to_core (and_then ! (load ! (from ! (stop !)) (look ! 8 refl)) (and_then ! (load ! (from ! (stop !)) (look ! 14 refl)) (and_then ! (load ! (from ! (stop !)) (look ! 12 refl)) (no_more !)))) (λ v.
+              use1 𝓛 (later (some (λ (r : K.Both). (‵ ftrue ⊛ ‵ ((Handed K).own r (v ∷ []))) ⊛ raw (ensured 𝓛 (by_value K) (core_clauses K Q 𝓤) tt (h, (n, (m, tt))) tt r)))) (id⊢ 𝓤 _) $ await ! tt $ pick ! (λ r.
               split ! $ move ! (1 ∷ []) $ use1 𝓛 (raw (fact 𝓤 (Q h n m r))) (said_of r) $ heard ! (Q h n m r) (λ e. split ! $ drop ! $
               peeks ! (Handed K) (Is (Handed K)) (shows 𝓛 (Handed K)) r (v ∷ []) (λ pair. drop ! $
               -- the pair is stored and spelled out
               land ! (from ! (stop !)) (init ! 9 refl (pair_typed K 𝓛 r v pair)) $
               rewrite ! 9 (λ (u : Val). ‵ (fat full_share (pair_ty K) l₄ 0 u)) (ap only (LL.tells (Pair K) (pair_laws K) r _ pair)) refl $
               -- the record goes where the lent one stood, and the answer into the result
-              assigns ! (of_opd ! (load ! (from ! (fld ! refl (stop !))) (look_in ! 9 (sub ! 0 refl (whole !))))) (from ! (hop ! (look ! 15 refl) (stop !))) (store ! 0 refl (record-typed K 𝓛 (K.kept r) (pair_record K r v pair))) $
+              assigns ! (of_opd ! (load ! (from ! (fld ! refl (stop !))) (look_in ! 9 (sub ! 0 refl (whole !))))) (from ! (hop ! (look ! 15 refl) (stop !))) (store ! 0 refl (record_typed K 𝓛 (K.kept r) (pair_record K r v pair))) $
               assigns ! (of_opd ! (load ! (from ! (fld ! refl (stop !))) (look_in ! 9 (sub ! 1 refl (whole !))))) (from ! (stop !)) (init ! 17 refl (answer_typed K 𝓛 (K.said r) _ (pair_answer K r v pair))) $
               -- the borrow is closed at the new record
               use1 𝓛 (‵ (cell_at full_share (Record K).mir (record_val K (K.kept r) ∷ []) b o)) (𝓛.laws.at_raw full_share (record_ty K) b o (record_val K (K.kept r))) $

@@ -37,8 +37,8 @@ use denote.Triple.Spec.{Meets}
 use denote.Triple.Clauses.{ensured, closing, lasts}
 use denote.Triple.Walked.{says, Stays, stay_none, walk_of, Goes-none, Walks, ends_at, walked, walk_Meets}
 use Rattle.lent_records.specs.Lent.{Lent, Kept, Said, Pair, pair_plain, Record, Answer, Handed, record_ty, answer_ty, record_val}
-use Rattle.lent_records.specs.PartsLaws.{none_bound, none_said, answer_is, made, made_is, record-typed, answer_typed, pair_typed, lies_in, lies_out}
-use Rattle.lent_records.specs.Two.{by_value, lent, lending_function, core-clauses, clauses, ByLoan}
+use Rattle.lent_records.specs.PartsLaws.{none_bound, none_said, answer_is, made, made_is, record_typed, answer_typed, pair_typed, lies_in, lies_out}
+use Rattle.lent_records.specs.Two.{by_value, lent, lending_function, core_clauses, clauses, ByLoan}
 
 module _ (K : Lent) where
   abbrev stayed : Stays (by_value K).signature.params (by_value K).kept
@@ -59,23 +59,23 @@ module _ (K : Lent) where
         at = (record_val K h ∷ [], (vint w64 n ∷ [], (vint w64 m ∷ [], tt)))
 
         abbrev Post : Val → SProp 𝓤
-        Post = (walk_of 𝓛 (by_value K) stayed (core-clauses K Q 𝓤)).post ((tt, tt, tt, x, at), tt)
+        Post = (walk_of 𝓛 (by_value K) stayed (core_clauses K Q 𝓤)).post ((tt, tt, tt, x, at), tt)
 
         -- what the callee is lent: the local at b, for the lifetime α, under the name δ
         abbrev loan : ℕ → GName → MutBor (Kept K).D
         loan b δ = record { ref_ptr = (b, 0); ghost_name = δ; now = h }
 
-        abbrev to-callee : ℕ → ℕ → GName → Callee.Ghost
-        to-callee b α δ = (((α ∷ [], tt), (full_share, tt), tt, (loan b δ, (n, (m, tt))), (vptr b 0 ∷ [], (vint w64 n ∷ [], (vint w64 m ∷ [], tt)))), tt)
+        abbrev to_callee : ℕ → ℕ → GName → Callee.Ghost
+        to_callee b α δ = (((α ∷ [], tt), (full_share, tt), tt, (loan b δ, (n, (m, tt))), (vptr b 0 ∷ [], (vint w64 n ∷ [], (vint w64 m ∷ [], tt)))), tt)
 
-        goes-callee : (b α : ℕ) (δ : GName) → ent 𝓤 (sep 𝓤 (A.lft (α ∷ []) full_share) (sem 𝓛 ((MutRef (named 0) (α ∷ []) (Record K)).own_val (loan b δ) (vptr b 0 ∷ [])))) (Callee.pre (to-callee b α δ))
-        goes-callee b α δ =
+        goes_callee : (b α : ℕ) (δ : GName) → ent 𝓤 (sep 𝓤 (A.lft (α ∷ []) full_share) (sem 𝓛 ((MutRef (named 0) (α ∷ []) (Record K)).own_val (loan b δ) (vptr b 0 ∷ [])))) (Callee.pre (to_callee b α δ))
+        goes_callee b α δ =
             qed 𝓛 (‵ (flft (α ∷ []) full_share) ∷ ‵ ((MutRef (named 0) (α ∷ []) (Record K)).own_val (loan b δ) (vptr b 0 ∷ [])) ∷ []) ∵ nothing ! $ move ! (1 ∷ 0 ∷ []) $ join ! $
             nothing ! $ owned ! u64 (Is u64) (uint_Makes 𝓛 w64) m _ (refl, m-fits) $ fjoin ! $ owned ! u64 (Is u64) (uint_Makes 𝓛 w64) n _ (refl, n-fits) $ fjoin ! $ move ! (2 ∷ 0 ∷ []) $ fjoin ! $ move ! (1 ∷ 0 ∷ []) $ join ! $ frame ! $ done !
 
         exits : (d : (Kept K).D) (a : (Said K).D) → Q h n m (K.both d a) → Is (Handed K) (K.both d a) (made K d a ∷ []) → ent 𝓤 (emp 𝓤) (Post (made K d a))
         exits d a e is =
-            qed 𝓛 [] ∵ suffices ! _ (ends_at 𝓛 (by_value K) stayed (core-clauses K Q 𝓤) ((tt, tt, tt, x, at), tt) (made K d a) (K.both d a) (none_bound K h, (tt, (tt, tt))) (tt, (tt, (tt, tt)))) $ says ! e $
+            qed 𝓛 [] ∵ suffices ! _ (ends_at 𝓛 (by_value K) stayed (core_clauses K Q 𝓤) ((tt, tt, tt, x, at), tt) (made K d a) (K.both d a) (none_bound K h, (tt, (tt, tt))) (tt, (tt, (tt, tt)))) $ says ! e $
             nothing ! $ owned ! u64 (Is u64) (uint_Makes 𝓛 w64) m _ (refl, m-fits) $ fjoin ! $ owned ! u64 (Is u64) (uint_Makes 𝓛 w64) n _ (refl, n-fits) $ fjoin ! $ owned ! (Record K) (Is (Record K)) (LL.makes (Kept K) K.record_type.plain 𝓛) h _ h-is $ fjoin ! $
             owned ! (Handed K) (Is (Handed K)) (LL.makes (Pair K) (pair_plain K) 𝓛) (K.both d a) _ is $ move ! (1 ∷ 0 ∷ []) $ nothing ! $ done !
 
@@ -83,17 +83,17 @@ module _ (K : Lent) where
           walk : ent 𝓤 (on_entry 𝓛 (by_value K).signature tt tt x at) (WpFn 𝓤 H C Λ (lending_function K callee) (record_val K h ∷ vint w64 n ∷ vint w64 m ∷ []) Post)
           walk =
               qed 𝓛 (‵ ftrue ∷ ‵ (owns (Record K ∷ u64 ∷ u64 ∷ []) x at) ∷ []) ∵ enter ! C Λ (lending_function K callee) (record_val K h ∷ vint w64 n ∷ vint w64 m ∷ []) _ $
-              alloc1 ! (λ l₀. alloc1 ! (λ l₁. alloc1 ! (λ l₂. alloc1 ! (λ l₃. alloc1 ! (λ l₄. alloc1 ! (λ l₅. alloc1 ! (λ l₆. alloc1 ! (λ l₇. alloc0 ! $ params1 ! $ pass1 ! (init ! 12 refl (record-typed K 𝓛 h h-is)) $ pass1 ! (init ! 10 refl (tt, record { fits = n-fits })) $ pass1 ! (init ! 8 refl (tt, record { fits = m-fits })) $ pass0 ! $
+              alloc1 ! (λ l₀. alloc1 ! (λ l₁. alloc1 ! (λ l₂. alloc1 ! (λ l₃. alloc1 ! (λ l₄. alloc1 ! (λ l₅. alloc1 ! (λ l₆. alloc1 ! (λ l₇. alloc0 ! $ params1 ! $ pass1 ! (init ! 12 refl (record_typed K 𝓛 h h-is)) $ pass1 ! (init ! 10 refl (tt, record { fits = n-fits })) $ pass1 ! (init ! 8 refl (tt, record { fits = m-fits })) $ pass0 ! $
               -- [_7; …; _6; …; _5; …; _4; …; _3; …; _2; …; _1; …; _0; …; true; what the parameters own]
-              assigns ! (of_opd ! (load ! (from ! (stop !)) (look ! 12 refl))) (from ! (stop !)) (init ! 6 refl (record-typed K 𝓛 h h-is)) $
+              assigns ! (of_opd ! (load ! (from ! (stop !)) (look ! 12 refl))) (from ! (stop !)) (init ! 6 refl (record_typed K 𝓛 h h-is)) $
               assigns ! (addr ! (from ! (stop !))) (from ! (stop !)) (init ! 2 refl (tt, tt)) $
               -- the local is lent for a lifetime of the call
               move ! (6 ∷ []) $ use1 𝓛 (‵ ((mem (Record K)).own_at h l₄ 0)) (lies_in K 𝓛 h l₄ h-is) $
               lft_new ! tt (λ α. move ! (1 ∷ []) $
               use1 𝓛 (later (some (λ (δ : GName). ‵ ((MutRef (named 0) (α ∷ []) (Record K)).own_val (loan l₄ δ) (vptr l₄ 0 ∷ [])) ⊛ ‵ (flent (α ∷ []) (Body (mem (Record K)) l₄ 0 δ))))) (lends_ref 𝓛 (Record K) (named 0) (α ∷ []) h l₄ 0) $ await ! tt $ pick ! (λ δ. split ! $
-              move ! (2 ∷ 0 ∷ []) $ use2 𝓛 (raw (Callee.pre (to-callee l₄ α δ))) (goes-callee l₄ α δ) $
+              move ! (2 ∷ 0 ∷ []) $ use2 𝓛 (raw (Callee.pre (to_callee l₄ α δ))) (goes_callee l₄ α δ) $
               -- [what the callee asks; the lender's part; _7; …; _6; …; _5; …; what dies of _4; _3; …]
-              calls_at ! fm Callee known (to-callee l₄ α δ) (and_then ! (load ! (from ! (stop !)) (look ! 4 refl)) (and_then ! (load ! (from ! (stop !)) (look ! 11 refl)) (and_then ! (load ! (from ! (stop !)) (look ! 9 refl)) (no_more !)))) (λ v.
+              calls_at ! fm Callee known (to_callee l₄ α δ) (and_then ! (load ! (from ! (stop !)) (look ! 4 refl)) (and_then ! (load ! (from ! (stop !)) (look ! 11 refl)) (and_then ! (load ! (from ! (stop !)) (look ! 9 refl)) (no_more !)))) (λ v.
               use1 𝓛 (later (some (λ (a : (Said K).D). ((‵ (flft (α ∷ []) full_share) ⊛ ‵ ftrue) ⊛ ‵ ((Answer K).own a (v ∷ []))) ⊛ raw (ensured 𝓛 (lent K) (clauses K Q 𝓤) (α ∷ [], tt) (loan l₄ δ, (n, (m, tt))) tt a)))) (id⊢ 𝓤 _) $ await ! tt $ pick ! (λ a.
               split ! $ move ! (1 ∷ []) $ use1 𝓛 (some (λ (ws : (Kept K).D × (Unit {0} × (Unit {0} × Unit {0}))). ‵ (lasts (lent K) (α ∷ [], tt) (loan l₄ δ, (n, (m, tt))) ws) ⊛ raw (fact 𝓤 (Q h n m (K.both ws.0 a))))) (id⊢ 𝓤 _) $ pick ! (λ ws.
               split ! $ move ! (1 ∷ []) $ heard ! (Q h n m (K.both ws.0 a)) (λ e. fsplit ! $ move ! (2 ∷ []) $ split ! $
@@ -105,20 +105,20 @@ module _ (K : Lent) where
               split ! $ lft_end ! tt $ move ! (0 ∷ 4 ∷ 2 ∷ []) $ use3 𝓛 (later (‵ ((mem (Record K)).own_at ws.0 l₄ 0))) (ref_back 𝓛 (Record K) (α ∷ []) δ ws.0 l₄ 0) $ await ! tt $
               use1 𝓛 (given (Is (Record K) ws.0 (record_val K ws.0 ∷ [])) (‵ (fat full_share (record_ty K) l₄ 0 (record_val K ws.0)))) (lies_out K 𝓛 ws.0 l₄) $ learn ! (λ d-is.
               -- [_4; …; …; _7; …; _6; …; _5; …; what dies of _4; _3; …; _2; …; _1; …; _0; …]
-              assigns ! (of_opd ! (load ! (from ! (stop !)) (look ! 0 refl))) (from ! (stop !)) (init ! 3 refl (record-typed K 𝓛 ws.0 d-is)) $
+              assigns ! (of_opd ! (load ! (from ! (stop !)) (look ! 0 refl))) (from ! (stop !)) (init ! 3 refl (record_typed K 𝓛 ws.0 d-is)) $
               assigns ! (agg ! (and_then ! (load ! (from ! (stop !)) (look ! 3 refl)) (and_then ! (load ! (from ! (stop !)) (look ! 7 refl)) (no_more !)))) (from ! (stop !)) (init ! 16 refl (pair_typed K 𝓛 (K.both ws.0 a) _ (made_is K ws.0 a d-is (answer_is K a v v-is)))) $
               returns ! (look ! 16 refl) $ forget ! 0 refl $ forget ! 3 refl $ forget ! 5 refl $ forget ! 7 refl $ forget ! 10 refl $ forget ! 12 refl $ forget ! 14 refl $ forget ! 16 refl $
               move ! (16 ∷ 17 ∷ []) $ free1 ! $ move ! (14 ∷ 15 ∷ []) $ free1 ! $ move ! (12 ∷ 13 ∷ []) $ free1 ! $ move ! (10 ∷ 11 ∷ []) $ free1 ! $ move ! (0 ∷ 9 ∷ []) $ free1 ! $ move ! (6 ∷ 7 ∷ []) $ free1 ! $ move ! (4 ∷ 5 ∷ []) $ free1 ! $ move ! (2 ∷ 3 ∷ []) $ free1 ! $ free0 ! $
               keep ! [] $ by ! (exits ws.0 a e (made_is K ws.0 a d-is (answer_is K a v v-is)))))))))))))))))))
 
     pub walks : (C : Calls 𝓤 H) (Λ : Loops 𝓤 H) (callee : Name) → FmC 𝓤 H 𝓛.laws C → Triple 𝓤 (C callee) Callee
-        → Walks 𝓛 (by_value K) stayed (WpFn 𝓤 H C Λ (lending_function K callee)) (core-clauses K Q 𝓤)
-    walks C Λ callee fm known = walked 𝓛 (by_value K) stayed (core-clauses K Q 𝓤) (WpFn 𝓤 H C Λ (lending_function K callee)) (λ κs. (LL.vals (Kept K) K.record_type.laws, (uint_vals w64, (uint_vals w64, tt)))) (λ κs. (LL.tells (Kept K) K.record_type.laws, (uint_Tells w64, (uint_Tells w64, tt))))
+        → Walks 𝓛 (by_value K) stayed (WpFn 𝓤 H C Λ (lending_function K callee)) (core_clauses K Q 𝓤)
+    walks C Λ callee fm known = walked 𝓛 (by_value K) stayed (core_clauses K Q 𝓤) (WpFn 𝓤 H C Λ (lending_function K callee)) (λ κs. (LL.vals (Kept K) K.record_type.laws, (uint_vals w64, (uint_vals w64, tt)))) (λ κs. (LL.tells (Kept K) K.record_type.laws, (uint_Tells w64, (uint_Tells w64, tt))))
         (λ κs qs bounds a _ are. via 𝓤 _ (fst∗ 𝓤 _ (emp 𝓤)) (walk a.0 a.1.0 a.1.1.0 are.0 are.1.0.1 are.1.1.0.1 C Λ fm callee known))
 
     -- the law: where the lent form meets its contract, the function that lends meets that of the call by value
     pub meets : (callee : Name) (𝓣 : Tables 𝓤 H) → Triple 𝓤 (𝓣.C callee) Callee
-        → Meets 𝓛 (by_value K).signature (WpFn 𝓤 H 𝓣.C 𝓣.Λ (lending_function K callee)) (closing 𝓛 (by_value K) (core-clauses K Q 𝓤))
+        → Meets 𝓛 (by_value K).signature (WpFn 𝓤 H 𝓣.C 𝓣.Λ (lending_function K callee)) (closing 𝓛 (by_value K) (core_clauses K Q 𝓤))
     meets callee 𝓣 known =
-        walk_Meets 𝓛 (by_value K) stayed (Goes-none 𝓛 0 (λ _. Record K) yes (λ κs d f. none_said K d f), (Goes-none 𝓛 0 (λ _. u64) yes (λ κs y f. refl), (Goes-none 𝓛 0 (λ _. u64) yes (λ κs y f. refl), tt))) (core-clauses K Q 𝓤)
+        walk_Meets 𝓛 (by_value K) stayed (Goes-none 𝓛 0 (λ _. Record K) yes (λ κs d f. none_said K d f), (Goes-none 𝓛 0 (λ _. u64) yes (λ κs y f. refl), (Goes-none 𝓛 0 (λ _. u64) yes (λ κs y f. refl), tt))) (core_clauses K Q 𝓤)
         (WpFn 𝓤 H 𝓣.C 𝓣.Λ (lending_function K callee)) (WpFn-mono 𝓤 H 𝓛.laws 𝓣 (lending_function K callee)) (walks 𝓣.C 𝓣.Λ callee (fm_of 𝓤 H 𝓛.laws 𝓣) known)

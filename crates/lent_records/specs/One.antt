@@ -69,8 +69,8 @@ module _ (K : Lent) where
 
   module _ (Q : (Kept K).D → ℕ → K.Both → Type 0) {M : Type 1} (𝓤 : Ura M) where
     -- what the call by value says, of the record before and the pair that it hands back
-    abbrev pub core-clauses : Clauses 𝓤 by_value
-    core-clauses κs a = record { ghost = Unit {0}; requires = λ _. emp 𝓤; ensures = λ _ r _. fact 𝓤 (Q a.0 a.1.0 r) }
+    abbrev pub core_clauses : Clauses 𝓤 by_value
+    core_clauses κs a = record { ghost = Unit {0}; requires = λ _. emp 𝓤; ensures = λ _ r _. fact 𝓤 (Q a.0 a.1.0 r) }
 
     -- what the lent form says: the same, of the record before, and of the record after with the answer
     abbrev pub clauses : Clauses 𝓤 lent
@@ -79,7 +79,7 @@ module _ (K : Lent) where
     module _ (𝓛 : Logic 𝓤) where
       -- the contract of the call by value, and of the function that lends
       abbrev pub ByValue : Contract 𝓤
-      ByValue = triple_of 𝓛 by_value.signature (closing 𝓛 by_value core-clauses)
+      ByValue = triple_of 𝓛 by_value.signature (closing 𝓛 by_value core_clauses)
 
       -- the contract of the lent form
       abbrev pub ByLoan : Contract 𝓤

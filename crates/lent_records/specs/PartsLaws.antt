@@ -55,8 +55,8 @@ module _ (K : Lent) where
 
   -- ════ Under a model ════
   module _ {M : Type 1} {𝓤 : Ura M} (𝓛 : Logic 𝓤) where
-    pub record-typed : (d : (Kept K).D) → Is (Record K) d (record_val K d ∷ []) → Holds (has_ty (record_ty K) (record_val K d)) × WT (record_val K d)
-    record-typed d is = ((LL.lawful (Kept K) K.record_type.laws 𝓛).typed d _ is).0
+    pub record_typed : (d : (Kept K).D) → Is (Record K) d (record_val K d ∷ []) → Holds (has_ty (record_ty K) (record_val K d)) × WT (record_val K d)
+    record_typed d is = ((LL.lawful (Kept K) K.record_type.laws 𝓛).typed d _ is).0
 
     pub answer_typed : (a : (Said K).D) (v : Val) → Is (Answer K) a (v ∷ []) → Holds (has_ty (answer_ty K) v) × WT v
     answer_typed a v is = ((EL.lawful (Said K) K.answer_type.laws 𝓛 K.answer_type.few).typed a _ is).0

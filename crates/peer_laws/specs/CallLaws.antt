@@ -8,7 +8,7 @@ use Rattle.truths.specs.TruthLaws.{by_test}
 use Rattle.lent_bytes.specs.LentBytes.{Bytes}
 use Rattle.pubkey.specs.declared.Pubkey.{Pubkey}
 use Rattle.refusal.specs.Refusal.{limit_too_large, too_short}
-use Rattle.table_laws.specs.KeptLaws.{numbers_encode, length-laid-keyed, bytes-laid-keyed}
+use Rattle.table_laws.specs.KeptLaws.{numbers_encode, length_laid_keyed, bytes_laid_keyed}
 use Rattle.peer_rows.specs.Rows.{row_width}
 use Rattle.peer_rows.specs.RowsLaws.{peer_numbers_lem}
 use Rattle.table.specs.Table.{every, ascending, look}
@@ -90,10 +90,10 @@ use Rattle.peer_laws.specs.SoundLaws.{
   ChangeHolds,
   change_leaves,
   TurnHolds,
-  admit-holds,
-  record-invalid-holds,
+  admit_holds,
+  record_invalid_holds,
   is_banned_holds,
-  disconnected-holds,
+  disconnected_holds,
 }
 
 -- ════ No call on a sound policy is refused with 3 ════
@@ -161,9 +161,9 @@ module _ (p : PeerMessagePolicy) (P : PeerMessagePolicy → Type 0) where
   OfChanged (Changed.Refused n) = P p
 
   module _ (q : PeerMessagePolicy) where
-    pub of-standing : (b : Bool) → P q → OfStanding (standing_of b q)
-    of-standing true h = h
-    of-standing false h = h
+    pub of_standing : (b : Bool) → P q → OfStanding (standing_of b q)
+    of_standing true h = h
+    of_standing false h = h
 
 -- what holds of an outcome's answer holds of the answer that met it, in the memory that it left
 meets_by : {A : Type 0} {answer : A} {before after : List ℕ} {n : ℕ} {o e : Outcome A} (P : A → Type 0) → Meets answer before after n o → o ≡ e
@@ -186,7 +186,7 @@ module _ (p : PeerMessagePolicy) (s : List ℕ) (h : sound p s ≡ true) (b : By
   admit_leaves size now r t m =
       let turn : Turn Cause = admit p.config p.ingress (rows_of p s) k.bytes size now in
       let holds : TurnHolds p.config turn =
-      admit-holds p.config p.ingress (policy_holds p s h).own.load k.bytes (rows_of p s) key rows_here size now
+      admit_holds p.config p.ingress (policy_holds p s h).own.load k.bytes (rows_of p s) key rows_here size now
       in
       meets_by (λ a. Leaves p s turn.change a.policy t) m (admit_outcome_lem p s h k size now)
       (λ memory. leaves_by turn.ingress turn.change t holds.load holds.rows memory)
@@ -197,7 +197,7 @@ module _ (p : PeerMessagePolicy) (s : List ℕ) (h : sound p s ≡ true) (b : By
   record_invalid_leaves now r t m =
       let turn : Turn InvalidCause = record_invalid p.config p.ingress (rows_of p s) k.bytes now in
       let holds : TurnHolds p.config turn =
-      record-invalid-holds p.config p.ingress (policy_holds p s h).own.load k.bytes (rows_of p s) key rows_here now
+      record_invalid_holds p.config p.ingress (policy_holds p s h).own.load k.bytes (rows_of p s) key rows_here now
       in
       meets_by (λ a. Leaves p s turn.change a.policy t) m (record_invalid_outcome_lem p s h k now)
       (λ memory. leaves_by turn.ingress turn.change t holds.load holds.rows memory)
@@ -211,7 +211,7 @@ module _ (p : PeerMessagePolicy) (s : List ℕ) (h : sound p s ≡ true) (b : By
       let P : PeerMessagePolicy → Type 0 = λ x. Leaves p s change x t in
       meets_by (OfStanding p P) m (is_banned_outcome_lem p s h k now)
       (λ memory.
-      of-standing p P (policy_after p p.ingress change) (is_banned found now)
+      of_standing p P (policy_after p p.ingress change) (is_banned found now)
       (leaves_by p.ingress change t (policy_holds p s h).own.load
       (is_banned_holds p.config k.bytes (rows_of p s) key rows_here now found) memory))
 
@@ -224,7 +224,7 @@ module _ (p : PeerMessagePolicy) (s : List ℕ) (h : sound p s ≡ true) (b : By
       meets_by (OfChanged p (λ q. Leaves p s change q t)) m (on_disconnected_outcome_lem p s h k now)
       (λ memory.
       leaves_by p.ingress change t (policy_holds p s h).own.load
-      (disconnected-holds p.config k.bytes (rows_of p s) key rows_here now found refl) memory)
+      (disconnected_holds p.config k.bytes (rows_of p s) key rows_here now found refl) memory)
 
 -- release_ingress leaves a sound record
 pub release_ingress_record : (p : PeerMessagePolicy) (size : ℕ) → policy_sound p ≡ true
@@ -261,14 +261,14 @@ fresh_by : (c : PeerMessagePolicyConfig) (s t : List ℕ) → c.max_tracked_peer
     → Memory s t (limit c) (become []) → Fresh c s (fresh c) t
 unfolding every ascending rows
 fresh_by c s t tracked long m =
-    let same_length : length t ≡ length s = ap length m.memory ∙ length-laid-keyed (numbers_encode peer_numbers_lem) s (limit c) [] tt long (omega arith) in
+    let same_length : length t ≡ length s = ap length m.memory ∙ length_laid_keyed (numbers_encode peer_numbers_lem) s (limit c) [] tt long (omega arith) in
     let load : ingress_sound c (in_flight 0 0) ≡ true = within_sound c (in_flight 0 0) (λ u. record { messages = omega arith; bytes = omega arith }) in
     let own : RecordHolds (fresh c) = record { tracked = tracked; few = omega arith; load = load } in
     record {
       is_fresh = refl;
       is_sound = holds_policy (fresh c) t (record { own = own; long = omega arith; rules = refl; order = refl });
       same_length = same_length;
-      holds_bytes = λ b. rw m.memory (bytes-laid-keyed (numbers_encode peer_numbers_lem) s (limit c) [] tt b);
+      holds_bytes = λ b. rw m.memory (bytes_laid_keyed (numbers_encode peer_numbers_lem) s (limit c) [] tt b);
     }
 
 -- a limit above 1,024, and memory that is too short, are refused

@@ -26,25 +26,25 @@ module _ (before : List ℕ) {first second : List ℕ} where
   new_one c h k = one_meets h k
 
   module _ (p : PeerMessagePolicy) (k : Pubkey) where
-    pub admit-one : (size now : ℕ) {r q : Admission} → AdmitMeets p before k size now r first
+    pub admit_one : (size now : ℕ) {r q : Admission} → AdmitMeets p before k size now r first
         → AdmitMeets p before k size now q second → (r ≡ q) × (first ≡ second)
     unfolding AdmitMeets
-    admit-one size now m n = one_meets m n
+    admit_one size now m n = one_meets m n
 
-    pub record-invalid-one : (now : ℕ) {r q : Invalid} → RecordInvalidMeets p before k now r first
+    pub record_invalid_one : (now : ℕ) {r q : Invalid} → RecordInvalidMeets p before k now r first
         → RecordInvalidMeets p before k now q second → (r ≡ q) × (first ≡ second)
     unfolding RecordInvalidMeets
-    record-invalid-one now m n = one_meets m n
+    record_invalid_one now m n = one_meets m n
 
-    pub is-banned-one : (now : ℕ) {r q : Standing} → IsBannedMeets p before k now r first → IsBannedMeets p before k now q second
+    pub is_banned_one : (now : ℕ) {r q : Standing} → IsBannedMeets p before k now r first → IsBannedMeets p before k now q second
         → (r ≡ q) × (first ≡ second)
     unfolding IsBannedMeets
-    is-banned-one now m n = one_meets m n
+    is_banned_one now m n = one_meets m n
 
-    pub on-disconnected-one : (now : ℕ) {r q : Changed} → OnDisconnectedMeets p before k now r first
+    pub on_disconnected_one : (now : ℕ) {r q : Changed} → OnDisconnectedMeets p before k now r first
         → OnDisconnectedMeets p before k now q second → (r ≡ q) × (first ≡ second)
     unfolding OnDisconnectedMeets
-    on-disconnected-one now m n = one_meets m n
+    on_disconnected_one now m n = one_meets m n
 
 -- ════ The calls that change no memory ════
 

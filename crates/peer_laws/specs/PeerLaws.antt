@@ -10,7 +10,7 @@ use Rattle.std.proofs.Common.{arith, leb-true, ltb-true}
 use Rattle.truths.specs.TruthLaws.{by_test, both_parts, chosen}
 use Rattle.table.specs.Table.{ascending, look, store, erase}
 use Rattle.table.specs.TableLaws.{Sub, sub_erase, sub_trans}
-use Rattle.table.specs.LookLaws.{look-store-same, look-store-other, sub_look}
+use Rattle.table.specs.LookLaws.{look_store_same, look_store_other, sub_look}
 use Rattle.peer_settings.specs.declared.config.PeerMessagePolicyConfig.{PeerMessagePolicyConfig}
 use Rattle.peer_state.specs.declared.entry.PeerMessagePolicyEntry.{PeerMessagePolicyEntry}
 use Rattle.peer_state.specs.declared.ingress.FiberIngressBudget.{FiberIngressBudget}
@@ -60,9 +60,9 @@ module _ (j k : List ℕ) (rs : Peers) (order : ascending rs ≡ true) (now : �
       let d : ℕ = c.ban_duration_ms in
       let x : PeerMessagePolicyEntry = entry_expire_windows e now d in
       let own : j ≡ k → After j rs (become (store k x rs)) =
-      λ q. rw (q, look-store-same k x rs) (expired e now d l)
+      λ q. rw (q, look_store_same k x rs) (expired e now d l)
       in
-      let other : (j ≡ k → ⊥) → After j rs (become (store k x rs)) = λ q. rw (look-store-other k x j q rs) stayed in
+      let other : (j ≡ k → ⊥) → After j rs (become (store k x rs)) = λ q. rw (look_store_other k x j q rs) stayed in
       chosen (After j rs) (entry_is_banned e now) (λ t. stayed)
       (λ t.
       chosen (After j rs) (entry_is_spent e now) (λ u. sub_fate j (sub_erase k rs) order)
@@ -98,7 +98,7 @@ module _ (j k : List ℕ) (other : j ≡ k → ⊥) (rs : Peers) (order : ascend
       turn_fate i Cause.LiveBan (λ e xs. carried_out i k xs (decide e))
       (λ e xs h.
       chosen (λ (t : Turn Cause). After j rs t.change) (refuses (decide e).cause) (λ o. stayed)
-      (λ o. rw (look-store-other k (decide e).entry j other xs) h))
+      (λ o. rw (look_store_other k (decide e).entry j other xs) h))
       (entry_for_update c now rs k (look k rs)) (update_fate c now (look k rs))
 
   -- record_invalid
@@ -106,7 +106,7 @@ module _ (j k : List ℕ) (other : j ≡ k → ⊥) (rs : Peers) (order : ascend
   unfolding record_invalid
   record_invalid_fate c i now =
       turn_fate i InvalidCause.LiveBan (λ e xs. noted_down i k xs (invalid_decision c e now))
-      (λ e xs h. rw (look-store-other k (invalid_decision c e now).entry j other xs) h)
+      (λ e xs h. rw (look_store_other k (invalid_decision c e now).entry j other xs) h)
       (entry_for_update c now rs k (look k rs)) (update_fate c now (look k rs))
 
 -- ════ The peer's own turns ════
@@ -158,7 +158,7 @@ module _ (k : List ℕ) (rs : Peers) (c : PeerMessagePolicyConfig) (i : FiberIng
       (λ e found ban. live e found ban refl refl)
       (λ e xs lands.
       chosen P (refuses (decide e).cause) (λ o. undone e lands o refl refl)
-      (λ o. carried e lands o refl (look-store-same k (decide e).entry xs)))
+      (λ o. carried e lands o refl (look_store_same k (decide e).entry xs)))
 
   pub own_invalid : (now : ℕ)
       → OwnInvalid c now (look k rs) (look k (changed_rows rs (record_invalid c i rs k now).change)) (record_invalid c i rs k now).cause
@@ -167,7 +167,7 @@ module _ (k : List ℕ) (rs : Peers) (c : PeerMessagePolicyConfig) (i : FiberIng
       turn_ways k rs c i now InvalidCause.LiveBan (λ e xs. noted_down i k xs (invalid_decision c e now))
       (λ t. OwnInvalid c now (look k rs) (look k (changed_rows rs t.change)) t.cause)
       (λ e found ban. barred e found ban refl refl)
-      (λ e xs lands. counted e lands refl (look-store-same k (invalid_decision c e now).entry xs))
+      (λ e xs lands. counted e lands refl (look_store_same k (invalid_decision c e now).entry xs))
 
 -- a ban is not both live and spent
 pub live_not_spent : (e : PeerMessagePolicyEntry) (now : ℕ) → entry_is_banned e now ≡ true → entry_is_spent e now ≡ false

@@ -9,7 +9,7 @@ use Rattle.lent_bytes.specs.LentBytes.{Bytes}
 use Rattle.table.specs.Table.{every, ascending, look, store}
 use Rattle.table.specs.TableLaws.{Sub, sub_erase}
 use Rattle.table.specs.LookLaws.{look_rule}
-use Rattle.table.specs.PlaceLaws.{length-store-some, length-store-none}
+use Rattle.table.specs.PlaceLaws.{length_store_some, length_store_none}
 use Rattle.table_laws.specs.Kept as kept
 use Rattle.table_laws.specs.Kept.{LentHolds, LentKept}
 use Rattle.table_laws.specs.KeptLaws as laws
@@ -160,20 +160,20 @@ module _ (c : PeerMessagePolicyConfig) where
 
   module _ (now : ℕ) (k : List ℕ) (rs : Peers) (key : Key k) (h : RowsHold c rs) where
     -- the same, by what is found
-    for-update-by : (found : Option PeerMessagePolicyEntry) → look k rs ≡ found → UpdateHolds k (entry_for_update c now rs k found)
+    for_update_by : (found : Option PeerMessagePolicyEntry) → look k rs ≡ found → UpdateHolds k (entry_for_update c now rs k found)
     unfolding entry_for_update
-    for-update-by none l =
+    for_update_by none l =
         let left : Peers = make_room c now rs in
         let taken : Sub left rs = sub_make_room c now rs in
         let gone : look k left ≡ none = look_make_room_none c now rs h.order k l in (
           new_sound c now,
           λ x e.
               store_hold peer_layout (peer_sound c) (limit c) k x left key e (sub_hold peer_layout (peer_sound c) (limit c) taken h)
-              (omega (arith, length-store-none k left x gone, room_for_one c now rs h.few)),
+              (omega (arith, length_store_none k left x gone, room_for_one c now rs h.few)),
         )
-    for-update-by (some e) l =
+    for_update_by (some e) l =
         let over : (x : PeerMessagePolicyEntry) → entry_sound c x ≡ true → RowsHold c (store k x rs) =
-        λ x y. store_hold peer_layout (peer_sound c) (limit c) k x rs key y h (omega (arith, length-store-some k rs x l, h.few))
+        λ x y. store_hold peer_layout (peer_sound c) (limit c) k x rs key y h (omega (arith, length_store_some k rs x l, h.few))
         in
         chosen (UpdateHolds k) (entry_is_banned e now) (λ t. tt)
         (λ t.
@@ -181,8 +181,8 @@ module _ (c : PeerMessagePolicyConfig) where
         (λ u. (new_sound c now, λ x y. rw (spent_in_place c now k rs h.few h.order l x) (over x y)))
         (λ u. (look_rule (peer_sound c) k rs h.rules l, over)))
 
-    for-update : UpdateHolds k (entry_for_update c now rs k (look k rs))
-    for-update = for-update-by (look k rs) refl
+    for_update : UpdateHolds k (entry_for_update c now rs k (look k rs))
+    for_update = for_update_by (look k rs) refl
 
   -- what holds of a turn: rows and load
   pub record TurnHolds {C : Type 0} (t : Turn C) : Type 0 where
@@ -198,29 +198,29 @@ module _ (c : PeerMessagePolicyConfig) where
     turn_holds live goOn holds (update e rs) h = holds e rs h
 
     -- a decision that keeps entry and load sound
-    carried-holds : (rs : Peers) (d : Decision) → entry_sound c d.entry ≡ true → ingress_sound c d.ingress ≡ true
+    carried_holds : (rs : Peers) (d : Decision) → entry_sound c d.entry ≡ true → ingress_sound c d.ingress ≡ true
         → ((x : PeerMessagePolicyEntry) → entry_sound c x ≡ true → RowsHold c (store k x rs)) → TurnHolds (carried_out i k rs d)
     unfolding carried_out
-    carried-holds rs d sound-entry load over =
+    carried_holds rs d sound-entry load over =
         chosen (λ (t : Turn Cause). TurnHolds t) (refuses d.cause) (λ o. record { rows = tt; load = within })
         (λ o. record { rows = over d.entry sound-entry; load = load })
 
     module _ (rs : Peers) (key : Key k) (h : RowsHold c rs) where
-      pub admit-holds : (size now : ℕ) → TurnHolds (admit c i rs k size now)
+      pub admit_holds : (size now : ℕ) → TurnHolds (admit c i rs k size now)
       unfolding admit
-      admit-holds size now =
+      admit_holds size now =
           turn_holds Cause.LiveBan (λ e xs. carried_out i k xs (decision c i e size now (try_reserve c i size)))
           (λ e xs u.
-          carried-holds xs (decision c i e size now (try_reserve c i size)) (decision_sound c i e size now (try_reserve c i size) u.0)
+          carried_holds xs (decision c i e size now (try_reserve c i size)) (decision_sound c i e size now (try_reserve c i size) u.0)
           (decision_load c i e size now (try_reserve c i size) (reservation_holds c i size) within) u.1)
-          (entry_for_update c now rs k (look k rs)) (for-update now k rs key h)
+          (entry_for_update c now rs k (look k rs)) (for_update now k rs key h)
 
-      pub record-invalid-holds : (now : ℕ) → TurnHolds (record_invalid c i rs k now)
+      pub record_invalid_holds : (now : ℕ) → TurnHolds (record_invalid c i rs k now)
       unfolding record_invalid
-      record-invalid-holds now =
+      record_invalid_holds now =
           turn_holds InvalidCause.LiveBan (λ e xs. noted_down i k xs (invalid_decision c e now))
           (λ e xs u. record { rows = u.1 (invalid_decision c e now).entry (invalid_decision_sound c e now u.0); load = within })
-          (entry_for_update c now rs k (look k rs)) (for-update now k rs key h)
+          (entry_for_update c now rs k (look k rs)) (for_update now k rs key h)
 
   module _ (k : List ℕ) (rs : Peers) (key : Key k) (h : RowsHold c rs) (now : ℕ) where
     pub is_banned_holds : (found : Option PeerMessagePolicyEntry) → ChangeHolds c (is_banned_change rs k now found)
@@ -228,16 +228,16 @@ module _ (c : PeerMessagePolicyConfig) where
     is_banned_holds none = tt
     is_banned_holds (some e) = chosen (ChangeHolds c) (entry_is_spent e now) (λ t. sub_hold peer_layout (peer_sound c) (limit c) (sub_erase k rs) h) (λ t. tt)
 
-    pub disconnected-holds : (found : Option PeerMessagePolicyEntry) → look k rs ≡ found → ChangeHolds c (disconnected_change c rs k now found)
+    pub disconnected_holds : (found : Option PeerMessagePolicyEntry) → look k rs ≡ found → ChangeHolds c (disconnected_change c rs k now found)
     unfolding disconnected_change
-    disconnected-holds none l = tt
-    disconnected-holds (some e) l =
+    disconnected_holds none l = tt
+    disconnected_holds (some e) l =
         let x : PeerMessagePolicyEntry = entry_expire_windows e now c.ban_duration_ms in
         let y : entry_sound c x ≡ true = expire_sound c e now c.ban_duration_ms (look_rule (peer_sound c) k rs h.rules l) in
         chosen (ChangeHolds c) (entry_is_banned e now) (λ t. tt)
         (λ t.
         chosen (ChangeHolds c) (entry_is_spent e now) (λ u. sub_hold peer_layout (peer_sound c) (limit c) (sub_erase k rs) h)
-        (λ u. store_hold peer_layout (peer_sound c) (limit c) k x rs key y h (omega (arith, length-store-some k rs x l, h.few))))
+        (λ u. store_hold peer_layout (peer_sound c) (limit c) k x rs key y h (omega (arith, length_store_some k rs x l, h.few))))
 
 -- ════ A refusal ════
 

@@ -41,18 +41,18 @@ module _ (p : PeerMessagePolicy) (s : List ℕ) (k : Pubkey) (size now : ℕ) wh
   admit_unsound h = rw h (record { answers = refl; leaves = refl })
 
   module _ (h : sound p s ≡ true) where
-    pub admit-live : (e : PeerMessagePolicyEntry) → look k.bytes (rows_of p s) ≡ some e → entry_is_banned e now ≡ true → AdmitMeets p s k size now (admission_of p Cause.LiveBan) s
+    pub admit_live : (e : PeerMessagePolicyEntry) → look k.bytes (rows_of p s) ≡ some e → entry_is_banned e now ≡ true → AdmitMeets p s k size now (admission_of p Cause.LiveBan) s
     unfolding AdmitMeets admit_outcome admit entry_for_update
-    admit-live e found banned = rw (h, found, banned) (record { answers = refl; leaves = refl })
+    admit_live e found banned = rw (h, found, banned) (record { answers = refl; leaves = refl })
 
     module _ (e : PeerMessagePolicyEntry) (rs : Peers) (u : entry_for_update p.config now (rows_of p s) k.bytes (look k.bytes (rows_of p s)) ≡ update e rs) (d : Decision) (v : d ≡ decision p.config p.ingress e size now (try_reserve p.config p.ingress size)) where
       pub admit_refused : refuses d.cause ≡ true → AdmitMeets p s k size now (admission_of p d.cause) s
       unfolding AdmitMeets admit_outcome admit carried_out
       admit_refused o = rw (h, u, sym v, o) (record { answers = refl; leaves = refl })
 
-      pub admit-carried : refuses d.cause ≡ false → (q : PeerMessagePolicy) (t : List ℕ) → Left p d.ingress s (store k.bytes d.entry rs) q t → AdmitMeets p s k size now (admission_of q d.cause) t
+      pub admit_carried : refuses d.cause ≡ false → (q : PeerMessagePolicy) (t : List ℕ) → Left p d.ingress s (store k.bytes d.entry rs) q t → AdmitMeets p s k size now (admission_of q d.cause) t
       unfolding AdmitMeets admit_outcome admit carried_out
-      admit-carried o q t left =
+      admit_carried o q t left =
           rw (h, u, sym v, o)
           (record { answers = ap (λ (x : PeerMessagePolicy). admission_of x d.cause) left.policy; leaves = left.memory })
 
@@ -64,13 +64,13 @@ module _ (p : PeerMessagePolicy) (s : List ℕ) (k : Pubkey) (now : ℕ) where
   invalid_unsound h = rw h (record { answers = refl; leaves = refl })
 
   module _ (h : sound p s ≡ true) where
-    pub invalid-live : (e : PeerMessagePolicyEntry) → look k.bytes (rows_of p s) ≡ some e → entry_is_banned e now ≡ true → RecordInvalidMeets p s k now (invalid_of p InvalidCause.LiveBan) s
+    pub invalid_live : (e : PeerMessagePolicyEntry) → look k.bytes (rows_of p s) ≡ some e → entry_is_banned e now ≡ true → RecordInvalidMeets p s k now (invalid_of p InvalidCause.LiveBan) s
     unfolding RecordInvalidMeets record_invalid_outcome record_invalid entry_for_update
-    invalid-live e found banned = rw (h, found, banned) (record { answers = refl; leaves = refl })
+    invalid_live e found banned = rw (h, found, banned) (record { answers = refl; leaves = refl })
 
-    pub invalid-carried : (e : PeerMessagePolicyEntry) (rs : Peers) → entry_for_update p.config now (rows_of p s) k.bytes (look k.bytes (rows_of p s)) ≡ update e rs → (d : InvalidDecision) → d ≡ invalid_decision p.config e now → (q : PeerMessagePolicy) (t : List ℕ) → Left p p.ingress s (store k.bytes d.entry rs) q t → RecordInvalidMeets p s k now (invalid_of q d.cause) t
+    pub invalid_carried : (e : PeerMessagePolicyEntry) (rs : Peers) → entry_for_update p.config now (rows_of p s) k.bytes (look k.bytes (rows_of p s)) ≡ update e rs → (d : InvalidDecision) → d ≡ invalid_decision p.config e now → (q : PeerMessagePolicy) (t : List ℕ) → Left p p.ingress s (store k.bytes d.entry rs) q t → RecordInvalidMeets p s k now (invalid_of q d.cause) t
     unfolding RecordInvalidMeets record_invalid_outcome record_invalid
-    invalid-carried e rs u d v q t left =
+    invalid_carried e rs u d v q t left =
         rw (h, u, sym v)
         (record { answers = ap (λ (x : PeerMessagePolicy). invalid_of x d.cause) left.policy; leaves = left.memory })
 
@@ -88,23 +88,23 @@ module _ (p : PeerMessagePolicy) (s : List ℕ) (k : Pubkey) (now : ℕ) where
   standing_unsound h = rw h (record { answers = refl; leaves = refl })
 
   module _ (h : sound p s ≡ true) where
-    pub standing-nobody : look k.bytes (rows_of p s) ≡ none → IsBannedMeets p s k now (Standing.Free p) s
+    pub standing_nobody : look k.bytes (rows_of p s) ≡ none → IsBannedMeets p s k now (Standing.Free p) s
     unfolding IsBannedMeets is_banned_outcome is_banned_change
-    standing-nobody missing = rw (h, missing) (record { answers = refl; leaves = refl })
+    standing_nobody missing = rw (h, missing) (record { answers = refl; leaves = refl })
 
     module _ (e : PeerMessagePolicyEntry) (found : look k.bytes (rows_of p s) ≡ some e) where
-      pub standing-live : entry_is_banned e now ≡ true → IsBannedMeets p s k now (Standing.Banned p) s
+      pub standing_live : entry_is_banned e now ≡ true → IsBannedMeets p s k now (Standing.Banned p) s
       unfolding IsBannedMeets is_banned_outcome is_banned_change
-      standing-live banned =
+      standing_live banned =
           rw (h, found, banned, live_unspent e.ban.mark e.ban.until_ms now banned) (record { answers = refl; leaves = refl })
 
-      pub standing-kept : entry_is_banned e now ≡ false → entry_is_spent e now ≡ false → IsBannedMeets p s k now (Standing.Free p) s
+      pub standing_kept : entry_is_banned e now ≡ false → entry_is_spent e now ≡ false → IsBannedMeets p s k now (Standing.Free p) s
       unfolding IsBannedMeets is_banned_outcome is_banned_change
-      standing-kept free unspent = rw (h, found, free, unspent) (record { answers = refl; leaves = refl })
+      standing_kept free unspent = rw (h, found, free, unspent) (record { answers = refl; leaves = refl })
 
-      pub standing-dropped : entry_is_banned e now ≡ false → entry_is_spent e now ≡ true → (q : PeerMessagePolicy) (t : List ℕ) → Left p p.ingress s (erase k.bytes (rows_of p s)) q t → IsBannedMeets p s k now (Standing.Free q) t
+      pub standing_dropped : entry_is_banned e now ≡ false → entry_is_spent e now ≡ true → (q : PeerMessagePolicy) (t : List ℕ) → Left p p.ingress s (erase k.bytes (rows_of p s)) q t → IsBannedMeets p s k now (Standing.Free q) t
       unfolding IsBannedMeets is_banned_outcome is_banned_change
-      standing-dropped free spent q t left =
+      standing_dropped free spent q t left =
           rw (h, found, free, spent) (record { answers = ap Standing.Free left.policy; leaves = left.memory })
 
 -- ════ on_disconnected ════
@@ -115,23 +115,23 @@ module _ (p : PeerMessagePolicy) (s : List ℕ) (k : Pubkey) (now : ℕ) where
   disconnected_unsound h = rw h (record { answers = refl; leaves = refl })
 
   module _ (h : sound p s ≡ true) where
-    pub disconnected-nobody : look k.bytes (rows_of p s) ≡ none → OnDisconnectedMeets p s k now (Changed.Policy p) s
+    pub disconnected_nobody : look k.bytes (rows_of p s) ≡ none → OnDisconnectedMeets p s k now (Changed.Policy p) s
     unfolding OnDisconnectedMeets on_disconnected_outcome disconnected_change
-    disconnected-nobody missing = rw (h, missing) (record { answers = refl; leaves = refl })
+    disconnected_nobody missing = rw (h, missing) (record { answers = refl; leaves = refl })
 
     module _ (e : PeerMessagePolicyEntry) (found : look k.bytes (rows_of p s) ≡ some e) where
-      pub disconnected-live : entry_is_banned e now ≡ true → OnDisconnectedMeets p s k now (Changed.Policy p) s
+      pub disconnected_live : entry_is_banned e now ≡ true → OnDisconnectedMeets p s k now (Changed.Policy p) s
       unfolding OnDisconnectedMeets on_disconnected_outcome disconnected_change
-      disconnected-live banned = rw (h, found, banned) (record { answers = refl; leaves = refl })
+      disconnected_live banned = rw (h, found, banned) (record { answers = refl; leaves = refl })
 
-      pub disconnected-dropped : entry_is_banned e now ≡ false → entry_is_spent e now ≡ true → (q : PeerMessagePolicy) (t : List ℕ) → Left p p.ingress s (erase k.bytes (rows_of p s)) q t → OnDisconnectedMeets p s k now (Changed.Policy q) t
+      pub disconnected_dropped : entry_is_banned e now ≡ false → entry_is_spent e now ≡ true → (q : PeerMessagePolicy) (t : List ℕ) → Left p p.ingress s (erase k.bytes (rows_of p s)) q t → OnDisconnectedMeets p s k now (Changed.Policy q) t
       unfolding OnDisconnectedMeets on_disconnected_outcome disconnected_change
-      disconnected-dropped free spent q t left =
+      disconnected_dropped free spent q t left =
           rw (h, found, free, spent) (record { answers = ap Changed.Policy left.policy; leaves = left.memory })
 
-      pub disconnected-expired : entry_is_banned e now ≡ false → entry_is_spent e now ≡ false → (q : PeerMessagePolicy) (t : List ℕ) → Left p p.ingress s (store k.bytes (entry_expire_windows e now p.config.ban_duration_ms) (rows_of p s)) q t → OnDisconnectedMeets p s k now (Changed.Policy q) t
+      pub disconnected_expired : entry_is_banned e now ≡ false → entry_is_spent e now ≡ false → (q : PeerMessagePolicy) (t : List ℕ) → Left p p.ingress s (store k.bytes (entry_expire_windows e now p.config.ban_duration_ms) (rows_of p s)) q t → OnDisconnectedMeets p s k now (Changed.Policy q) t
       unfolding OnDisconnectedMeets on_disconnected_outcome disconnected_change
-      disconnected-expired free unspent q t left =
+      disconnected_expired free unspent q t left =
           rw (h, found, free, unspent) (record { answers = ap Changed.Policy left.policy; leaves = left.memory })
 
 -- ════ held_time ════
@@ -142,15 +142,15 @@ module _ (p : PeerMessagePolicy) (s : List ℕ) (k : Pubkey) (given : ℕ) where
   held_unsound h = rw h
 
   module _ (h : sound p s ≡ true) where
-    pub held-nobody : look k.bytes (rows_of p s) ≡ none → HeldTimeMeets p s k given (HeldTime.At given)
+    pub held_nobody : look k.bytes (rows_of p s) ≡ none → HeldTimeMeets p s k given (HeldTime.At given)
     unfolding HeldTimeMeets
-    held-nobody missing = rw (h, missing)
+    held_nobody missing = rw (h, missing)
 
     module _ (e : PeerMessagePolicyEntry) (found : look k.bytes (rows_of p s) ≡ some e) where
       pub held_later : given ≤ e.last_used_ms → HeldTimeMeets p s k given (HeldTime.At e.last_used_ms)
       unfolding HeldTimeMeets
       held_later l = rw (h, found) (ap HeldTime.At (sym (max-eq_right l)))
 
-      pub held-given : e.last_used_ms ≤ given → HeldTimeMeets p s k given (HeldTime.At given)
+      pub held_given : e.last_used_ms ≤ given → HeldTimeMeets p s k given (HeldTime.At given)
       unfolding HeldTimeMeets
-      held-given l = rw (h, found) (ap HeldTime.At (sym (max-eq_left l)))
+      held_given l = rw (h, found) (ap HeldTime.At (sym (max-eq_left l)))

@@ -136,12 +136,12 @@ module _ (c : PeerMessagePolicyConfig) (s : List ℕ) where
   new_large h = rw (lt-ltb 1024 c.max_tracked_peers h) (record { answers = refl; leaves = refl })
 
   module _ (h : c.max_tracked_peers ≤ 1024) where
-    pub new-short : length s / row_width < limit c → NewMeets c s (Made.Refused too_short) s
+    pub new_short : length s / row_width < limit c → NewMeets c s (Made.Refused too_short) s
     unfolding NewMeets new_outcome
-    new-short l = rw (le-ltb 1024 c.max_tracked_peers h, too_short_lem peer_layout (limit c) s (omega arith) l) (record { answers = refl; leaves = refl })
+    new_short l = rw (le-ltb 1024 c.max_tracked_peers h, too_short_lem peer_layout (limit c) s (omega arith) l) (record { answers = refl; leaves = refl })
 
-    pub new-made : limit c ≤ length s / row_width → (t : List ℕ) → t ≡ put s 0 (zeros (row_width * limit c)) → NewMeets c s (Made.Policy (fresh c)) t
+    pub new_made : limit c ≤ length s / row_width → (t : List ℕ) → t ≡ put s 0 (zeros (row_width * limit c)) → NewMeets c s (Made.Policy (fresh c)) t
     unfolding NewMeets new_outcome
-    new-made l t e =
+    new_made l t e =
         rw (le-ltb 1024 c.max_tracked_peers h, long_enough_lem peer_layout (limit c) s (omega arith) l)
         (record { answers = refl; leaves = holds peer_faithful s t (limit c) [] tt (e ∙ put_clear peer_faithful s (limit c)) })

@@ -23,7 +23,7 @@ use Rattle.peer_message_policy.specs.declared.policy.PeerMessagePolicy.{PeerMess
 use Rattle.peer_message_policy.specs.Policy.{rows_of, update, entry_for_update}
 use Rattle.peer_message_policy.specs.Private.{Found, Left, entry_found}
 use Rattle.peer_message_policy.specs.UpdateLaws.{spent_in_place}
-use Rattle.peer_message_policy.proofs.Judged.{few_read, in_order, known_look, known-sound, unknown_look, new_on_sound}
+use Rattle.peer_message_policy.proofs.Judged.{few_read, in_order, known_look, known_sound, unknown_look, new_on_sound}
 
 -- a call goes on with this entry, and what it stores is stored as among these rows
 pub record GoesOn (c : PeerMessagePolicyConfig) (now : ℕ) (rs : Peers) (k : List ℕ) (room : Peers) (x : PeerMessagePolicyEntry) : Type 0 where
@@ -67,7 +67,7 @@ module _ (p : PeerMessagePolicy) (s k : List ℕ) (now : ℕ) where
   -- what is met keeps its rules
   pub found_sound : (f : Seek) → Found p s k f → (e : PeerMessagePolicyEntry) → e ≡ entry_found p.config now s f → entry_sound p.config e ≡ true
   unfolding entry_found
-  found_sound (At i) h e met = known-sound p s k i h e met
+  found_sound (At i) h e met = known_sound p s k i h e met
   found_sound (Gap i) h e met = new_on_sound p.config now e met
   found_sound Unsound h e met = absurd (place_is_sound 0 k (rows_of p s) h.place)
 

@@ -17,9 +17,9 @@ use Rattle.table.specs.declared.seek.Seek.{Seek}
 use Rattle.table.specs.declared.seek.Seek.TheVariants.{Unsound, At, Gap}
 use Rattle.table.specs.contracts.seek.Seek.{the_type as seek-type}
 use Rattle.table.specs.Table.{ascending, look}
-use Rattle.table.specs.PlaceLaws.{gap-look}
+use Rattle.table.specs.PlaceLaws.{gap_look}
 use Rattle.table.specs.MemoryLaws.{length_rows}
-use Rattle.table_laws.specs.Lent.{lentSound}
+use Rattle.table_laws.specs.Lent.{lent_sound}
 use Rattle.table_laws.specs.Private as lent
 use Rattle.table_laws.specs.LentLaws as laws
 use Rattle.peer_settings.specs.declared.config.PeerMessagePolicyConfig.{PeerMessagePolicyConfig}
@@ -45,8 +45,8 @@ within_limit p h =
     leb-true p.rows (limit p.config) (both_parts (leb p.rows (limit p.config)) _ first.1).0
 
 -- soundness says what it says of a lent table
-sound_lent : (p : PeerMessagePolicy) (s : List ℕ) → sound p s ≡ lentSound peer_layout (peer_sound p.config) (policy_sound p) (limit p.config) s p.rows
-unfolding sound lentSound
+sound_lent : (p : PeerMessagePolicy) (s : List ℕ) → sound p s ≡ lent_sound peer_layout (peer_sound p.config) (policy_sound p) (limit p.config) s p.rows
+unfolding sound lent_sound
 sound_lent p s = refl
 
 -- ════ What the walk answers ════
@@ -81,13 +81,13 @@ module _ (p : PeerMessagePolicy) (s k : List ℕ) where
 -- ════ What soundness says ════
 
 module _ (p : PeerMessagePolicy) (s : List ℕ) (h : sound p s ≡ true) where
-  as_lent : lentSound peer_layout (peer_sound p.config) (policy_sound p) (limit p.config) s p.rows ≡ true
+  as_lent : lent_sound peer_layout (peer_sound p.config) (policy_sound p) (limit p.config) s p.rows ≡ true
   as_lent = sym (sound_lent p s) ∙ h
 
   -- no more rows than the limit
   pub few_rows : p.rows ≤ limit p.config
   few_rows =
-      within_limit p (laws.own-sound peer_layout (peer_sound p.config) (policy_sound p) (limit p.config) s p.rows as_lent)
+      within_limit p (laws.own_sound_lem peer_layout (peer_sound p.config) (policy_sound p) (limit p.config) s p.rows as_lent)
 
   -- the memory has room for the limit
   pub limit_fits : row_width * limit p.config ≤ length s
@@ -103,7 +103,7 @@ module _ (p : PeerMessagePolicy) (s : List ℕ) (h : sound p s ≡ true) where
 
   -- the keys ascend
   pub in_order : ascending (rows_of p s) ≡ true
-  in_order = laws.order-kept peer_layout (peer_sound p.config) (policy_sound p) (limit p.config) s p.rows as_lent
+  in_order = laws.order_kept peer_layout (peer_sound p.config) (policy_sound p) (limit p.config) s p.rows as_lent
 
 -- ════ A peer that has a row ════
 
@@ -126,15 +126,15 @@ module _ (p : PeerMessagePolicy) (s k : List ℕ) (i : ℕ) (h : Known p s k i) 
         laws.known_look peer_layout (peer_sound p.config) (policy_sound p) (limit p.config) s p.rows k i known_lent e read
 
     -- and keeps its rules
-    pub known-sound : entry_sound p.config e ≡ true
-    known-sound =
+    pub known_sound : entry_sound p.config e ≡ true
+    known_sound =
         ap (entry_sound p.config) read
-        ∙ laws.known-rule peer_layout (peer_sound p.config) (policy_sound p) (limit p.config) s p.rows k i known_lent
+        ∙ laws.known_rule peer_layout (peer_sound p.config) (policy_sound p) (limit p.config) s p.rows k i known_lent
 
 -- ════ A peer that has none ════
 
 pub unknown_look : (p : PeerMessagePolicy) (s k : List ℕ) (i : ℕ) → Unknown p s k i → look k (rows_of p s) ≡ none
-unknown_look p s k i h = gap-look k (rows_of p s) h.place
+unknown_look p s k i h = gap_look k (rows_of p s) h.place
 
 -- ════ What is judged on ════
 

@@ -4,7 +4,7 @@ use Rattle.std.specs.Prelude.{◌≡◌, true, List, ℕ, ◌≤◌, length}
 use Rattle.std.proofs.Common.{ap, ◌∙◌, arith}
 use Rattle.std.proofs.Math.Option.{some}
 use Rattle.table.specs.Table.{ascending, look, store, erase}
-use Rattle.table.specs.PlaceLaws.{length-erase-some}
+use Rattle.table.specs.PlaceLaws.{length_erase_some}
 use Rattle.table_laws.specs.StoreLaws.{store_erase}
 use Rattle.peer_settings.specs.declared.config.PeerMessagePolicyConfig.{PeerMessagePolicyConfig}
 use Rattle.peer_state.specs.declared.entry.PeerMessagePolicyEntry.{PeerMessagePolicyEntry}
@@ -16,7 +16,7 @@ use Rattle.peer_table.specs.RoomLaws.{room_free}
 -- the drop leaves room, so that nothing else goes
 dropped_room : (c : PeerMessagePolicyConfig) (now : ℕ) (k : List ℕ) (rs : Peers) {e : PeerMessagePolicyEntry} → length rs ≤ limit c
     → look k rs ≡ some e → make_room c now (erase k rs) ≡ erase k rs
-dropped_room c now k rs few found = room_free c now (erase k rs) (omega (arith, length-erase-some k rs found, few))
+dropped_room c now k rs few found = room_free c now (erase k rs) (omega (arith, length_erase_some k rs found, few))
 
 pub spent_in_place : (c : PeerMessagePolicyConfig) (now : ℕ) (k : List ℕ) (rs : Peers) {e : PeerMessagePolicyEntry} → length rs ≤ limit c
     → ascending rs ≡ true → look k rs ≡ some e → (x : PeerMessagePolicyEntry) → store k x (make_room c now (erase k rs)) ≡ store k x rs

@@ -6,21 +6,21 @@ use super::policy::PeerMessagePolicy;
 use peer_verdict::verdict::{Cause, InvalidCause};
 
 // A policy was made.
-#[derive(Drop)]
+#[derive(Clone, Copy)]
 pub enum Made {
     Policy(PeerMessagePolicy),
     Refused(u32),
 }
 
 // Why a message is admitted or not; after a refusal the policy is as it was.
-#[derive(Drop)]
+#[derive(Clone, Copy)]
 pub struct Admission {
     pub cause: Cause,
     pub policy: PeerMessagePolicy,
 }
 
 // The Rust's three answers, or a refusal.
-#[derive(Drop)]
+#[derive(Clone, Copy)]
 pub enum PeerMessageAdmission {
     Allow(PeerMessagePolicy),
     Disconnect(PeerMessagePolicy),
@@ -46,14 +46,14 @@ impl Admission {
 }
 
 // Why the sender of an invalid message is banned or not; after a refusal the policy is as it was.
-#[derive(Drop)]
+#[derive(Clone, Copy)]
 pub struct Invalid {
     pub cause: InvalidCause,
     pub policy: PeerMessagePolicy,
 }
 
 // Whether a peer is banned.
-#[derive(Drop)]
+#[derive(Clone, Copy)]
 pub enum Standing {
     Banned(PeerMessagePolicy),
     Free(PeerMessagePolicy),
@@ -61,21 +61,21 @@ pub enum Standing {
 }
 
 // A call that only changes the policy.
-#[derive(Drop)]
+#[derive(Clone, Copy)]
 pub enum Changed {
     Policy(PeerMessagePolicy),
     Refused(u32),
 }
 
 // The numbers in flight.
-#[derive(Drop)]
+#[derive(Clone, Copy)]
 pub enum InFlight {
     Numbers(u32, u64),
     Refused(u32),
 }
 
 // The time to pass on.
-#[derive(Drop)]
+#[derive(Clone, Copy)]
 pub enum HeldTime {
     At(u64),
     Refused(u32),

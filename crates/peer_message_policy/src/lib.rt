@@ -3,6 +3,8 @@
 //
 // The policy goes by value and comes back in the answer; its rows stand in bytes that the caller lends. Every call takes any
 // arguments over any lent memory. One on an unsound policy or table is refused with 3, and a refused call changes no byte.
+#![tactic(auto)]
+
 pub mod answer;
 mod calls;
 mod carry;

@@ -14,7 +14,7 @@ use pubkey::{PUBKEY_SIZE, Pubkey};
 use table::seek::Seek;
 
 // Settings, the load in flight over all peers, and how many rows of the lent memory are in use.
-#[derive(Drop)]
+#[derive(Clone, Copy)]
 pub struct PeerMessagePolicy {
     pub config: PeerMessagePolicyConfig,
     pub ingress: FiberIngressBudget,

@@ -20,7 +20,7 @@ use Rattle.peer_laws.specs.CallLaws.{
 }
 use Rattle.peer_runs.specs.Runs.{Call, admit, record_invalid, is_banned, on_disconnected, release_ingress, in_flight, held_time, State, rows_in}
 use Rattle.peer_runs.specs.Runs.{after_standing, after_changed, Step, KeyFits, CallFits}
-use Rattle.peer_runs.specs.SoundRunLaws.{StateLeaves, StateHolds, admit-left, record-invalid-left, is-banned-left, on-disconnected-left, release_ingress_left, same_left}
+use Rattle.peer_runs.specs.SoundRunLaws.{StateLeaves, StateHolds, admit_left, record_invalid_left, is_banned_left, on_disconnected_left, release_ingress_left, same_left}
 use Rattle.peer_runs.specs.Effects.{effect_by, effect_of, CameTo}
 
 -- an answer that met an outcome has the outcome's effect
@@ -43,29 +43,29 @@ module _ (s : State) (is_sound : sound s.policy s.memory ≡ true) (holds_bytes 
   Comes call = CameTo s (effect_of call s.policy (rows_in s)) said t
 
   module _ (k : Pubkey) (key : KeyFits k) where
-    admit-effect : (bytes now : ℕ) → Step s (admit k bytes now) said t → Comes (admit k bytes now)
+    admit_effect : (bytes now : ℕ) → Step s (admit k bytes now) said t → Comes (admit k bytes now)
     unfolding AdmitMeets
-    admit-effect bytes now step =
+    admit_effect bytes now step =
         met_effect admission_says (λ q a. a.policy) s said t step.1 (admit_outcome_lem s.policy s.memory is_sound k bytes now) step.2 step.3
-        (admit-left s here said t k key bytes now step)
+        (admit_left s here said t k key bytes now step)
 
-    record-invalid-effect : (now : ℕ) → Step s (record_invalid k now) said t → Comes (record_invalid k now)
+    record_invalid_effect : (now : ℕ) → Step s (record_invalid k now) said t → Comes (record_invalid k now)
     unfolding RecordInvalidMeets
-    record-invalid-effect now step =
+    record_invalid_effect now step =
         met_effect invalid_says (λ q a. a.policy) s said t step.1 (record_invalid_outcome_lem s.policy s.memory is_sound k now) step.2 step.3
-        (record-invalid-left s here said t k key now step)
+        (record_invalid_left s here said t k key now step)
 
-    is-banned-effect : (now : ℕ) → Step s (is_banned k now) said t → Comes (is_banned k now)
+    is_banned_effect : (now : ℕ) → Step s (is_banned k now) said t → Comes (is_banned k now)
     unfolding IsBannedMeets
-    is-banned-effect now step =
+    is_banned_effect now step =
         met_effect standing_says after_standing s said t step.1 (is_banned_outcome_lem s.policy s.memory is_sound k now) step.2 step.3
-        (is-banned-left s here said t k key now step)
+        (is_banned_left s here said t k key now step)
 
-    on-disconnected-effect : (now : ℕ) → Step s (on_disconnected k now) said t → Comes (on_disconnected k now)
+    on_disconnected_effect : (now : ℕ) → Step s (on_disconnected k now) said t → Comes (on_disconnected k now)
     unfolding OnDisconnectedMeets
-    on-disconnected-effect now step =
+    on_disconnected_effect now step =
         met_effect changed_says after_changed s said t step.1 (on_disconnected_outcome_lem s.policy s.memory is_sound k now) step.2 step.3
-        (on-disconnected-left s here said t k key now step)
+        (on_disconnected_left s here said t k key now step)
 
   release_ingress_effect : (bytes : ℕ) → Step s (release_ingress bytes) said t → Comes (release_ingress bytes)
   release_ingress_effect bytes step =
@@ -94,10 +94,10 @@ module _ (s : State) (is_sound : sound s.policy s.memory ≡ true) (holds_bytes 
 
   -- every call comes to its effect
   pub step_effect : (call : Call) → CallFits call → Step s call said t → CameTo s (effect_of call s.policy (rows_in s)) said t
-  step_effect (admit k bytes now) fits step = admit-effect k fits.0 bytes now step
-  step_effect (record_invalid k now) fits step = record-invalid-effect k fits.0 now step
-  step_effect (is_banned k now) fits step = is-banned-effect k fits.0 now step
-  step_effect (on_disconnected k now) fits step = on-disconnected-effect k fits.0 now step
+  step_effect (admit k bytes now) fits step = admit_effect k fits.0 bytes now step
+  step_effect (record_invalid k now) fits step = record_invalid_effect k fits.0 now step
+  step_effect (is_banned k now) fits step = is_banned_effect k fits.0 now step
+  step_effect (on_disconnected k now) fits step = on_disconnected_effect k fits.0 now step
   step_effect (release_ingress bytes) fits step = release_ingress_effect bytes step
   step_effect in_flight fits step = in_flight_effect step
   step_effect (held_time k given) fits step = held_time_effect k given step

@@ -74,25 +74,25 @@ module _ {c : PeerMessagePolicyConfig} (s : State) (here : StateHolds c s) (said
   Left change after q = Leaves s.policy s.memory change q after
 
   module _ (k : Pubkey) (key : KeyFits k) where
-    pub admit-left : (size now : ℕ) → Step s (admit k size now) said t
+    pub admit_left : (size now : ℕ) → Step s (admit k size now) said t
         → StateLeaves s (Policy.admit s.policy.config s.policy.ingress (rows_in s) k.bytes size now).change t
-    admit-left size now step =
+    admit_left size now step =
         rw step.3 (admit_leaves s.policy s.memory here.is_sound here.holds_bytes k key size now step.0 t.memory step.1)
 
-    pub record-invalid-left : (now : ℕ) → Step s (record_invalid k now) said t
+    pub record_invalid_left : (now : ℕ) → Step s (record_invalid k now) said t
         → StateLeaves s (Policy.record_invalid s.policy.config s.policy.ingress (rows_in s) k.bytes now).change t
-    record-invalid-left now step =
+    record_invalid_left now step =
         rw step.3 (record_invalid_leaves s.policy s.memory here.is_sound here.holds_bytes k key now step.0 t.memory step.1)
 
-    pub is-banned-left : (now : ℕ) → Step s (is_banned k now) said t
+    pub is_banned_left : (now : ℕ) → Step s (is_banned k now) said t
         → StateLeaves s (Policy.is_banned_change (rows_in s) k.bytes now (look k.bytes (rows_in s))) t
-    is-banned-left now step =
+    is_banned_left now step =
         rw step.3 (after_standing_lem s.policy (Left _ t.memory) step.0
         (is_banned_leaves s.policy s.memory here.is_sound here.holds_bytes k key now step.0 t.memory step.1))
 
-    pub on-disconnected-left : (now : ℕ) → Step s (on_disconnected k now) said t
+    pub on_disconnected_left : (now : ℕ) → Step s (on_disconnected k now) said t
         → StateLeaves s (Policy.disconnected_change s.policy.config (rows_in s) k.bytes now (look k.bytes (rows_in s))) t
-    on-disconnected-left now step =
+    on_disconnected_left now step =
         rw step.3 (after_changed_lem s.policy (Left _ t.memory) step.0
         (on_disconnected_leaves s.policy s.memory here.is_sound here.holds_bytes k key now step.0 t.memory step.1))
 
@@ -119,10 +119,10 @@ module _ {c : PeerMessagePolicyConfig} (s : State) (here : StateHolds c s) (said
       }
 
   pub step_holds : (call : Call) → CallFits call → Step s call said t → StateHolds c t
-  step_holds (admit k size now) fits step = next_holds (admit-left k fits.0 size now step)
-  step_holds (record_invalid k now) fits step = next_holds (record-invalid-left k fits.0 now step)
-  step_holds (is_banned k now) fits step = next_holds (is-banned-left k fits.0 now step)
-  step_holds (on_disconnected k now) fits step = next_holds (on-disconnected-left k fits.0 now step)
+  step_holds (admit k size now) fits step = next_holds (admit_left k fits.0 size now step)
+  step_holds (record_invalid k now) fits step = next_holds (record_invalid_left k fits.0 now step)
+  step_holds (is_banned k now) fits step = next_holds (is_banned_left k fits.0 now step)
+  step_holds (on_disconnected k now) fits step = next_holds (on_disconnected_left k fits.0 now step)
   step_holds (release_ingress size) fits step = next_holds (release_ingress_left size step)
   step_holds in_flight fits step = next_holds (same_left step.3)
   step_holds (held_time k given) fits step = next_holds (same_left step.3)

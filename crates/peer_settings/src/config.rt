@@ -4,7 +4,7 @@ ghost use Rattle.peer_settings.specs.Config.{config_default, config_with_limits,
 ghost use Rattle.peer_settings.specs.Config.{unlimited, limit};
 
 // The nine settings, in the Rust's order.
-#[derive(Drop)]
+#[derive(Clone, Copy)]
 pub struct PeerMessagePolicyConfig {
     // Refill interval of the per-peer message bucket, in milliseconds.
     pub peer_message_interval_ms: u64,

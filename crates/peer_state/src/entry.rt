@@ -10,27 +10,27 @@ use super::saturating::{saturating_add, saturating_sub};
 use peer_settings::config::PeerMessagePolicyConfig;
 
 // What a bucket holds; its settings are the policy's.
-#[derive(Drop)]
+#[derive(Clone, Copy)]
 pub struct Level {
     pub available: u64,
     pub last_refill_ms: u64,
 }
 
 // How many violations since when.
-#[derive(Drop)]
+#[derive(Clone, Copy)]
 pub struct ViolationWindow {
     pub count: u64,
     pub started_at_ms: u64,
 }
 
 // The Rust's `banned_until_ms: Option<u64>`: a mark, 1 where there is a ban, beside its end.
-#[derive(Drop)]
+#[derive(Clone, Copy)]
 pub struct Ban {
     pub mark: u64,
     pub until_ms: u64,
 }
 
-#[derive(Drop)]
+#[derive(Clone, Copy)]
 pub struct PeerMessagePolicyEntry {
     pub messages: Level,
     pub bytes: Level,

@@ -5,14 +5,14 @@ ghost use Rattle.peer_state.specs.Ingress.{try_reserve, ingress_reserved, ingres
 use super::saturating::saturating_sub;
 use peer_settings::config::PeerMessagePolicyConfig;
 
-#[derive(Drop)]
+#[derive(Clone, Copy)]
 pub struct FiberIngressBudget {
     pub in_flight_messages: u32,
     pub in_flight_bytes: u64,
 }
 
 // What the ceiling says to one message more.
-#[derive(Drop)]
+#[derive(Clone, Copy)]
 pub enum Reservation {
     Reserved(FiberIngressBudget),
     NoSlot,

@@ -7,7 +7,7 @@ use Rattle.table.specs.Table.{Row, nothing, best, minimum_from, ascending, look,
 use Rattle.table.specs.TableLaws.{Sub, sub_all, sub_length, sub_remove_at}
 use Rattle.table.specs.LookLaws.{some_is_not_none, sub_look_none}
 use Rattle.table.specs.RetainLaws.{length_retain}
-use Rattle.table.specs.MinimumLaws.{least-found, least-nothing}
+use Rattle.table.specs.MinimumLaws.{least_found, least_nothing}
 use Rattle.table.specs.PlaceLaws.{length_remove_at}
 use Rattle.table_laws.specs.RoomLaws as room
 use Rattle.table_laws.specs.RoomLaws.{by_best}
@@ -44,11 +44,11 @@ module _ (rs : Peers) where
 
 -- every row is an ordinary one or a banned one
 ordinary_or_banned : (r : Row PeerMessagePolicyEntry) → ordinary_lru r ≡ none → banned_expirations r ≡ none → ⊥
-ordinary_or_banned r h k = by-mark (eqb r.entry.ban.mark 1) h k
+ordinary_or_banned r h k = by_mark (eqb r.entry.ban.mark 1) h k
   where
-    by-mark : (b : Bool) → ◌≡◌ {A = Option ℕ} (cond b none (some r.entry.last_used_ms)) none → ◌≡◌ {A = Option ℕ} (cond b (some r.entry.ban.until_ms) none) none → ⊥
-    by-mark true h k = some_is_not_none refl k
-    by-mark false h k = some_is_not_none refl h
+    by_mark : (b : Bool) → ◌≡◌ {A = Option ℕ} (cond b none (some r.entry.last_used_ms)) none → ◌≡◌ {A = Option ℕ} (cond b (some r.entry.ban.until_ms) none) none → ⊥
+    by_mark true h k = some_is_not_none refl k
+    by_mark false h k = some_is_not_none refl h
 
 -- of rows that there are one goes, since each is an ordinary one or a banned one
 pub length_evict : (rs : Peers) → 0 < length rs → length (evict rs) + 1 ≡ length rs
@@ -56,9 +56,9 @@ length_evict [] h = absurd (omega arith)
 length_evict (r ∷ rs) h =
     by_best (minimum_from ordinary_lru nothing 0 (r ∷ rs))
     (λ e. by_best (minimum_from banned_expirations nothing 0 (r ∷ rs))
-    (λ f. absurd (ordinary_or_banned r (least-nothing ordinary_lru (r ∷ rs) r e 0 h) (least-nothing banned_expirations (r ∷ rs) r f 0 h)))
-    (λ j n f. rw (evict_banned (r ∷ rs) e f) (length_remove_at j (r ∷ rs) (least-found banned_expirations (r ∷ rs) r f).inside)))
-    (λ j n e. rw (evict_ordinary (r ∷ rs) e) (length_remove_at j (r ∷ rs) (least-found ordinary_lru (r ∷ rs) r e).inside))
+    (λ f. absurd (ordinary_or_banned r (least_nothing ordinary_lru (r ∷ rs) r e 0 h) (least_nothing banned_expirations (r ∷ rs) r f 0 h)))
+    (λ j n f. rw (evict_banned (r ∷ rs) e f) (length_remove_at j (r ∷ rs) (least_found banned_expirations (r ∷ rs) r f).inside)))
+    (λ j n e. rw (evict_ordinary (r ∷ rs) e) (length_remove_at j (r ∷ rs) (least_found ordinary_lru (r ∷ rs) r e).inside))
 
 -- at most one row is taken out
 pub sub_evict : (rs : Peers) → Sub (evict rs) rs

@@ -10,14 +10,14 @@ use lent_bytes::number::get_u64;
 use peer_rows::row::{BAN_PLACE, LAST_USED_PLACE, ROW_WIDTH};
 
 // Nothing, or the row's index and the time that it was chosen by.
-#[derive(Drop)]
+#[derive(Clone, Copy)]
 pub enum First {
     Nothing,
     At(usize, u64),
 }
 
 // The time by which a row takes part in a search, if it does.
-#[derive(Drop)]
+#[derive(Clone, Copy)]
 pub enum Measure {
     Absent,
     Present(u64),

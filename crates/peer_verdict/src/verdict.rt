@@ -15,7 +15,7 @@ use token_bucket::discrete::{DiscreteConsumed, DiscreteTokenBucket};
 
 // Which limit ran short, in the order in which they decide: the message bucket by one message, the byte bucket by bytes beyond
 // what is left in it, the ceiling by one slot or by bytes beyond what is left under it.
-#[derive(Drop)]
+#[derive(Clone, Copy)]
 pub enum Shortage {
     Messages,
     Bytes(u64),
@@ -25,7 +25,7 @@ pub enum Shortage {
 
 // Why a message is admitted or not: a limit ran short, its sender is banned, since an earlier call or from now on, or the call is
 // refused with this number.
-#[derive(Drop)]
+#[derive(Clone, Copy)]
 pub enum Cause {
     Allowed,
     Short(Shortage),
@@ -35,7 +35,7 @@ pub enum Cause {
 }
 
 // Why the sender of an invalid message is banned or not.
-#[derive(Drop)]
+#[derive(Clone, Copy)]
 pub enum InvalidCause {
     Noted,
     LiveBan,
@@ -44,7 +44,7 @@ pub enum InvalidCause {
 }
 
 // The cause, the entry as it is to be stored, and the load in flight.
-#[derive(Drop)]
+#[derive(Clone, Copy)]
 pub struct Decision {
     pub cause: Cause,
     pub entry: PeerMessagePolicyEntry,
@@ -52,7 +52,7 @@ pub struct Decision {
 }
 
 // Of an invalid message: the cause, and the entry as it is to be stored. It leaves the load in flight.
-#[derive(Drop)]
+#[derive(Clone, Copy)]
 pub struct InvalidDecision {
     pub cause: InvalidCause,
     pub entry: PeerMessagePolicyEntry,

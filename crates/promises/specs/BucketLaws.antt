@@ -186,25 +186,25 @@ module _ (b : Terms) (left rest : ℕ) (z : Allow) (rest' gain : ℕ) where
       (omega (arith, backed most (n + 1) (t + b.charge z) w.1, mul-add b.loss n 1, mul-one b.loss))
 
   module _ (log : List Allow) (backed : Backed b left rest log) (turn : NotLess b log z.time rest rest' gain) where
-    backed-refilled : (most n t : ℕ) → WithinParts b most n t (z ∷ log)
+    backed_refilled : (most n t : ℕ) → WithinParts b most n t (z ∷ log)
         → Covered b (topped b left gain) rest' z.time most n (t + b.charge z)
-    backed-refilled =
+    backed_refilled =
         by_test (leb b.capacity (left + gain))
         (λ t. backed_full log (leb-true b.capacity (left + gain) t))
         (λ t. backed_more log (leb-false b.capacity (left + gain) t) backed turn)
 
     -- a refill, and an Allow that is charged
-    pub backed-next : b.charge z ≤ topped b left gain → Backed b (topped b left gain - b.charge z) rest' (z ∷ log)
-    backed-next enough = λ most n t w.
+    pub backed_next : b.charge z ≤ topped b left gain → Backed b (topped b left gain - b.charge z) rest' (z ∷ log)
+    backed_next enough = λ most n t w.
         rw (mul-sub b.parts (topped b left gain) (b.charge z))
-        (omega (arith, backed-refilled most n t w, mul-add b.parts t (b.charge z), mul-le-mul_left b.parts enough))
+        (omega (arith, backed_refilled most n t w, mul-add b.parts t (b.charge z), mul-le-mul_left b.parts enough))
 
     -- a call within the smaller allowance finds enough
-    pub backed-enough : rest' < b.parts → WithinParts b (b.parts * b.capacity + b.speed * z.time) 0 0 (z ∷ log) → b.charge z ≤ topped b left gain
-    backed-enough small w =
+    pub backed_enough : rest' < b.parts → WithinParts b (b.parts * b.capacity + b.speed * z.time) 0 0 (z ∷ log) → b.charge z ≤ topped b left gain
+    backed_enough small w =
         le_of_suc-le-suc (lt_of_mul-lt-mul_left b.parts {m = b.charge z} {n = suc (topped b left gain)}
         (rw (mul-suc b.parts (topped b left gain))
-        (omega (arith, backed-refilled (b.parts * b.capacity + b.speed * z.time) 0 0 w, mul-zero b.loss, mul-add b.parts 0 (b.charge z)))))
+        (omega (arith, backed_refilled (b.parts * b.capacity + b.speed * z.time) 0 0 w, mul-zero b.loss, mul-add b.parts 0 (b.charge z)))))
 
 -- the smaller allowance, in parts: tokens are a measure of so many Allows with so many bytes
 module _ (b : Terms) (c : PeerMessagePolicyConfig) (now most : ℕ) (tokens : ℕ → ℕ → ℕ)

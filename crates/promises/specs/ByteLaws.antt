@@ -20,7 +20,7 @@ use Rattle.peer_settings.specs.Fits.{ConfigFits}
 use Rattle.peer_state.specs.Entry.{level}
 use Rattle.peer_verdict.specs.Verdict.{passes, byte_bucket, bytes_left, take_bytes}
 use Rattle.promises.specs.Lives.{Allow, bytes_allowed}
-use Rattle.promises.specs.BucketLaws.{newest, InOrder, charged, Terms, Bounded, bounded_new, bounded_next, NotMore, NotLess, WithinParts, Backed, backed-next, backed-enough}
+use Rattle.promises.specs.BucketLaws.{newest, InOrder, charged, Terms, Bounded, bounded_new, bounded_next, NotMore, NotLess, WithinParts, Backed, backed_next, backed_enough}
 
 -- ════ What a take gives, where the limit is on ════
 
@@ -120,11 +120,11 @@ module _ (c : PeerMessagePolicyConfig) (config : ConfigFits c) (on : byte_disabl
   turn_more = rw fair.last (not_more c.peer_message_rate_bytes_per_sec (newest log) z.time later)
 
   turn_less : NotLess (byte_terms c) log z.time 0 0 (gained c b z.time)
-  turn_less = rw fair.last (by-log log)
+  turn_less = rw fair.last (by_log log)
     where
-      by-log : (l : List Allow) → NotLess (byte_terms c) l z.time 0 0 ((z.time - newest l) * c.peer_message_rate_bytes_per_sec / 1000)
-      by-log [] = tt
-      by-log (y ∷ l) = not_less c.peer_message_rate_bytes_per_sec y.time z.time
+      by_log : (l : List Allow) → NotLess (byte_terms c) l z.time 0 0 ((z.time - newest l) * c.peer_message_rate_bytes_per_sec / 1000)
+      by_log [] = tt
+      by_log (y ∷ l) = not_less c.peer_message_rate_bytes_per_sec y.time z.time
 
   -- an Allow
   pub bytes_next : passes (take_bytes c b z.size z.time).answer ≡ true → FairBytes c (bytes_left (take_bytes c b z.size z.time).bucket) (z ∷ log)
@@ -134,13 +134,13 @@ module _ (c : PeerMessagePolicyConfig) (config : ConfigFits c) (on : byte_disabl
       (record {
         last = refl;
         bounded = bounded_next (byte_terms c) b.available 0 log z 0 (gained c b z.time) fair.bounded ordered later (omega arith) turn_more there;
-        backed = backed-next (byte_terms c) b.available 0 z 0 (gained c b z.time) log fair.backed turn_less there;
+        backed = backed_next (byte_terms c) b.available 0 z 0 (gained c b z.time) log fair.backed turn_less there;
       })
 
   -- a call within the smaller allowance
   pub bytes_enough : WithinParts (byte_terms c) (1000 * c.peer_message_burst_bytes + c.peer_message_rate_bytes_per_sec * z.time) 0 0 (z ∷ log) → passes (take_bytes c b z.size z.time).answer ≡ true
   bytes_enough parts =
-      rw (takes_it (backed-enough (byte_terms c) b.available 0 z 0 (gained c b z.time) log fair.backed turn_less (omega arith) parts))
+      rw (takes_it (backed_enough (byte_terms c) b.available 0 z 0 (gained c b z.time) log fair.backed turn_less (omega arith) parts))
 
 -- the bytes of a log are its charges
 bytes_charged : (from to : ℕ) (log : List Allow) → bytes_allowed from to log ≡ charged (λ z. z.size) from to log

@@ -29,18 +29,18 @@ use Rattle.promises.specs.CoreRowLaws.{after_ascends, refused_leaves, trail_rows
 module _ {c : PeerMessagePolicyConfig} (fits : ConfigFits c) (k : Pubkey) where
   -- one call more, on rows that a trail leads to
   module _ (rs : Peers) (order : ascending rs ≡ true) (es : List Event) (leads : rows_at es ≡ rs) (fair : ShieldedIn k es → EntryFair c (look k.bytes rs) (log_in k es)) where
-    next-fair : (call : CoreCall) → SizeFits call → (said : Said) → says_in c call rs ≡ said
+    next_fair : (call : CoreCall) → SizeFits call → (said : Said) → says_in c call rs ≡ said
         → ShieldedIn k (seen call said (changed_rows rs (change_in c call rs)) es)
         → EntryFair c (left_in c k rs call) (log_in k (seen call said (changed_rows rs (change_in c call rs)) es))
     unfolding log_in ShieldedIn
-    next-fair call sized (gives xs) e shield =
+    next_fair call sized (gives xs) e shield =
         let used : OwnTime (λ now. last_used (look k.bytes rs) ≤ now) (own_of k call) =
         subst (λ (xs : Peers). OwnTime (λ now. last_used (look k.bytes xs) ≤ now) (own_of k call)) leads shield.0
         in
         rw leads
         (subst (λ said. EntryFair c (left_in c k rs call) (log_after (own_of k call) (look k.bytes rs) (left_in c k rs call) said (log_in k es))) e
         (step_fair c fits k rs order (log_in k es) (fair shield.1) call sized xs e used))
-    next-fair call sized (refused n) e shield =
+    next_fair call sized (refused n) e shield =
         subst (λ (xs : Peers). EntryFair c (look k.bytes xs) (log_in k es)) (sym (refused_leaves c rs call e)) (fair shield)
 
   -- along a shielded list a peer's entry is fair to the log of its life
@@ -48,7 +48,7 @@ module _ {c : PeerMessagePolicyConfig} (fits : ConfigFits c) (k : Pubkey) where
   unfolding Sized trail_of after log_in look
   fair [] sized shield = refl
   fair (call ∷ h) sized shield =
-      next-fair (after c h) (after_ascends c h) (trail_of c h) (trail_rows c h) (fair h sized.1) call sized.0
+      next_fair (after c h) (after_ascends c h) (trail_of c h) (trail_rows c h) (fair h sized.1) call sized.0
       (says_in c call (after c h)) refl shield
 
   fair_at_most : (found : Option PeerMessagePolicyEntry) (log : List Allow) → EntryFair c found log → AtMost c log

@@ -7,7 +7,7 @@ use Rattle.truths.specs.TruthLaws.{by_test, true_is_not_false, chosen}
 use Rattle.pubkey.specs.declared.Pubkey.{Pubkey}
 use Rattle.refusal.specs.Refusal.{Said, gives, refused}
 use Rattle.table.specs.Table.{look, ascending, erase}
-use Rattle.table.specs.TableLaws.{sub_ascending, sub_trans, sub_erase, ascending-store}
+use Rattle.table.specs.TableLaws.{sub_ascending, sub_trans, sub_erase, ascending_store}
 use Rattle.peer_settings.specs.declared.config.PeerMessagePolicyConfig.{PeerMessagePolicyConfig}
 use Rattle.peer_state.specs.declared.entry.PeerMessagePolicyEntry.{PeerMessagePolicyEntry}
 use Rattle.peer_verdict.specs.declared.verdict.Cause.{Cause}
@@ -29,7 +29,7 @@ use Rattle.promises.specs.Core.{idle, admits, message_turn, invalid_turn, change
 use Rattle.promises.specs.Trails.{CoreCall, admit, record_invalid, is_banned, on_disconnected, Event, seen, rows_at}
 use Rattle.promises.specs.Lives.{same_key, last_used}
 use Rattle.promises.specs.DecisionLaws.{decided, invalid_decision_noted}
-use Rattle.promises.specs.CoreStepLaws.{gives_is_not_refused, refused_either, same_key_lem, left_in, own_here, own_invalid_here, other-here, other-invalid-here, is-banned-here, disconnected-here}
+use Rattle.promises.specs.CoreStepLaws.{gives_is_not_refused, refused_either, same_key_lem, left_in, own_here, own_invalid_here, other_here, other_invalid_here, is_banned_here, disconnected_here}
 
 -- ════ Keys ascend ════
 
@@ -56,12 +56,12 @@ module _ (c : PeerMessagePolicyConfig) (rs : Peers) (order : ascending rs ≡ tr
   unfolding carried_out
   message_ascends k decide banned h = order
   message_ascends k decide (update e xs) h =
-      chosen (λ (t : Turn Cause). Ascends t.change) (refuses (decide e).cause) (λ o. order) (λ o. ascending-store k (decide e).entry xs h)
+      chosen (λ (t : Turn Cause). Ascends t.change) (refuses (decide e).cause) (λ o. order) (λ o. ascending_store k (decide e).entry xs h)
 
   invalid_ascends : (k : List ℕ) (now : ℕ) (u : Update) → UpdateAscends u
       → Ascends (turn_of idle InvalidCause.LiveBan (λ e xs. noted_down idle k xs (invalid_decision c e now)) u).change
   invalid_ascends k now banned h = order
-  invalid_ascends k now (update e xs) h = ascending-store k (invalid_decision c e now).entry xs h
+  invalid_ascends k now (update e xs) h = ascending_store k (invalid_decision c e now).entry xs h
 
   is_banned_ascends : (k : List ℕ) (now : ℕ) (found : Option PeerMessagePolicyEntry) → Ascends (is_banned_change rs k now found)
   unfolding is_banned_change
@@ -75,7 +75,7 @@ module _ (c : PeerMessagePolicyConfig) (rs : Peers) (order : ascending rs ≡ tr
       chosen Ascends (entry_is_banned e now) (λ t. order)
       (λ t.
       chosen Ascends (entry_is_spent e now) (λ u. sub_ascending (sub_erase k rs) order)
-      (λ u. ascending-store k (entry_expire_windows e now c.ban_duration_ms) rs order))
+      (λ u. ascending_store k (entry_expire_windows e now c.ban_duration_ms) rs order))
 
   step_ascends : (call : CoreCall) → Ascends (change_in c call rs)
   unfolding Policy.record_invalid
@@ -169,10 +169,10 @@ pub step_used : (c : PeerMessagePolicyConfig) (k : Pubkey) (rs : Peers) → asce
 step_used c k rs order (admit peer size now reservation) h =
     by_test (same_key k peer)
     (λ own. own_used (λ e. (decided c idle e size now reservation).used) (own_here c k rs peer size now reservation (same_key_lem k peer own)) h)
-    (λ other. fate_used now (other-here c k rs order peer size now reservation other) h)
+    (λ other. fate_used now (other_here c k rs order peer size now reservation other) h)
 step_used c k rs order (record_invalid peer now) h =
     by_test (same_key k peer)
     (λ own. invalid_used (own_invalid_here c k rs peer now (same_key_lem k peer own)) h)
-    (λ other. fate_used now (other-invalid-here c k rs order peer now other) h)
-step_used c k rs order (is_banned peer now) h = fate_used now (is-banned-here c k rs order peer now) h
-step_used c k rs order (on_disconnected peer now) h = fate_used now (disconnected-here c k rs order peer now) h
+    (λ other. fate_used now (other_invalid_here c k rs order peer now other) h)
+step_used c k rs order (is_banned peer now) h = fate_used now (is_banned_here c k rs order peer now) h
+step_used c k rs order (on_disconnected peer now) h = fate_used now (disconnected_here c k rs order peer now) h

@@ -36,7 +36,7 @@ use Rattle.promises.specs.RunLives.{core_of, trail, core_calls, log_of}
 use Rattle.promises.specs.DecisionLaws.{Alike, decision_alike}
 use Rattle.promises.specs.CoreRowLaws.{trail_rows}
 use Rattle.promises.specs.MirrorLaws.{Mirrors, MirrorsIf, mirrored_rows, mirrored_trail}
-use Rattle.peer_runs.specs.SoundRunLaws.{StateHolds, admit-left, record-invalid-left, is-banned-left, on-disconnected-left, release_ingress_left, run_holds}
+use Rattle.peer_runs.specs.SoundRunLaws.{StateHolds, admit_left, record_invalid_left, is_banned_left, on_disconnected_left, release_ingress_left, run_holds}
 
 -- ════ What an answer says ════
 
@@ -92,9 +92,9 @@ module _ (s : State) (said : Said) (t : State) where
 
   -- of a state with the run's settings
   module _ (here : StateHolds p.config s) where
-    admit-mirrors : (k : Pubkey) (size now : ℕ) → KeyFits k → Step s (admit k size now) said t
+    admit_mirrors : (k : Pubkey) (size now : ℕ) → KeyFits k → Step s (admit k size now) said t
         → Mirrors p.config (Trails.admit k size now (try_reserve p.config p.ingress size)) (rows_in s) said (rows_in t)
-    admit-mirrors k size now key step =
+    admit_mirrors k size now key step =
         let turn : Turn Cause = Policy.admit p.config p.ingress (rows_in s) k.bytes size now in
         let core : SameTurn turn (message_turn p.config k size now (try_reserve p.config p.ingress size) (rows_in s)) =
         admit_core p.config p.ingress (rows_in s) k now size
@@ -104,12 +104,12 @@ module _ (s : State) (said : Said) (t : State) where
               step.2
               ∙ ap admission_says (admit_answer p s.memory here.is_sound k size now step.0 t.memory step.1)
               ∙ ap cause_says core.cause;
-          rows = (admit-left s here said t k key size now step).rows ∙ ap (changed_rows (rows_in s)) core.change;
+          rows = (admit_left s here said t k key size now step).rows ∙ ap (changed_rows (rows_in s)) core.change;
         }
 
-    invalid-mirrors : (k : Pubkey) (now : ℕ) → KeyFits k → Step s (record_invalid k now) said t
+    invalid_mirrors : (k : Pubkey) (now : ℕ) → KeyFits k → Step s (record_invalid k now) said t
         → Mirrors p.config (Trails.record_invalid k now) (rows_in s) said (rows_in t)
-    invalid-mirrors k now key step =
+    invalid_mirrors k now key step =
         let turn : Turn InvalidCause = Policy.record_invalid p.config p.ingress (rows_in s) k.bytes now in
         let core : SameTurn turn (invalid_turn p.config k now (rows_in s)) =
         invalid_core p.config p.ingress (rows_in s) k now
@@ -119,48 +119,48 @@ module _ (s : State) (said : Said) (t : State) where
               step.2
               ∙ ap invalid_says (record_invalid_answer p s.memory here.is_sound k now step.0 t.memory step.1)
               ∙ ap invalid_cause_says core.cause;
-          rows = (record-invalid-left s here said t k key now step).rows ∙ ap (changed_rows (rows_in s)) core.change;
+          rows = (record_invalid_left s here said t k key now step).rows ∙ ap (changed_rows (rows_in s)) core.change;
         }
 
-    banned-mirrors : (k : Pubkey) (now : ℕ) → KeyFits k → Step s (is_banned k now) said t
+    banned_mirrors : (k : Pubkey) (now : ℕ) → KeyFits k → Step s (is_banned k now) said t
         → Mirrors p.config (Trails.is_banned k now) (rows_in s) said (rows_in t)
     unfolding IsBannedMeets
-    banned-mirrors k now key step =
+    banned_mirrors k now key step =
         let found : Option PeerMessagePolicyEntry = look k.bytes (rows_in s) in
         record {
           says =
               step.2
               ∙ ap standing_says (step.1.answers ∙ ap (λ o. o.answer) (is_banned_outcome_lem p s.memory here.is_sound k now))
               ∙ standing_says_lem (policy_after p p.ingress (is_banned_change (rows_in s) k.bytes now found)) (fresh p.config) (Policy.is_banned found now);
-          rows = (is-banned-left s here said t k key now step).rows;
+          rows = (is_banned_left s here said t k key now step).rows;
         }
 
-    disconnected-mirrors : (k : Pubkey) (now : ℕ) → KeyFits k → Step s (on_disconnected k now) said t
+    disconnected_mirrors : (k : Pubkey) (now : ℕ) → KeyFits k → Step s (on_disconnected k now) said t
         → Mirrors p.config (Trails.on_disconnected k now) (rows_in s) said (rows_in t)
     unfolding OnDisconnectedMeets
-    disconnected-mirrors k now key step =
+    disconnected_mirrors k now key step =
         record {
           says =
               step.2
               ∙ ap changed_says (step.1.answers ∙ ap (λ o. o.answer) (on_disconnected_outcome_lem p s.memory here.is_sound k now));
-          rows = (on-disconnected-left s here said t k key now step).rows;
+          rows = (on_disconnected_left s here said t k key now step).rows;
         }
 
-    own-mirrors : (call : Call) → CallFits call → Step s call said t → MirrorsIf p.config (core_of p.config s call) (rows_in s) said (rows_in t)
-    own-mirrors (admit k size now) fits step = admit-mirrors k size now fits.0 step
-    own-mirrors (record_invalid k now) fits step = invalid-mirrors k now fits.0 step
-    own-mirrors (is_banned k now) fits step = banned-mirrors k now fits.0 step
-    own-mirrors (on_disconnected k now) fits step = disconnected-mirrors k now fits.0 step
-    own-mirrors (release_ingress size) fits step = (release_ingress_left s here said t size step).rows
-    own-mirrors in_flight fits step = ap rows_in step.3
-    own-mirrors (held_time k given) fits step = ap rows_in step.3
+    own_mirrors : (call : Call) → CallFits call → Step s call said t → MirrorsIf p.config (core_of p.config s call) (rows_in s) said (rows_in t)
+    own_mirrors (admit k size now) fits step = admit_mirrors k size now fits.0 step
+    own_mirrors (record_invalid k now) fits step = invalid_mirrors k now fits.0 step
+    own_mirrors (is_banned k now) fits step = banned_mirrors k now fits.0 step
+    own_mirrors (on_disconnected k now) fits step = disconnected_mirrors k now fits.0 step
+    own_mirrors (release_ingress size) fits step = (release_ingress_left s here said t size step).rows
+    own_mirrors in_flight fits step = ap rows_in step.3
+    own_mirrors (held_time k given) fits step = ap rows_in step.3
 
 -- every call on a sound state says and leaves what its core call does
 pub step_core : {c : PeerMessagePolicyConfig} (s : State) → StateHolds c s → (call : Call) (said : Said) (t : State) → CallFits call → Step s call said t
     → MirrorsIf c (core_of c s call) (rows_in s) said (rows_in t)
 step_core {c} s here call said t fits step =
     subst (λ x. MirrorsIf x (core_of x s call) (rows_in s) said (rows_in t)) here.settings
-    (own-mirrors s said t (subst (λ x. StateHolds x s) (sym here.settings) here) call fits step)
+    (own_mirrors s said t (subst (λ x. StateHolds x s) (sym here.settings) here) call fits step)
 
 -- ════ Runs ════
 

@@ -120,43 +120,43 @@ module _ (c : PeerMessagePolicyConfig) (fits : ConfigFits c) where
 
     module _ (e : PeerMessagePolicyEntry) (log : List Allow) (ready : Ready c e now log) where
       -- an Allow is charged to both buckets
-      allowed-fair : (admits c size now reservation e).cause ≡ Cause.Allowed → EntryFair c (some (admits c size now reservation e).entry) (asked ∷ log)
-      allowed-fair q =
+      allowed_fair : (admits c size now reservation e).cause ≡ Cause.Allowed → EntryFair c (some (admits c size now reservation e).entry) (asked ∷ log)
+      allowed_fair q =
           let d = decided c idle e size now reservation in
           let a = d.allowed q in
           let charged = fair_allow c fits e.messages e.bytes log size now size_fits ready.0 ready.1 a.message_there a.bytes_there in
           (subst₂ (λ m b. Fair c m b (asked ∷ log)) (sym a.messages) (sym a.bytes) charged, omega (arith, d.used))
 
       -- any other decision leaves the buckets
-      other-fair : NotAllowed (admits c size now reservation e).cause → EntryFair c (some (admits c size now reservation e).entry) log
-      other-fair n =
+      other_fair : NotAllowed (admits c size now reservation e).cause → EntryFair c (some (admits c size now reservation e).entry) log
+      other_fair n =
           let d = decided c idle e size now reservation in
           let left = d.other n in
           rw (left.0, left.1, d.used) ready
 
-      carried-fair : (cause : Cause) → (admits c size now reservation e).cause ≡ cause
+      carried_fair : (cause : Cause) → (admits c size now reservation e).cause ≡ cause
           → EntryFair c (some (admits c size now reservation e).entry) (logged (cause_says cause) asked log)
-      carried-fair Cause.Allowed q = allowed-fair q
-      carried-fair (Cause.Short Shortage.Messages) q = other-fair (subst NotAllowed (sym q) tt)
-      carried-fair (Cause.Short (Shortage.Bytes k)) q = other-fair (subst NotAllowed (sym q) tt)
-      carried-fair (Cause.Short Shortage.Slot) q = other-fair (subst NotAllowed (sym q) tt)
-      carried-fair (Cause.Short (Shortage.CeilingBytes k)) q = other-fair (subst NotAllowed (sym q) tt)
-      carried-fair Cause.LiveBan q = other-fair (subst NotAllowed (sym q) tt)
-      carried-fair Cause.BanBegun q = other-fair (subst NotAllowed (sym q) tt)
-      carried-fair (Cause.Refused n) q = other-fair (subst NotAllowed (sym q) tt)
+      carried_fair Cause.Allowed q = allowed_fair q
+      carried_fair (Cause.Short Shortage.Messages) q = other_fair (subst NotAllowed (sym q) tt)
+      carried_fair (Cause.Short (Shortage.Bytes k)) q = other_fair (subst NotAllowed (sym q) tt)
+      carried_fair (Cause.Short Shortage.Slot) q = other_fair (subst NotAllowed (sym q) tt)
+      carried_fair (Cause.Short (Shortage.CeilingBytes k)) q = other_fair (subst NotAllowed (sym q) tt)
+      carried_fair Cause.LiveBan q = other_fair (subst NotAllowed (sym q) tt)
+      carried_fair Cause.BanBegun q = other_fair (subst NotAllowed (sym q) tt)
+      carried_fair (Cause.Refused n) q = other_fair (subst NotAllowed (sym q) tt)
 
     -- the peer's own admit, where it is not refused
-    admit-fair : {found left : Option PeerMessagePolicyEntry} {cause : Cause} (log : List Allow)
+    admit_fair : {found left : Option PeerMessagePolicyEntry} {cause : Cause} (log : List Allow)
         → Own c now (admits c size now reservation) found left cause → (xs : List ℕ) → cause_says cause ≡ gives xs → EntryFair c found log
         → last_used found ≤ now → EntryFair c left (kept_log left (logged (cause_says cause) asked (log_for found now log)))
-    admit-fair {found} {left} log (live e q ban why same_entry) xs given h used = rw why (live_fair now found left e log q ban same_entry h)
-    admit-fair {cause = cause} log (undone e lands o why same_entry) xs given h used =
+    admit_fair {found} {left} log (live e q ban why same_entry) xs given h used = rw why (live_fair now found left e log q ban same_entry h)
+    admit_fair {cause = cause} log (undone e lands o why same_entry) xs given h used =
         absurd (⊎_elim
         (λ over. gives_is_not_refused (sym given ∙ over.1.1))
         (λ other. true_is_not_false (ap refuses why ∙ o) other.0)
         (refused_either cause))
-    admit-fair {found} {cause = cause} log (carried e lands o why now-entry) xs given h used =
-        rw now-entry (carried-fair e (log_for found now log) (lands_ready c fits now found e log lands h used) cause (sym why))
+    admit_fair {found} {cause = cause} log (carried e lands o why now-entry) xs given h used =
+        rw now-entry (carried_fair e (log_for found now log) (lands_ready c fits now found e log lands h used) cause (sym why))
 
   -- the peer's own record_invalid
   invalid_fair : (now : ℕ) {found left : Option PeerMessagePolicyEntry} {cause : InvalidCause} (log : List Allow) → OwnInvalid c now found left cause
@@ -199,19 +199,19 @@ module _ (c : PeerMessagePolicyConfig) (k : Pubkey) (rs : Peers) where
 
   module _ (order : ascending rs ≡ true) where
     -- an admit and a record_invalid of another peer
-    pub other-here : (peer : Pubkey) (size now : ℕ) (reservation : Reservation) → same_key k peer ≡ false
+    pub other_here : (peer : Pubkey) (size now : ℕ) (reservation : Reservation) → same_key k peer ≡ false
         → Fate (look k.bytes rs) (left_in c k rs (admit peer size now reservation))
-    other-here peer size now reservation other =
+    other_here peer size now reservation other =
         message_fate k.bytes peer.bytes (other_key k peer other) rs order c idle (admits c size now reservation) now
 
-    pub other-invalid-here : (peer : Pubkey) (now : ℕ) → same_key k peer ≡ false → Fate (look k.bytes rs) (left_in c k rs (record_invalid peer now))
-    other-invalid-here peer now other = record_invalid_fate k.bytes peer.bytes (other_key k peer other) rs order c idle now
+    pub other_invalid_here : (peer : Pubkey) (now : ℕ) → same_key k peer ≡ false → Fate (look k.bytes rs) (left_in c k rs (record_invalid peer now))
+    other_invalid_here peer now other = record_invalid_fate k.bytes peer.bytes (other_key k peer other) rs order c idle now
 
-    pub is-banned-here : (peer : Pubkey) (now : ℕ) → Fate (look k.bytes rs) (left_in c k rs (is_banned peer now))
-    is-banned-here peer now = is_banned_fate k.bytes peer.bytes rs order now (look peer.bytes rs)
+    pub is_banned_here : (peer : Pubkey) (now : ℕ) → Fate (look k.bytes rs) (left_in c k rs (is_banned peer now))
+    is_banned_here peer now = is_banned_fate k.bytes peer.bytes rs order now (look peer.bytes rs)
 
-    pub disconnected-here : (peer : Pubkey) (now : ℕ) → Fate (look k.bytes rs) (left_in c k rs (on_disconnected peer now))
-    disconnected-here peer now =
+    pub disconnected_here : (peer : Pubkey) (now : ℕ) → Fate (look k.bytes rs) (left_in c k rs (on_disconnected peer now))
+    disconnected_here peer now =
         let keys : (k.bytes ≡ peer.bytes) ⊎ (k.bytes ≡ peer.bytes → ⊥) =
         by_test (same_key k peer) (λ own. inl (ap (λ x. x.bytes) (same_key_lem k peer own))) (λ other. inr (other_key k peer other))
         in
@@ -239,13 +239,13 @@ module _ (c : PeerMessagePolicyConfig) (fits : ConfigFits c) (k : Pubkey) (rs : 
       by_test (same_key k peer)
       (λ own.
       let before : last_used (look k.bytes rs) ≤ now = rw own at used in
-      rw own (admit-fair c fits size now size_fits reservation log (own_here c k rs peer size now reservation (same_key_lem k peer own)) xs given fair before))
-      (λ other. rw other (fate_fair c log (other-here c k rs order peer size now reservation other) fair))
+      rw own (admit_fair c fits size now size_fits reservation log (own_here c k rs peer size now reservation (same_key_lem k peer own)) xs given fair before))
+      (λ other. rw other (fate_fair c log (other_here c k rs order peer size now reservation other) fair))
   step_fair (record_invalid peer now) size_fits xs given used =
       by_test (same_key k peer)
       (λ own.
       let before : last_used (look k.bytes rs) ≤ now = rw own at used in
       rw own (invalid_fair c fits now log (own_invalid_here c k rs peer now (same_key_lem k peer own)) fair before))
-      (λ other. rw other (fate_fair c log (other-invalid-here c k rs order peer now other) fair))
-  step_fair (is_banned peer now) size_fits xs given used = fate_fair c log (is-banned-here c k rs order peer now) fair
-  step_fair (on_disconnected peer now) size_fits xs given used = fate_fair c log (disconnected-here c k rs order peer now) fair
+      (λ other. rw other (fate_fair c log (other_invalid_here c k rs order peer now other) fair))
+  step_fair (is_banned peer now) size_fits xs given used = fate_fair c log (is_banned_here c k rs order peer now) fair
+  step_fair (on_disconnected peer now) size_fits xs given used = fate_fair c log (disconnected_here c k rs order peer now) fair

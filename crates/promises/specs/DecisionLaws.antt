@@ -56,20 +56,20 @@ module _ (c : PeerMessagePolicyConfig) (i : FiberIngressBudget) (e : PeerMessage
 
   ceiling_decides_decided : passes (take_message c e.messages now).answer ≡ true → passes (take_bytes c e.bytes size now).answer ≡ true
       → Decided c e size now reservation (ceiling_decides i e (both_charged c e size now) reservation)
-  ceiling_decides_decided m b = by-reservation reservation
+  ceiling_decides_decided m b = by_reservation reservation
     where
-      by-reservation : (r : Reservation)
+      by_reservation : (r : Reservation)
           → Decided c e size now r (ceiling_decides i e (both_charged c e size now) r)
-      by-reservation (Reservation.Reserved after) =
+      by_reservation (Reservation.Reserved after) =
           record {
             used = used;
             allowed = λ q. record { message_there = m; bytes_there = b; messages = refl; bytes = refl };
             other = λ n. absurd n;
             passed = λ x y. refl;
           }
-      by-reservation Reservation.NoSlot = kept_decided _ tt used refl refl (λ x y. refl)
-      by-reservation (Reservation.BytesShort k) = kept_decided _ tt used refl refl (λ x y. refl)
-      by-reservation (Reservation.Refused n) = kept_decided _ tt used refl refl (λ x y. refl)
+      by_reservation Reservation.NoSlot = kept_decided _ tt used refl refl (λ x y. refl)
+      by_reservation (Reservation.BytesShort k) = kept_decided _ tt used refl refl (λ x y. refl)
+      by_reservation (Reservation.Refused n) = kept_decided _ tt used refl refl (λ x y. refl)
 
   weighed_decided : Decided c e size now reservation (weighed_in c i e size now reservation)
   weighed_decided =

@@ -10,8 +10,8 @@ use Rattle.promises.specs.RunLives.{Ordered, log_of, Entitled}
 
 -- a message a second and one at once, ten bytes a second and ten at once, a ban at the first violation, one tracked peer, and a ceiling
 -- of two messages and ten bytes
-abbrev pub one_aSecond : PeerMessagePolicyConfig
-one_aSecond =
+abbrev pub one_a_second : PeerMessagePolicyConfig
+one_a_second =
     record {
       peer_message_interval_ms = 1000;
       peer_message_burst = 1;
@@ -43,11 +43,11 @@ second = admit peer 3 6000
 -- can only be allowed, and there is a state that it leads to
 pub record Example : Type 0 where
   pub before : State
-  pub run : Run one_aSecond (first ∷ []) before
+  pub run : Run one_a_second (first ∷ []) before
   pub one_allow : log_of peer run ≡ record { time = 5000; size = 3 } ∷ []
   pub ordered : Ordered (second ∷ first ∷ [])
   pub entitled : Entitled run peer 3 6000
   pub by_least : (said : Said) (t : State) → Step before second said t → said ≡ allow
   pub after : State
-  pub longer : Run one_aSecond (second ∷ first ∷ []) after
+  pub longer : Run one_a_second (second ∷ first ∷ []) after
   pub two_allows : log_of peer longer ≡ record { time = 6000; size = 3 } ∷ record { time = 5000; size = 3 } ∷ []

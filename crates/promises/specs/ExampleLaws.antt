@@ -34,7 +34,7 @@ use Rattle.peer_laws.specs.CallLaws.{admit_outcome_lem}
 use Rattle.promises.specs.Lives.{Allow, allow, kept_log, log_for, log_in, FromEvery, Near, Within}
 use Rattle.peer_runs.specs.Runs.{admit, State, rows_in, Step, KeyFits, CallFits, Run, made, then}
 use Rattle.promises.specs.RunLives.{latest, Ordered, entry_in, trail, log_of, Entitled}
-use Rattle.promises.specs.Example.{one_aSecond, peer, lent, first, second, Example}
+use Rattle.promises.specs.Example.{one_a_second, peer, lent, first, second, Example}
 use Rattle.promises.specs.Promises as Promises
 
 -- ════ What the machine gives ════
@@ -46,7 +46,7 @@ bytes_of (suc n) b h = Bytes_cons b (replicate n b) h (bytes_of n b h)
 key_fits : KeyFits peer
 key_fits = (refl, bytes_of 33 2 (omega arith))
 
-settings_fit : ConfigFits one_aSecond
+settings_fit : ConfigFits one_a_second
 settings_fit =
     record {
       interval = omega arith;
@@ -106,9 +106,9 @@ allowed_to messages bytes row = record { cause = Cause.Allowed; ingress = in_fli
 row_fits : (bytes now : ℕ) → bytes < 256 → now < 10000 → AllFit peer_layout EntryFits (row_at bytes now ∷ [])
 row_fits bytes now h k = (
   record {
-    key-length = refl;
-    key-bytes = bytes_of 33 2 (omega arith);
-    entry-good =
+    key_length = refl;
+    key_bytes_lem = bytes_of 33 2 (omega arith);
+    entry_good =
         record {
           messages_available = omega arith;
           messages_last = omega arith;
@@ -132,14 +132,14 @@ abbrev memory₀ : List ℕ
 memory₀ = laid peer_layout lent 1 []
 
 abbrev state₀ : State
-state₀ = record { policy = fresh one_aSecond; memory = memory₀ }
+state₀ = record { policy = fresh one_a_second; memory = memory₀ }
 
-new_meets : NewMeets one_aSecond lent (Made.Policy (fresh one_aSecond)) memory₀
+new_meets : NewMeets one_a_second lent (Made.Policy (fresh one_a_second)) memory₀
 unfolding NewMeets new_outcome
 new_meets = record { answers = refl; leaves = holds peer_faithful lent memory₀ 1 [] tt refl }
 
-run₀ : Run one_aSecond [] state₀
-run₀ = made lent memory₀ (fresh one_aSecond) (bytes_of 121 255 (omega arith)) new_meets
+run₀ : Run one_a_second [] state₀
+run₀ = made lent memory₀ (fresh one_a_second) (bytes_of 121 255 (omega arith)) new_meets
 
 -- ════ The first message ════
 
@@ -147,9 +147,9 @@ abbrev memory₁ : List ℕ
 memory₁ = laid peer_layout memory₀ 0 (row_at 7 5000 ∷ [])
 
 abbrev state₁ : State
-state₁ = afterwards (answer_of (fresh one_aSecond) (allowed_to 1 3 (row_at 7 5000))) memory₁
+state₁ = afterwards (answer_of (fresh one_a_second) (allowed_to 1 3 (row_at 7 5000))) memory₁
 
-first_turn : Policy.admit one_aSecond (in_flight 0 0) (rows_in state₀) peer.bytes 3 5000 ≡ allowed_to 1 3 (row_at 7 5000)
+first_turn : Policy.admit one_a_second (in_flight 0 0) (rows_in state₀) peer.bytes 3 5000 ≡ allowed_to 1 3 (row_at 7 5000)
 unfolding rows amount_of value saturated discrete_refill discrete_take discrete_try_consume byte_refill byte_take byte_try_consume look store retain remove_at minimum_from window_expire window_counted entry_new entry_ban entry_used try_reserve take_message take_bytes violated decision evict room_made make_room Policy.admit carried_out entry_for_update
 first_turn = refl
 
@@ -159,7 +159,7 @@ holds₁ = holds peer_faithful memory₀ memory₁ 0 (row_at 7 5000 ∷ []) (row
 first_fits : CallFits first
 first_fits = (key_fits, omega arith, omega arith)
 
-run₁ : Run one_aSecond (first ∷ []) state₁
+run₁ : Run one_a_second (first ∷ []) state₁
 run₁ =
     then first allow state₁ run₀ first_fits
     (admit_goes state₀ (Promises.sound run₀) peer 3 5000 (allowed_to 1 3 (row_at 7 5000)) memory₁ first_turn holds₁)
@@ -181,7 +181,7 @@ entry₁ : entry_in state₁ peer ≡ some (row_at 7 5000).entry
 unfolding look
 entry₁ = rw rows₁
 
-within : Within one_aSecond 6000 3 (three 5000 ∷ [])
+within : Within one_a_second 6000 3 (three 5000 ∷ [])
 unfolding Within Near FromEvery
 within = (
   λ on. (omega arith, tt),
@@ -204,9 +204,9 @@ only_allow said t step = Promises.least settings_fit run₁ peer 3 6000 ordered 
 abbrev memory₂ : List ℕ
 memory₂ = laid peer_layout memory₁ 1 (row_at 7 6000 ∷ [])
 
-second_turn : Policy.admit one_aSecond (in_flight 1 3) (rows_in state₁) peer.bytes 3 6000 ≡ allowed_to 2 6 (row_at 7 6000)
+second_turn : Policy.admit one_a_second (in_flight 1 3) (rows_in state₁) peer.bytes 3 6000 ≡ allowed_to 2 6 (row_at 7 6000)
 unfolding amount_of value saturated discrete_refill discrete_take discrete_try_consume byte_refill byte_take byte_try_consume look store retain remove_at minimum_from window_expire window_counted entry_new entry_ban entry_used try_reserve take_message take_bytes violated decision evict room_made make_room Policy.admit carried_out entry_for_update
-second_turn = ap (λ (rs : Peers). Policy.admit one_aSecond (in_flight 1 3) rs peer.bytes 3 6000) rows₁
+second_turn = ap (λ (rs : Peers). Policy.admit one_a_second (in_flight 1 3) rs peer.bytes 3 6000) rows₁
 
 holds₂ : Holds peer_layout memory₁ memory₂ 1 (row_at 7 6000 ∷ [])
 holds₂ = holds peer_faithful memory₁ memory₂ 1 (row_at 7 6000 ∷ []) (row_fits 7 6000 (omega arith) (omega arith)) refl
@@ -214,7 +214,7 @@ holds₂ = holds peer_faithful memory₁ memory₂ 1 (row_at 7 6000 ∷ []) (row
 abbrev state₂ : State
 state₂ = afterwards (answer_of state₁.policy (allowed_to 2 6 (row_at 7 6000))) memory₂
 
-run₂ : Run one_aSecond (second ∷ first ∷ []) state₂
+run₂ : Run one_a_second (second ∷ first ∷ []) state₂
 run₂ =
     then second allow state₂ run₁ entitled.fits
     (admit_goes state₁ (Promises.sound run₁) peer 3 6000 (allowed_to 2 6 (row_at 7 6000)) memory₂ second_turn holds₂)

@@ -14,7 +14,7 @@ use Rattle.peer_state.specs.Entry.{level}
 use Rattle.peer_verdict.specs.Verdict.{passes, messages_left, bytes_left, take_message, take_bytes}
 use Rattle.promises.specs.Lives.{Allow, AtMost, Allowance, Within}
 use Rattle.promises.specs.BucketLaws.{newest, InOrder, within_parts}
-use Rattle.promises.specs.MessageLaws.{FairMessages, message_terms, messages_new, messages-next, messages-enough, messages_most, message_off}
+use Rattle.promises.specs.MessageLaws.{FairMessages, message_terms, messages_new, messages_next, messages_enough, messages_most, message_off}
 use Rattle.promises.specs.ByteLaws.{FairBytes, byte_terms, bytes_new, bytes_next, bytes_enough, bytes_most, bytes_off}
 
 -- the newest Allow of a log lies at or before this time
@@ -47,7 +47,7 @@ fair_allow c config m b log size now size_fits fair after message_there bytes_th
     let later = newest_before log now after in
     record {
       ordered = (later, fair.ordered);
-      messages = λ on. messages-next c on m log z (fair.messages on) fair.ordered later message_there;
+      messages = λ on. messages_next c on m log z (fair.messages on) fair.ordered later message_there;
       bytes = λ on. bytes_next c config on b log z size_fits (fair.bytes on) fair.ordered later bytes_there;
     }
 
@@ -79,7 +79,7 @@ fair_least c config m b log size now size_fits fair after allowed =
     let later = newest_before log now after in
     let ordered : InOrder (z ∷ log) = (later, fair.ordered) in (
       by_test (message_limit_disabled c) (λ off. message_off c m now off)
-          (λ on. messages-enough c on m log z (fair.messages on) fair.ordered later (allowed.0 on)
+          (λ on. messages_enough c on m log z (fair.messages on) fair.ordered later (allowed.0 on)
           (within_parts (message_terms c) c now (c.peer_message_interval_ms * c.peer_message_burst + 1 * now) (λ n bytes. n) (λ n bytes y. refl)
           (message_parts c on now) (z ∷ log) 0 0 ordered (le_refl now) allowed.1)),
       by_test (byte_disabled (bytes_of c)) (λ off. bytes_off c b size now off)

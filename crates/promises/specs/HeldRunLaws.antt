@@ -69,10 +69,10 @@ module _ {c : PeerMessagePolicyConfig} (k : Pubkey) where
 
   module _ (fits : ConfigFits c) {h : List Call} {s : State} (run : Run c h s) (answered : Held k run) where
     -- a call at a time that held_time answers, within the smaller allowance, gets the ceiling's answer
-    pub held-least : (size now : ℕ) → Answered k s now → Entitled run k size now → (said : Said) (t : State) → Step s (admit k size now) said t
+    pub held_least : (size now : ℕ) → Answered k s now → Entitled run k size now → (said : Said) (t : State) → Step s (admit k size now) said t
         → said ≡ ceiling_says (try_reserve c s.policy.ingress size)
-    held-least size now asked = shielded_least fits k run (held_shields run answered) size now (held s k now (run_sound run) asked)
+    held_least size now asked = shielded_least fits k run (held_shields run answered) size now (held s k now (run_sound run) asked)
 
     -- both bounds
     pub held_both : HeldShield k run
-    held_both = record { upper = shielded_most fits k run (held_shields run answered); lower = held-least }
+    held_both = record { upper = shielded_most fits k run (held_shields run answered); lower = held_least }

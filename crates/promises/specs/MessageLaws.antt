@@ -16,7 +16,7 @@ use Rattle.peer_settings.specs.Config.{message_limit_disabled}
 use Rattle.peer_state.specs.Entry.{level}
 use Rattle.peer_verdict.specs.Verdict.{passes, message_bucket, messages_left, take_message}
 use Rattle.promises.specs.Lives.{Allow, Near, allows}
-use Rattle.promises.specs.BucketLaws.{newest, InOrder, charged, Terms, Bounded, bounded_new, bounded_next, NotMore, NotLess, WithinParts, Backed, backed-next, backed-enough}
+use Rattle.promises.specs.BucketLaws.{newest, InOrder, charged, Terms, Bounded, bounded_new, bounded_next, NotMore, NotLess, WithinParts, Backed, backed_next, backed_enough}
 
 -- ════ What a take gives, where the limit is on ════
 
@@ -51,30 +51,30 @@ module _ (c : PeerMessagePolicyConfig) (on : message_limit_disabled c ≡ false)
 
   module _ (m : Level) (now : ℕ) (fits : m.available ≤ c.peer_message_burst) where
     -- no interval has passed: nothing moves
-    topped-none : passed c m now ≡ 0 → message_bucket c m ≡ discrete_topped (message_bucket c m) (passed c m now)
-    topped-none h =
+    topped_none : passed c m now ≡ 0 → message_bucket c m ≡ discrete_topped (message_bucket c m) (passed c m now)
+    topped_none h =
         let left : m.available ≡ refilled c m now = omega arith in
         let last : m.last_refill_ms ≡ refilled_when c m now =
         omega (arith, ap (λ (n : ℕ). n * c.peer_message_interval_ms) h)
         in
         λ i. record { interval_ms = c.peer_message_interval_ms; capacity = c.peer_message_burst; available = left i; last_refill_ms = last i }
 
-    early-none : now ≤ m.last_refill_ms → passed c m now ≡ 0
-    early-none h =
+    early_none : now ≤ m.last_refill_ms → passed c m now ≡ 0
+    early_none h =
         let none : now - m.last_refill_ms ≡ 0 = omega arith in
         rw (none, zero-div c.peer_message_interval_ms)
 
-    refill-topped : discrete_refill (message_bucket c m) now ≡ discrete_topped (message_bucket c m) (passed c m now)
+    refill_topped : discrete_refill (message_bucket c m) now ≡ discrete_topped (message_bucket c m) (passed c m now)
     unfolding discrete_refill
-    refill-topped =
+    refill_topped =
         rw (both_on.0, both_on.1)
         (same_by (leb now m.last_refill_ms) (eqb (passed c m now) 0)
-        (λ t. topped-none (early-none (leb-true now m.last_refill_ms t)))
-        (λ t. topped-none (eqb-true (passed c m now) 0 t)))
+        (λ t. topped_none (early_none (leb-true now m.last_refill_ms t)))
+        (λ t. topped_none (eqb-true (passed c m now) 0 t)))
 
-    pub take-message : take_message c m now ≡ discrete_take (refilled_bucket c m now)
+    pub take_message_lem : take_message c m now ≡ discrete_take (refilled_bucket c m now)
     unfolding take_message discrete_try_consume
-    take-message = rw (on, refill-topped)
+    take_message_lem = rw (on, refill_topped)
 
 -- a token was there if the take is not short
 taken_yes : (b : DiscreteTokenBucket) → passes (discrete_take b).answer ≡ true → 1 ≤ b.available
@@ -134,26 +134,26 @@ module _ (interval last now : ℕ) (some : 0 < interval) where
     after_last = omega arith
 
     -- laps are never lost
-    laps-kept : laps * interval ≤ laps_of * interval
-    laps-kept =
+    laps_kept : laps * interval ≤ laps_of * interval
+    laps_kept =
         let next = phase_next after_last in
         by_test (leb laps laps_of)
         (λ t. mul-le-mul_right interval (leb-true laps laps_of t))
         (λ t. absurd (omega (arith, one_more laps_of laps interval (leb-false laps laps_of t), one_more gained 4294967296 interval (omega arith))))
 
     -- no lap is gained at once where the gap is at most 2^32 - 1 intervals
-    laps-same : now ≤ time + 4294967295 * interval → laps_of * interval ≤ laps * interval
-    laps-same near =
+    laps_same : now ≤ time + 4294967295 * interval → laps_of * interval ≤ laps * interval
+    laps_same near =
         let next = phase_next after_last in
         by_test (leb laps_of laps)
         (λ t. mul-le-mul_right interval (leb-true laps_of laps t))
         (λ t. absurd (omega (arith, one_more laps laps_of interval (leb-false laps_of laps t))))
 
     pub not_more : interval * gained + rest_of + 1 * time ≤ rest + 1 * now
-    not_more = let next = phase_next after_last in omega (arith, laps-kept, mul_comm interval gained)
+    not_more = let next = phase_next after_last in omega (arith, laps_kept, mul_comm interval gained)
 
     pub not_less : now ≤ time + 4294967295 * interval → rest + 1 * now ≤ interval * gained + rest_of + 0 + 1 * time
-    not_less near = let next = phase_next after_last in omega (arith, laps-same near, mul_comm interval gained)
+    not_less near = let next = phase_next after_last in omega (arith, laps_same near, mul_comm interval gained)
 
 -- ════ The bucket and its log ════
 
@@ -201,11 +201,11 @@ module _ (c : PeerMessagePolicyConfig) (on : message_limit_disabled c ≡ false)
     abbrev rest' : ℕ
     rest' = rest_of c.peer_message_interval_ms m.last_refill_ms z.time (some_interval c on)
 
-    take-is : take_message c m z.time ≡ discrete_take (refilled_bucket c m z.time)
-    take-is = take-message c on m z.time fair.bounded.within_capacity
+    take_is : take_message c m z.time ≡ discrete_take (refilled_bucket c m z.time)
+    take_is = take_message_lem c on m z.time fair.bounded.within_capacity
 
-    next-phase : Phase c.peer_message_interval_ms (refilled_when c m z.time) z.time (laps_of c.peer_message_interval_ms m.last_refill_ms z.time (some_interval c on)) rest'
-    next-phase =
+    next_phase : Phase c.peer_message_interval_ms (refilled_when c m z.time) z.time (laps_of c.peer_message_interval_ms m.last_refill_ms z.time (some_interval c on)) rest'
+    next_phase =
         phase_next c.peer_message_interval_ms m.last_refill_ms z.time (some_interval c on)
         (let p = fair.phase in omega arith)
 
@@ -214,42 +214,42 @@ module _ (c : PeerMessagePolicyConfig) (on : message_limit_disabled c ≡ false)
 
     turn_less : Near c.peer_message_interval_ms z.time log → NotLess (message_terms c) log z.time fair.rest rest' (passed c m z.time)
     unfolding Near
-    turn_less = near-turn log fair.laps fair.rest fair.phase later
+    turn_less = near_turn log fair.laps fair.rest fair.phase later
       where
-        near-turn : (l : List Allow) (laps rest : ℕ) → Phase c.peer_message_interval_ms m.last_refill_ms (newest l) laps rest → newest l ≤ z.time
+        near_turn : (l : List Allow) (laps rest : ℕ) → Phase c.peer_message_interval_ms m.last_refill_ms (newest l) laps rest → newest l ≤ z.time
             → Near c.peer_message_interval_ms z.time l
             → NotLess (message_terms c) l z.time rest rest' (passed c m z.time)
-        near-turn [] laps rest phase k near = tt
-        near-turn (y ∷ l) laps rest phase k near =
+        near_turn [] laps rest phase k near = tt
+        near_turn (y ∷ l) laps rest phase k near =
             not_less c.peer_message_interval_ms m.last_refill_ms z.time (some_interval c on) y.time laps rest phase k near.0
 
     -- an Allow
-    pub messages-next : passes (take_message c m z.time).answer ≡ true → FairMessages c (messages_left (take_message c m z.time).bucket) (z ∷ log)
-    messages-next allowed =
-        let enough = taken_yes (refilled_bucket c m z.time) (rw take-is at allowed) in
-        rw (take-is, taken_is (refilled_bucket c m z.time) enough)
+    pub messages_next : passes (take_message c m z.time).answer ≡ true → FairMessages c (messages_left (take_message c m z.time).bucket) (z ∷ log)
+    messages_next allowed =
+        let enough = taken_yes (refilled_bucket c m z.time) (rw take_is at allowed) in
+        rw (take_is, taken_is (refilled_bucket c m z.time) enough)
         (record {
           laps = laps_of c.peer_message_interval_ms m.last_refill_ms z.time (some_interval c on);
           rest = rest';
-          phase = next-phase;
+          phase = next_phase;
           bounded =
               bounded_next (message_terms c) m.available fair.rest log z rest' (passed c m z.time) fair.bounded ordered later
-              (let p = next-phase in omega arith)
+              (let p = next_phase in omega arith)
               turn_more
               enough;
           backed = λ near.
-              backed-next (message_terms c) m.available fair.rest z rest' (passed c m z.time) log (fair.backed (near_each c.peer_message_interval_ms z.time log near)) (turn_less near) enough;
+              backed_next (message_terms c) m.available fair.rest z rest' (passed c m z.time) log (fair.backed (near_each c.peer_message_interval_ms z.time log near)) (turn_less near) enough;
         })
 
     -- a call within the smaller allowance
-    pub messages-enough : Near c.peer_message_interval_ms z.time log
+    pub messages_enough : Near c.peer_message_interval_ms z.time log
         → WithinParts (message_terms c) (c.peer_message_interval_ms * c.peer_message_burst + 1 * z.time) 0 0 (z ∷ log)
         → passes (take_message c m z.time).answer ≡ true
-    messages-enough near parts =
+    messages_enough near parts =
         let enough : 1 ≤ refilled c m z.time =
-        backed-enough (message_terms c) m.available fair.rest z rest' (passed c m z.time) log (fair.backed (near_each c.peer_message_interval_ms z.time log near)) (turn_less near) next-phase.less parts
+        backed_enough (message_terms c) m.available fair.rest z rest' (passed c m z.time) log (fair.backed (near_each c.peer_message_interval_ms z.time log near)) (turn_less near) next_phase.less parts
         in
-        rw (take-is, taken_is (refilled_bucket c m z.time) enough)
+        rw (take_is, taken_is (refilled_bucket c m z.time) enough)
 
 -- the Allows of a log are its charges
 allows_charged : (from to : ℕ) (log : List Allow) → allows from to log ≡ charged (λ z. 1) from to log

@@ -107,8 +107,8 @@ module _ (s : State) (out : List ℕ) (n : ℕ) (written : List ℕ) (write : Wr
 
   module _ (bytes : Bytes s.memory) (free : Bytes before) (t : State) (read : ReadMeets first (take n written) before (Made.Policy t.policy) t.memory) where
     -- What is read is the policy that was written, with the same rows, and sound.
-    pub written-reads : Alike s t
-    written-reads = RoundTripLaws.written-reads s.policy s.memory out n written write fits before t.memory bytes free t.policy read
+    pub written_reads : Alike s t
+    written_reads = RoundTripLaws.written_reads s.policy s.memory out n written write fits before t.memory bytes free t.policy read
 
     -- And it is the same policy in every use that can be made of it: any later calls, with any times, say the same on both and leave the same
     -- rows, and whatever is written later is answered the same and is the same bytes.

@@ -2,13 +2,15 @@
 //
 // A `Pubkey` is any 33 bytes and an `OutPoint` any 36: what needs the curve stays behind. Keys compare byte by byte from the
 // first, limiter keys by peer, OutPoint and side. Every function takes any arguments and is refused nothing.
+#![tactic(auto)]
+
 pub mod order;
 
 ghost use Rattle.std.specs.Prelude.{◌≡◌};
 ghost use Rattle.pubkey.specs.Order.{◌then◌, compare_bytes, compare_sides, compare_limiter_keys, limiter_key, limiter_key_bytes, side_byte};
 
 // The answer of a comparison, as `std::cmp::Ordering` has it.
-#[derive(Drop)]
+#[derive(Clone, Copy)]
 pub enum Ordering {
     Less,
     Equal,
@@ -19,19 +21,19 @@ pub enum Ordering {
 pub const PUBKEY_SIZE: usize = 33;
 
 // A peer's public key in its compressed form.
-#[derive(Drop)]
+#[derive(Clone, Copy)]
 pub struct Pubkey {
     pub bytes: [u8; PUBKEY_SIZE],
 }
 
 // A channel's place on chain: a transaction hash of 32 bytes and an index of 4 (CKB's molecule schema).
-#[derive(Drop)]
+#[derive(Clone, Copy)]
 pub struct OutPoint {
     pub bytes: [u8; 36],
 }
 
 // What channel updates are counted by: who sent them, for which channel, for which of its two sides.
-#[derive(Drop)]
+#[derive(Clone, Copy)]
 pub struct ChannelUpdateLimiterKey {
     pub peer: Pubkey,
     pub channel_outpoint: OutPoint,

@@ -4,6 +4,8 @@
 // stands with each call.
 
 // The lent table is shorter than its limit, or the output shorter than what is written.
+#![tactic(auto)]
+
 pub const TOO_SHORT: u32 = 1;
 // A table's limit is above 1,024 rows.
 pub const LIMIT_TOO_LARGE: u32 = 2;

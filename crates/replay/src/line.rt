@@ -10,7 +10,7 @@ use decimal::MOST_DIGITS;
 // How many bytes a line has room for.
 pub const LINE_SIZE: usize = 160;
 
-#[derive(Drop)]
+#[derive(Clone, Copy)]
 pub struct Line {
     pub bytes: [u8; LINE_SIZE],
     pub used: usize,

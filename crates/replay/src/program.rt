@@ -5,7 +5,7 @@ use super::record::{RECORD_SIZE, Record};
 use standard::Input;
 
 // What standard input holds next. `Cut` is an end within a record.
-#[derive(Drop)]
+#[derive(Clone, Copy)]
 pub enum Next {
     Whole(Record),
     Cut,

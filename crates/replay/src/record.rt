@@ -9,7 +9,7 @@ use lent_bytes::number::{get_u64, put_u64};
 // Eight words of eight bytes.
 pub const RECORD_SIZE: usize = 64;
 
-#[derive(Drop)]
+#[derive(Clone, Copy)]
 pub struct Record {
     pub operation: u64,
     pub first: u64,

@@ -1,6 +1,8 @@
 // Answers the recorded calls on amounts: a record of standard input names an operation and its operands, a line of standard
 // output gives what crate `amount` answers. `oracle/record` wrote both files, from Rust's own i128 and u128; `oracle/README.md`
 // lists the operations.
+#![tactic(auto)]
+
 use amount::Amount;
 use replay::line::Line;
 use replay::program::Next;

@@ -6,7 +6,7 @@ use replay::record::Record;
 use token_bucket::bytes::{ByteRateLimitConfig, ByteTokenBucket};
 
 // The bucket after a step, and what the step answered.
-#[derive(Drop)]
+#[derive(Clone, Copy)]
 pub struct ByteStep {
     pub bucket: ByteTokenBucket,
     pub line: Line,

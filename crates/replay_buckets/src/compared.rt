@@ -13,7 +13,7 @@ pub(crate) fn agreed(line: Line, same: bool) -> Line {
 }
 
 // An answer as two numbers: which of its cases it is, and what that case says.
-#[derive(Drop)]
+#[derive(Clone, Copy)]
 struct Spoken {
     case: u8,
     value: u64,

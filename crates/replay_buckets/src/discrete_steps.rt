@@ -5,7 +5,7 @@ use replay::record::Record;
 use token_bucket::discrete::DiscreteTokenBucket;
 
 // The bucket after a step, and what the step answered.
-#[derive(Drop)]
+#[derive(Clone, Copy)]
 pub struct DiscreteStep {
     pub bucket: DiscreteTokenBucket,
     pub line: Line,

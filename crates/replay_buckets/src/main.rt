@@ -2,6 +2,8 @@
 // gives what crate `token_bucket` answers and the bucket after it. `oracle/record` wrote both files, from the unchanged Rust;
 // `oracle/README.md` lists the steps. A step that changes a bucket is run by value and on a lent copy, and a line says so where the
 // two differ.
+#![tactic(auto)]
+
 mod answers;
 mod byte_steps;
 mod compared;
@@ -16,14 +18,14 @@ use token_bucket::bytes::{ByteRateLimitConfig, ByteTokenBucket};
 use token_bucket::discrete::DiscreteTokenBucket;
 
 // The two buckets that the steps drive.
-#[derive(Drop)]
+#[derive(Clone, Copy)]
 struct Buckets {
     discrete: DiscreteTokenBucket,
     bytes: ByteTokenBucket,
 }
 
 // The buckets after a record, and whether to go on.
-#[derive(Drop)]
+#[derive(Clone, Copy)]
 struct Progress {
     buckets: Buckets,
     more: bool,

@@ -9,7 +9,7 @@ use replay::line::Line;
 use replay::record::{Record, low_half};
 
 // What is held after a call, the number that it answered, and its value.
-#[derive(Drop)]
+#[derive(Clone, Copy)]
 struct Called {
     held: Held,
     number: u32,

@@ -3,7 +3,7 @@ use lent_bytes::number::{put_u32, put_u64};
 use replay::line::Line;
 use replay::record::{Record, high_half, key_of, low_half};
 
-#[derive(Drop)]
+#[derive(Clone, Copy)]
 pub struct Held {
     pub longs: [u64; 10],
     pub shorts: [u32; 6],
@@ -14,7 +14,7 @@ pub struct Held {
 }
 
 // What is held after a record, and the line that answers it.
-#[derive(Drop)]
+#[derive(Clone, Copy)]
 pub struct Answer {
     pub held: Held,
     pub line: Line,

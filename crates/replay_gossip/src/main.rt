@@ -2,6 +2,8 @@
 // standard output gives what the C functions of crates `c_bans`, `c_limiter` and `c_gossip` answer: the answer, its value, the rows of both tables, and a checksum of
 // the words and of every lent byte after the call. `oracle/record` wrote both files, from the unchanged Rust; what each record does stands
 // at the top of `oracle/checks/src/lists/gossip.rs`.
+#![tactic(auto)]
+
 mod calls;
 mod checksum;
 mod held;
@@ -14,7 +16,7 @@ use replay::program::Next;
 use replay::record::Record;
 
 // What is held after a record, and whether to go on.
-#[derive(Drop)]
+#[derive(Clone, Copy)]
 struct Progress {
     held: Held,
     more: bool,

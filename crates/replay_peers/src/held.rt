@@ -3,7 +3,7 @@ use peer_message_policy::policy::PeerMessagePolicy;
 use peer_settings::config::PeerMessagePolicyConfig;
 use replay::line::Line;
 
-#[derive(Drop)]
+#[derive(Clone, Copy)]
 pub struct Held {
     pub policy: PeerMessagePolicy,
     pub next: PeerMessagePolicyConfig,
@@ -11,7 +11,7 @@ pub struct Held {
 }
 
 // What is held after a record, and the beginning of the line that answers it.
-#[derive(Drop)]
+#[derive(Clone, Copy)]
 pub struct Answer {
     pub held: Held,
     pub line: Line,

@@ -1,6 +1,8 @@
 // Replays recorded calls of the peers' policy: a record of standard input names a call and its operands, a line of standard output
 // gives what crate `peer_message_policy` answers, the numbers in flight, the number of rows and a checksum of the settings and of every
 // lent byte after the call. `oracle/record` wrote both files, from the unchanged Rust; `oracle/README.md` lists the records.
+#![tactic(auto)]
+
 mod calls;
 mod checksum;
 mod held;
@@ -13,7 +15,7 @@ use replay::program::Next;
 use replay::record::Record;
 
 // What is held after a record, and whether to go on.
-#[derive(Drop)]
+#[derive(Clone, Copy)]
 struct Progress {
     held: Held,
     more: bool,

@@ -2,6 +2,8 @@
 // answers, a line a step. The file `stdout` holds what the samples say, written by hand.
 //
 // A record of standard input is a sample: its letter, then its numbers in the order in which the steps below read them.
+#![tactic(auto)]
+
 mod byte_steps;
 mod discrete_steps;
 

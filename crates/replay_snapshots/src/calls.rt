@@ -11,26 +11,26 @@ const ANY: u32 = 9;
 const ANY_BYTE: u8 = 9;
 
 // What each call answered, and what it left.
-#[derive(Drop)]
+#[derive(Clone, Copy)]
 struct Policy {
     number: u32,
     longs: [u64; 8],
     shorts: [u32; 4],
 }
 
-#[derive(Drop)]
+#[derive(Clone, Copy)]
 struct Written {
     number: u32,
     length: u64,
 }
 
-#[derive(Drop)]
+#[derive(Clone, Copy)]
 struct Place {
     number: u32,
     words: [u64; 2],
 }
 
-#[derive(Drop)]
+#[derive(Clone, Copy)]
 struct Row {
     number: u32,
     key: [u8; 33],

@@ -2,6 +2,8 @@
 // line of standard output gives what the four C functions of crate `c_snapshot` answer, and a checksum of all that was lent to them.
 // `oracle/record` wrote both files, from states of the unchanged Rust; what a record does stands at the top of
 // `oracle/checks/src/lists/snapshots.rs`.
+#![tactic(auto)]
+
 mod calls;
 mod checksum;
 

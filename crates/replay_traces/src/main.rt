@@ -3,6 +3,8 @@
 // from the unchanged Rust.
 //
 // The table is lent from one trace to the next as it was left: what the scan hands out does not depend on what the table held.
+#![tactic(auto)]
+
 mod parts;
 
 use parts::Part;

@@ -3,7 +3,7 @@ use lent_bytes::number::get_u64;
 use standard::Input;
 
 // A trace of this length was read; the input ended in the middle of one; or it ended, or failed, behind the last.
-#[derive(Drop)]
+#[derive(Clone, Copy)]
 pub enum Part {
     Whole(usize),
     Cut,

@@ -74,30 +74,30 @@ module _ (f : Form) where
 
   module _ (z : List ℕ) (c : PeerMessagePolicyConfig) (h : settings_in f z ≡ ReadSettings.Read c) where
     -- the bytes are laid out
-    pub read-laid : laid_out z (form_slots f (rows_in f z)) ≡ true
+    pub read_laid : laid_out z (form_slots f (rows_in f z)) ≡ true
     unfolding settings_in
-    read-laid = (read_is (laid_out z (form_slots f (rows_in f z))) (settings_of (part z (settings_place f) settings_size)) h).0
+    read_laid = (read_is (laid_out z (form_slots f (rows_in f z))) (settings_of (part z (settings_place f) settings_size)) h).0
 
     -- the settings stand in their place
-    pub read-settings : settings_of (part z (settings_place f) settings_size) ≡ ReadSettings.Read c
+    pub read_settings : settings_of (part z (settings_place f) settings_size) ≡ ReadSettings.Read c
     unfolding settings_in
-    read-settings = (read_is (laid_out z (form_slots f (rows_in f z))) (settings_of (part z (settings_place f) settings_size)) h).1
+    read_settings = (read_is (laid_out z (form_slots f (rows_in f z))) (settings_of (part z (settings_place f) settings_size)) h).1
 
     -- the bytes end with what stands behind the last row
     pub read_length : FormFits f → length z ≡ rows_place f + row_width * rows_in f z + total f.behind
-    read_length fits = laid_length fits z read-laid
+    read_length fits = laid_length fits z read_laid
 
   -- ════ A policy that was judged ════
 
   module _ (z : List ℕ) (c : PeerMessagePolicyConfig) where
     -- a limit that is too large
-    pub limit-refused : 1024 < c.max_tracked_peers → config_in f z (ReadSettings.Read c) ≡ Made.Refused limit_too_large
-    limit-refused h = rw (lt-ltb 1024 c.max_tracked_peers h)
+    pub limit_refused : 1024 < c.max_tracked_peers → config_in f z (ReadSettings.Read c) ≡ Made.Refused limit_too_large
+    limit_refused h = rw (lt-ltb 1024 c.max_tracked_peers h)
 
     module _ (h : c.max_tracked_peers ≤ 1024) where
       -- messages in flight that are out of their range
-      pub load-refused : load_of (part z (load_place f) load_size) ≡ ReadLoad.OutOfRange → config_in f z (ReadSettings.Read c) ≡ Made.Refused unsound
-      load-refused l = rw (le-ltb 1024 c.max_tracked_peers h) (ap (load_in f z c) l)
+      pub load_refused : load_of (part z (load_place f) load_size) ≡ ReadLoad.OutOfRange → config_in f z (ReadSettings.Read c) ≡ Made.Refused unsound
+      load_refused l = rw (le-ltb 1024 c.max_tracked_peers h) (ap (load_in f z c) l)
 
       -- the record with the load that was read is judged
       pub load_told : (i : FiberIngressBudget) → load_of (part z (load_place f) load_size) ≡ ReadLoad.Read i
@@ -106,22 +106,22 @@ module _ (f : Form) where
 
   module _ (z : List ℕ) (p : PeerMessagePolicy) where
     -- a record that breaks its own rules
-    pub record-refused : policy_sound p ≡ false → record_in f z p ≡ Made.Refused unsound
+    pub record_refused : policy_sound p ≡ false → record_in f z p ≡ Made.Refused unsound
     unfolding record_in
-    record-refused h = rw h
+    record_refused h = rw h
 
     module _ (h : policy_sound p ≡ true) where
-      judged-by : {b : Bool} → rows_sound p (drop (rows_place f) z) ≡ b → record_in f z p ≡ cond b (Made.Policy p) (Made.Refused unsound)
+      judged_by : {b : Bool} → rows_sound p (drop (rows_place f) z) ≡ b → record_in f z p ≡ cond b (Made.Policy p) (Made.Refused unsound)
       unfolding record_in
-      judged-by k = (λ d. cond (h d && k d) (Made.Policy p) (Made.Refused unsound))
+      judged_by k = (λ d. cond (h d && k d) (Made.Policy p) (Made.Refused unsound))
 
       -- rows that are unsound
-      pub rows-refused : rows_sound p (drop (rows_place f) z) ≡ false → record_in f z p ≡ Made.Refused unsound
-      rows-refused k = judged-by k
+      pub rows_refused : rows_sound p (drop (rows_place f) z) ≡ false → record_in f z p ≡ Made.Refused unsound
+      rows_refused k = judged_by k
 
       -- a sound record with sound rows
-      pub record-taken : rows_sound p (drop (rows_place f) z) ≡ true → record_in f z p ≡ Made.Policy p
-      record-taken k = judged-by k
+      pub record_taken : rows_sound p (drop (rows_place f) z) ≡ true → record_in f z p ≡ Made.Policy p
+      record_taken k = judged_by k
 
   -- ════ A policy that was read ════
 

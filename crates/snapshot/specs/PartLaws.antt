@@ -16,7 +16,7 @@ use Rattle.snapshot.specs.declared.answer.PartPlace.TheVariants as PartPlace
 use Rattle.snapshot.specs.Form.{Form, form_slots, rows_in}
 use Rattle.snapshot.specs.Snapshot.{settings_in, placed, part_of}
 use Rattle.snapshot.specs.Snapshot.{kind_place, part_place}
-use Rattle.snapshot.specs.JudgeLaws.{read-laid}
+use Rattle.snapshot.specs.JudgeLaws.{read_laid}
 
 -- ════ A part that was asked for ════
 
@@ -29,7 +29,7 @@ module _ (f : Form) where
   place_is : (z : List ℕ) (kind : ℕ) (x : ReadSettings) (a e : ℕ) → settings_in f z ≡ x → kind_place f z kind x ≡ PartPlace.At a e
       → (laid_out z (form_slots f (rows_in f z)) ≡ true) × (placed (place_of kind (form_slots f (rows_in f z))) ≡ PartPlace.At a e)
   place_is z kind ReadSettings.OutOfRange a e s h = (cc, cc)
-  place_is z kind (ReadSettings.Read c) a e s h = (read-laid f z c s, h)
+  place_is z kind (ReadSettings.Read c) a e s h = (read_laid f z c s, h)
 
   -- a part stands within the snapshot
   pub part_within : (z : List ℕ) (kind a e : ℕ) → part_place f z kind ≡ PartPlace.At a e → (a ≤ e) × (e ≤ length z)

@@ -24,9 +24,9 @@ module _ (f : Form) where
 
   module _ (z before : List ℕ) where
     -- a snapshot that is refused by itself
-    pub read-refused : (n : ℕ) → policy_in f z ≡ Made.Refused n → ReadMeets f z before (Made.Refused n) before
+    pub read_refused : (n : ℕ) → policy_in f z ≡ Made.Refused n → ReadMeets f z before (Made.Refused n) before
     unfolding ReadMeets read_outcome
-    read-refused n h = rw h (record { answers = refl; leaves = refl })
+    read_refused n h = rw h (record { answers = refl; leaves = refl })
 
     module _ (p : PeerMessagePolicy) (h : policy_in f z ≡ Made.Policy p) where
       -- a table that is too short

@@ -40,9 +40,9 @@ module _ (p : PeerMessagePolicy) (s out : List ℕ) where
 
   module _ (h : sound p s ≡ true) where
     -- an output that is too short
-    pub write-short : length out < snapshot_length first p → WriteMeets p s out (Written.Refused too_short) out
+    pub write_short : length out < snapshot_length first p → WriteMeets p s out (Written.Refused too_short) out
     unfolding write_outcome
-    write-short l = let short = lt-leb (snapshot_length first p) (length out) l in record { answers = rw (h, short); leaves = rw (h, short) }
+    write_short l = let short = lt-leb (snapshot_length first p) (length out) l in record { answers = rw (h, short); leaves = rw (h, short) }
 
     -- an output that is long enough
     pub write_done : snapshot_length first p ≤ length out → (n : ℕ) → n ≡ snapshot_length first p → (t : List ℕ) → t ≡ put out 0 (snapshot_bytes first p s [])

@@ -2,14 +2,14 @@
 // answers as making a policy does.
 
 // How many bytes of the output became the snapshot.
-#[derive(Drop)]
+#[derive(Clone, Copy)]
 pub enum Written {
     Length(usize),
     Refused(u32),
 }
 
 // From where to where a part goes; the end is behind its last byte.
-#[derive(Drop)]
+#[derive(Clone, Copy)]
 pub enum PartPlace {
     At(usize, usize),
     Refused(u32),

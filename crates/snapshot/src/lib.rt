@@ -2,6 +2,8 @@
 //
 // A snapshot is bytes that anyone may have made: every function takes any bytes at all, over any lent memory, and a refused call changes
 // no byte.
+#![tactic(auto)]
+
 pub mod answer;
 mod copy;
 mod form;

@@ -33,7 +33,7 @@ use Rattle.snapshot_settings.specs.LoadLaws.{load_write_back}
 use Rattle.snapshot.specs.Form.{Form, parts, pieces, total, lengths_of, form_slots, settings_place, load_place, rows_place, FormFits}
 use Rattle.snapshot.specs.FormLaws.{form_count, cut_slots}
 use Rattle.snapshot.specs.Snapshot.{policy_parts, snapshot_bytes, limit_of, policy_in, restored, read_outcome, ReadMeets}
-use Rattle.snapshot.specs.JudgeLaws.{read-laid, read-settings, Describes, policy_describes, describes_length}
+use Rattle.snapshot.specs.JudgeLaws.{read_laid, read_settings, Describes, policy_describes, describes_length}
 
 -- ════ A read that was not refused ════
 
@@ -46,39 +46,39 @@ module _ (f : Form) where
 
   module _ (z before : List ℕ) (q : PeerMessagePolicy) (after : List ℕ) where
     -- by the table's length
-    fitted-is : (p : PeerMessagePolicy) → policy_in f z ≡ Made.Policy p → (b : Bool) → long_enough p.config before ≡ b
+    fitted_is : (p : PeerMessagePolicy) → policy_in f z ≡ Made.Policy p → (b : Bool) → long_enough p.config before ≡ b
         → Meets (Made.Policy q) before after (limit p.config)
         (cond b (record { answer = Made.Policy p; change = become (rows_of p (drop (rows_place f) z)) }) (refuse (Made.Refused too_short)))
         → Restored z before q after
-    fitted-is p h false l m = let no : Made.Policy q ≡ Made.Refused too_short = m.answers in let z : ◌≡◌ {A = ℕ} 0 1 = cc in absurd (omega arith)
-    fitted-is p h true l m =
+    fitted_is p h false l m = let no : Made.Policy q ≡ Made.Refused too_short = m.answers in let z : ◌≡◌ {A = ℕ} 0 1 = cc in absurd (omega arith)
+    fitted_is p h true l m =
         let same : Made.Policy q ≡ Made.Policy p = m.answers in
         let is : p ≡ q = cc in
         subst (λ (x : PeerMessagePolicy). Restored z before x after) is
         (record { described = policy_describes f z p h; long = leb-true (row_width * limit p.config) (length before) l; held = m.leaves })
 
     -- by what the snapshot holds
-    restored-is : (x : Made) → policy_in f z ≡ x → Meets (Made.Policy q) before after (limit_of x) (restored f z before x) → Restored z before q after
-    restored-is (Made.Refused n) h m = let no : Made.Policy q ≡ Made.Refused n = m.answers in let z : ◌≡◌ {A = ℕ} 0 1 = cc in absurd (omega arith)
-    restored-is (Made.Policy p) h m = fitted-is p h (long_enough p.config before) refl m
+    restored_is : (x : Made) → policy_in f z ≡ x → Meets (Made.Policy q) before after (limit_of x) (restored f z before x) → Restored z before q after
+    restored_is (Made.Refused n) h m = let no : Made.Policy q ≡ Made.Refused n = m.answers in let z : ◌≡◌ {A = ℕ} 0 1 = cc in absurd (omega arith)
+    restored_is (Made.Policy p) h m = fitted_is p h (long_enough p.config before) refl m
 
     -- what a read that answers a policy leaves
-    pub read-restored : ReadMeets f z before (Made.Policy q) after → Restored z before q after
+    pub read_restored : ReadMeets f z before (Made.Policy q) after → Restored z before q after
     unfolding ReadMeets read_outcome
-    read-restored m = restored-is (policy_in f z) refl m
+    read_restored m = restored_is (policy_in f z) refl m
 
     module _ (r : Restored z before q after) where
       -- the rows that are read back are those of the snapshot
-      pub restored-rows : rows_of q after ≡ rows_of q (drop (rows_place f) z)
-      restored-rows =
+      pub restored_rows : rows_of q after ≡ rows_of q (drop (rows_place f) z)
+      restored_rows =
           ap (rows peer_layout after) (sym (length_rows peer_layout (drop (rows_place f) z) q.rows)) ∙ r.held.reads
 
 module _ (f : Form) (fits : FormFits f) where
   -- ════ Bytes that describe a policy ════
 
   module _ (z : List ℕ) (q : PeerMessagePolicy) (s : List ℕ) (b : Bytes z) (d : Describes f z q) (front : take (row_width * q.rows) s ≡ part z (rows_place f) (row_width * q.rows)) where
-    laid-here : laid_out z (form_slots f q.rows) ≡ true
-    laid-here = ap (λ (n : ℕ). laid_out z (form_slots f n)) d.count ∙ read-laid f z q.config d.settings
+    laid_here : laid_out z (form_slots f q.rows) ≡ true
+    laid_here = ap (λ (n : ℕ). laid_out z (form_slots f n)) d.count ∙ read_laid f z q.config d.settings
 
     parts_again : policy_parts f q s (pieces z (rows_place f + row_width * q.rows) f.behind) ≡ cut z (form_slots f q.rows)
     unfolding policy_parts cut
@@ -86,7 +86,7 @@ module _ (f : Form) (fits : FormFits f) where
         let whole : length z ≡ rows_place f + row_width * q.rows + total f.behind = describes_length f fits z q d in
         let settings : settings_bytes q.config ≡ part z (settings_place f) settings_size =
         settings_write_back (part z (settings_place f) settings_size) q.config (Bytes_part z (settings_place f) settings_size b)
-        (length_part z (settings_place f) settings_size (omega arith)) (read-settings f z q.config d.settings) in
+        (length_part z (settings_place f) settings_size (omega arith)) (read_settings f z q.config d.settings) in
         let load : load_bytes q.ingress ≡ part z (load_place f) load_size =
         load_write_back (part z (load_place f) load_size) q.ingress (Bytes_part z (load_place f) load_size b)
         (length_part z (load_place f) load_size (omega arith)) d.load in
@@ -95,9 +95,9 @@ module _ (f : Form) (fits : FormFits f) where
         ∙ ap (λ (n : ℕ). cut_from z (contents_size n) (form_slots f q.rows)) (sym (form_count f fits q.rows))
 
     -- bytes that describe a policy are its snapshot, with the bodies that stand behind the rows
-    pub describes-bytes : snapshot_bytes f q s (pieces z (rows_place f + row_width * q.rows) f.behind) ≡ z
+    pub describes_bytes : snapshot_bytes f q s (pieces z (rows_place f + row_width * q.rows) f.behind) ≡ z
     unfolding snapshot_bytes
-    describes-bytes = ap snapshot_of parts_again ∙ sym (accepted_is z (form_slots f q.rows) b laid-here)
+    describes_bytes = ap snapshot_of parts_again ∙ sym (accepted_is z (form_slots f q.rows) b laid_here)
 
   -- ════ What a read leaves ════
 
@@ -110,36 +110,36 @@ module _ (f : Form) (fits : FormFits f) where
       rows_fit = fit_rows peer_faithful (drop (rows_place f) z) q.rows b rows_inside
 
       -- the table keeps its length
-      pub restored-length : length after ≡ length before
-      restored-length =
+      pub restored_length : length after ≡ length before
+      restored_length =
           let few = (record_holds q r.described.own).few in
           ap length r.held.memory
           ∙ memory.length_laid peer_faithful before (limit q.config) (rows_of q (drop (rows_place f) z)) rows_fit r.long
           (omega (arith, few, r.long, length_rows peer_layout (drop (rows_place f) z) q.rows))
 
       -- the table holds bytes
-      pub restored-bytes : Bytes before → Bytes after
-      restored-bytes h =
+      pub restored_bytes : Bytes before → Bytes after
+      restored_bytes h =
           rw r.held.memory (memory.Bytes_laid peer_faithful before (limit q.config) (rows_of q (drop (rows_place f) z)) rows_fit h)
 
       -- policy and table are sound
-      pub restored-sound : sound q after ≡ true
-      restored-sound =
+      pub restored_sound : sound q after ≡ true
+      restored_sound =
           let c = q.config in
           let w : List ℕ = drop (rows_place f) z in
           let parts = both_parts (every (peer_sound c) (rows_of q w)) (ascending (rows_of q w)) r.described.sound_rows in
           holds_policy q after
           (record {
             own = record_holds q r.described.own;
-            long = omega (arith, restored-length, r.long);
-            rules = ap (every (peer_sound c)) (restored-rows f z before q after r) ∙ parts.0;
-            order = ap (λ (rs : Peers). ascending rs) (restored-rows f z before q after r) ∙ parts.1;
+            long = omega (arith, restored_length, r.long);
+            rules = ap (every (peer_sound c)) (restored_rows f z before q after r) ∙ parts.0;
+            order = ap (λ (rs : Peers). ascending rs) (restored_rows f z before q after r) ∙ parts.1;
           })
 
       -- the table begins with the snapshot's rows
-      pub restored-front : take (row_width * q.rows) after ≡ part z (rows_place f) (row_width * q.rows)
+      pub restored_front : take (row_width * q.rows) after ≡ part z (rows_place f) (row_width * q.rows)
       unfolding laid part
-      restored-front =
+      restored_front =
           let w : List ℕ = drop (rows_place f) z in
           let rs : Peers = rows_of q w in
           let n : length rs ≡ q.rows = length_rows peer_layout w q.rows in
@@ -150,5 +150,5 @@ module _ (f : Form) (fits : FormFits f) where
           ∙ table_bytes_rows peer_faithful w q.rows b rows_inside
 
     -- the snapshot of the policy that was read, with the bodies that stood behind its rows, is the snapshot that it was read from
-    pub bytes-again : Bytes z → snapshot_bytes f q after (pieces z (rows_place f + row_width * q.rows) f.behind) ≡ z
-    bytes-again b = describes-bytes z q after b r.described (restored-front (Bytes_drop (rows_place f) z b))
+    pub bytes_again : Bytes z → snapshot_bytes f q after (pieces z (rows_place f + row_width * q.rows) f.behind) ≡ z
+    bytes_again b = describes_bytes z q after b r.described (restored_front (Bytes_drop (rows_place f) z b))

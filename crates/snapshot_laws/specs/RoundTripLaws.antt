@@ -23,9 +23,9 @@ use Rattle.snapshot.specs.FormLaws.{first_fits}
 use Rattle.snapshot.specs.Snapshot.{snapshot_bytes, snapshot_length, WriteOutcome, write_outcome, WriteMeets, restored, read_outcome, ReadMeets}
 use Rattle.snapshot.specs.JudgeLaws.{describes_policy, describes_length}
 use Rattle.snapshot.specs.WriteLaws.{write_done, write_one}
-use Rattle.snapshot_laws.specs.WrittenLaws.{written_length, written_tail, written_rows, written-policy}
+use Rattle.snapshot_laws.specs.WrittenLaws.{written_length, written_tail, written_rows, written_policy}
 use Rattle.snapshot_laws.specs.Alike.{Alike}
-use Rattle.snapshot_laws.specs.ReadLaws.{Restored, read-restored, restored-rows, restored-sound, restored-bytes, bytes-again}
+use Rattle.snapshot_laws.specs.ReadLaws.{Restored, read_restored, restored_rows, restored_sound, restored_bytes, bytes_again}
 
 -- an answer that goes by a test
 chosen : (p : PeerMessagePolicy) (b : Bool) (change : Change)
@@ -42,21 +42,21 @@ module _ (f : Form) (fits : FormFits f) (p : PeerMessagePolicy) (s : List ℕ) (
       → ReadMeets f (snapshot_bytes f p s behind) before (Made.Policy q) after → Alike (record { policy = p; memory = s }) (record { policy = q; memory = after })
   snapshot_reads b more free q read =
       let z : List ℕ = snapshot_bytes f p s behind in
-      let r : Restored f z before q after = read-restored f z before q after read in
-      let both : Made.Policy q ≡ Made.Policy p = sym (describes_policy f z q r.described) ∙ written-policy f fits p s h behind e numbers in
+      let r : Restored f z before q after = read_restored f z before q after read in
+      let both : Made.Policy q ≡ Made.Policy p = sym (describes_policy f z q r.described) ∙ written_policy f fits p s h behind e numbers in
       let is : q ≡ p = cc in
       let bytes : Bytes (drop (rows_place f) z) =
       subst Bytes (sym (written_tail f fits p s h behind e)) (Bytes_append (take (row_width * p.rows) s) (joined behind) (Bytes_take (row_width * p.rows) s b) more) in
       record {
         policy = is;
         rows =
-            restored-rows f z before q after r
+            restored_rows f z before q after r
             ∙ ap (λ (x : PeerMessagePolicy). rows_of x (drop (rows_place f) z)) is
             ∙ written_rows f fits p s h behind e;
         first_sound = h;
-        second_sound = restored-sound f fits z before q after r bytes;
+        second_sound = restored_sound f fits z before q after r bytes;
         first_bytes = b;
-        second_bytes = restored-bytes f fits z before q after r bytes free;
+        second_bytes = restored_bytes f fits z before q after r bytes free;
       }
 
   -- it is refused with 1 alone, by a table that is too short
@@ -66,7 +66,7 @@ module _ (f : Form) (fits : FormFits f) (p : PeerMessagePolicy) (s : List ℕ) (
   snapshot_answers r read =
       let z : List ℕ = snapshot_bytes f p s behind in
       read.answers
-      ∙ ap (λ (x : Made). (restored f z before x).answer) (written-policy f fits p s h behind e numbers)
+      ∙ ap (λ (x : Made). (restored f z before x).answer) (written_policy f fits p s h behind e numbers)
       ∙ chosen p (long_enough p.config before) (become (rows_of p (drop (rows_place f) z)))
 
 -- ════ A write that was not refused ════
@@ -118,9 +118,9 @@ module _ (p : PeerMessagePolicy) (s out : List ℕ) (n : ℕ) (out' : List ℕ) 
 
   module _ (fits : PolicyFits p) (before after : List ℕ) where
     -- what was written and is read is the same policy
-    pub written-reads : Bytes s → Bytes before → (q : PeerMessagePolicy) → ReadMeets first (take n out') before (Made.Policy q) after
+    pub written_reads : Bytes s → Bytes before → (q : PeerMessagePolicy) → ReadMeets first (take n out') before (Made.Policy q) after
         → Alike (record { policy = p; memory = s }) (record { policy = q; memory = after })
-    written-reads b free q read =
+    written_reads b free q read =
         snapshot_reads first first_fits p s wrote.is_sound [] refl fits before after b Bytes_nil free q
         (subst (λ (z : List ℕ). ReadMeets first z before (Made.Policy q) after) front_is read)
 
@@ -138,10 +138,10 @@ pub read_writes : (z before after : List ℕ) (q : PeerMessagePolicy) → Bytes 
     → (out : List ℕ) → length z ≤ length out → (r : Written) (out' : List ℕ) → WriteMeets q after out r out'
     → (r ≡ Written.Length (length z)) × (out' ≡ put out 0 z)
 read_writes z before after q b read out long r out' m =
-    let back : Restored first z before q after = read-restored first z before q after read in
+    let back : Restored first z before q after = read_restored first z before q after read in
     let tail : Bytes (drop (rows_place first) z) = Bytes_drop (rows_place first) z b in
     let size : length z ≡ rows_place first + row_width * q.rows = omega (arith, describes_length first first_fits z q back.described) in
-    let again : snapshot_bytes first q after [] ≡ z = bytes-again first first_fits z before q after back b in
-    let done = write_done q after out (restored-sound first first_fits z before q after back tail) (omega arith) (length z) (omega arith) (put out 0 (snapshot_bytes first q after [])) refl in
+    let again : snapshot_bytes first q after [] ≡ z = bytes_again first first_fits z before q after back b in
+    let done = write_done q after out (restored_sound first first_fits z before q after back tail) (omega arith) (length z) (omega arith) (put out 0 (snapshot_bytes first q after [])) refl in
     let one = write_one q after out m done in
     (one.0, one.1 ∙ ap (put out 0) again)

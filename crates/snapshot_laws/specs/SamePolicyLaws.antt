@@ -27,7 +27,7 @@ use Rattle.snapshot.specs.Form.{Form, first, parts}
 use Rattle.snapshot.specs.Snapshot.{policy_parts, snapshot_bytes, snapshot_length, WriteOutcome, write_outcome, WriteMeets, ReadMeets}
 use Rattle.snapshot.specs.WriteLaws.{sound_rows}
 use Rattle.snapshot_laws.specs.Alike.{Alike, Calls, done, next, WrittenAlike, SamePolicy}
-use Rattle.snapshot_laws.specs.RoundTripLaws.{wrote, front_is, written-reads}
+use Rattle.snapshot_laws.specs.RoundTripLaws.{wrote, front_is, written_reads}
 
 -- ════ Calls ════
 
@@ -116,4 +116,4 @@ pub same_policy : (p : PeerMessagePolicy) (s out : List ℕ) (n : ℕ) (out' : L
     → (before after : List ℕ) → Bytes s → Bytes before → (q : PeerMessagePolicy) → ReadMeets first (take n out') before (Made.Policy q) after
     → SamePolicy (record { policy = p; memory = s }) (record { policy = q; memory = after })
 same_policy p s out n out' m fits before after b c q read =
-    alike_same (record { policy = p; memory = s }) (record { policy = q; memory = after }) (written-reads p s out n out' m fits before after b c q read)
+    alike_same (record { policy = p; memory = s }) (record { policy = q; memory = after }) (written_reads p s out n out' m fits before after b c q read)

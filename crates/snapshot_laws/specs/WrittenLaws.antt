@@ -113,9 +113,9 @@ module _ (f : Form) (fits : FormFits f) (p : PeerMessagePolicy) (s : List ℕ) (
 
   module _ (numbers : PolicyFits p) where
     -- the snapshot describes the policy
-    pub written-describes : Describes f (snapshot_bytes f p s behind) p
+    pub written_describes : Describes f (snapshot_bytes f p s behind) p
     unfolding settings_in
-    written-describes =
+    written_describes =
         let holds = policy_holds p s h in
         record {
           settings =
@@ -131,5 +131,5 @@ module _ (f : Form) (fits : FormFits f) (p : PeerMessagePolicy) (s : List ℕ) (
         }
 
     -- so it is judged to hold it
-    pub written-policy : policy_in f (snapshot_bytes f p s behind) ≡ Made.Policy p
-    written-policy = describes_policy f z p written-describes
+    pub written_policy : policy_in f (snapshot_bytes f p s behind) ≡ Made.Policy p
+    written_policy = describes_policy f z p written_describes

@@ -60,14 +60,14 @@ module _ (ks ns : List ℕ) (i : ℕ) (h : i < length ks) (e : length ns ≡ len
         ∙ ap (λ (t : Bool). t && says_from s (slot_place (i + 1)) (from + get_or ns i 0) (slots_left ks ns (i + 1))) (sym e)
 
     -- it is not what the first asks for
-    pub says-not : (b : Bool) → b ≡ slot_says s (slot_place i) from (slot_at ks ns i) → b ≡ false → all ≡ false
-    says-not b e differs =
+    pub says_not : (b : Bool) → b ≡ slot_says s (slot_place i) from (slot_at ks ns i) → b ≡ false → all ≡ false
+    says_not b e differs =
         tested b e ∙ ap (λ (t : Bool). t && says_from s (slot_place (i + 1)) (from + get_or ns i 0) (slots_left ks ns (i + 1))) differs
 
     -- it is, and the others decide
-    pub says-goes-on : (b : Bool) → b ≡ slot_says s (slot_place i) from (slot_at ks ns i) → b ≡ true
+    pub says_goes_on : (b : Bool) → b ≡ slot_says s (slot_place i) from (slot_at ks ns i) → b ≡ true
         → all ≡ says_from s (slot_place (i + 1)) (from + get_or ns i 0) (slots_left ks ns (i + 1))
-    says-goes-on b e agrees =
+    says_goes_on b e agrees =
         tested b e ∙ ap (λ (t : Bool). t && says_from s (slot_place (i + 1)) (from + get_or ns i 0) (slots_left ks ns (i + 1))) agrees
 
     -- the first body ends behind the last byte

@@ -28,17 +28,17 @@ place_within kind qs a e h = within_from kind (contents_size (length qs)) qs a e
 body_from : (s : List ℕ) (kind from : ℕ) (qs : List Slot) (a e : ℕ) → place_from kind from qs ≡ Place.At a e → part s a (e - a) ≡ body_of kind (cut_from s from qs)
 unfolding place_from body_of cut_from
 body_from s kind from [] a e = λ h. cc
-body_from s kind from (q ∷ qs) a e = body-step (eqb q.kind kind) (body_from s kind (from + q.size) qs a e)
+body_from s kind from (q ∷ qs) a e = body_step (eqb q.kind kind) (body_from s kind (from + q.size) qs a e)
   where
-    body-step : {later : List ℕ} (b : Bool) → (place_from kind (from + q.size) qs ≡ Place.At a e → part s a (e - a) ≡ later)
+    body_step : {later : List ℕ} (b : Bool) → (place_from kind (from + q.size) qs ≡ Place.At a e → part s a (e - a) ≡ later)
         → cond b (Place.At from (from + q.size)) (place_from kind (from + q.size) qs) ≡ Place.At a e
         → part s a (e - a) ≡ cond b (part s from q.size) later
-    body-step true rest h =
+    body_step true rest h =
         let f : a ≡ from = cc in
         let g : e ≡ from + q.size = cc in
         let n : e - a ≡ q.size = omega arith in
         rw (n, f)
-    body-step false rest h = rest h
+    body_step false rest h = rest h
 
 -- what stands where a part is found is its body
 pub place_body : (s : List ℕ) (kind : ℕ) (qs : List Slot) (a e : ℕ) → place_of kind qs ≡ Place.At a e → part s a (e - a) ≡ body_of kind (cut s qs)

@@ -5,7 +5,7 @@ ghost use Rattle.snapshot_layout.specs.Layout.{slots, snapshot_size, place_of};
 use super::contents::contents_size;
 
 // From where to where a part's body goes (the end is behind its last byte), or that there is none of its kind.
-#[derive(Drop)]
+#[derive(Clone, Copy)]
 pub enum Place {
     At(usize, usize),
     Absent,

@@ -70,15 +70,15 @@ module _ (z : List ℕ) (at : ℕ) where
     unfolding stands
     stands_place = rw h
 
-    pub stands-before : at < rows_place first → stands z at ≡ false
-    stands-before l = stands_place ∙ rw (lt-leb (rows_place first) at l)
+    pub stands_before : at < rows_place first → stands z at ≡ false
+    stands_before l = stands_place ∙ rw (lt-leb (rows_place first) at l)
 
     module _ (f : rows_place first ≤ at) where
-      pub stands-behind : length z < at → stands z at ≡ false
-      stands-behind l = stands_place ∙ rw (le-leb (rows_place first) at f, lt-leb at (length z) l)
+      pub stands_behind : length z < at → stands z at ≡ false
+      stands_behind l = stands_place ∙ rw (le-leb (rows_place first) at f, lt-leb at (length z) l)
 
-      pub stands-whole : at ≤ length z → stands z at ≡ eqb ((at - rows_place first) % row_width) 0
-      stands-whole l = stands_place ∙ rw (le-leb (rows_place first) at f, le-leb at (length z) l)
+      pub stands_whole : at ≤ length z → stands z at ≡ eqb ((at - rows_place first) % row_width) 0
+      stands_whole l = stands_place ∙ rw (le-leb (rows_place first) at f, le-leb at (length z) l)
 
   -- a place that is not the end has a row behind it
   pub row_fits : stands z at ≡ true → (at ≡ length z → ⊥) → at + row_width ≤ length z
@@ -120,7 +120,7 @@ module _ (z : List ℕ) (h : layout_right first z ≡ true) (k : ℕ) where
   -- each row up to the last, and the end, are places of the walk
   place_here : k ≤ rows_in first z → stands z (place_of_row k) ≡ true
   place_here l =
-      stands-whole z (place_of_row k) h (omega arith) (omega (arith, size_here)) ∙ eq-eqb ((place_of_row k - rows_place first) % row_width) 0 (omega arith)
+      stands_whole z (place_of_row k) h (omega arith) (omega (arith, size_here)) ∙ eq-eqb ((place_of_row k - rows_place first) % row_width) 0 (omega arith)
 
   -- the walk gives each row once: the k-th, and then goes on to the one behind it
   pub walk_row : k < rows_in first z → step_at z (place_of_row k) ≡ record { row = given_at z (place_of_row k); mark = given; at = place_of_row (k + 1) }

@@ -49,9 +49,9 @@ module _ (start : SnapshotReader) (opened : start.at ≡ 120) (right : layout_ri
 
   module _ {k : ℕ} {before after : SnapshotReader} {step : RowStep} (w : Walked start k before) (a : Advanced before step after) where
     -- each row is given once: the k-th by the call behind k others
-    pub advance-row : k < count → step ≡ record { row = given_at bytes (place_of_row k); mark = given; at = place_of_row (k + 1) }
-    advance-row h = handed_at w (place_within w (omega arith)) a ∙ walk_row bytes right k h
+    pub advance_row : k < count → step ≡ record { row = given_at bytes (place_of_row k); mark = given; at = place_of_row (k + 1) }
+    advance_row h = handed_at w (place_within w (omega arith)) a ∙ walk_row bytes right k h
 
     -- and then all were given, for ever
-    pub advance-done : count ≤ k → step ≡ ended done (place_of_row count)
-    advance-done h = handed_at w (place_behind w h) a ∙ walk_done bytes right
+    pub advance_done : count ≤ k → step ≡ ended done (place_of_row count)
+    advance_done h = handed_at w (place_behind w h) a ∙ walk_done bytes right

@@ -5,7 +5,7 @@ ghost use Rattle.snapshot_reader.specs.Reader.{step_at, Advanced};
 
 use super::row::{FIRST_ROW, RowStep, row_at};
 
-#[derive(Drop)]
+#[derive(Clone, Copy)]
 pub struct SnapshotReader<'a> {
     pub snapshot: &'a [u8],
     pub at: usize,

@@ -12,7 +12,7 @@ use pubkey::Pubkey;
 use snapshot::answer::PartPlace;
 
 // A peer's row: its key, and the eleven numbers behind it.
-#[derive(Drop)]
+#[derive(Clone, Copy)]
 pub struct SnapshotRow {
     pub key: Pubkey,
     pub entry: PeerMessagePolicyEntry,
@@ -20,7 +20,7 @@ pub struct SnapshotRow {
 
 // A step of the walk: the mark says whether there is a row (0), whether all were given (1), or that the snapshot's layout is wrong or no row
 // begins at the place (6, the refusal's number). Without a row, the row is zeros. The last number is the next row's place.
-#[derive(Drop)]
+#[derive(Clone, Copy)]
 pub struct RowStep {
     pub row: SnapshotRow,
     pub mark: u32,

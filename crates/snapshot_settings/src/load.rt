@@ -7,7 +7,7 @@ use lent_bytes::number::get_u64;
 use peer_state::ingress::FiberIngressBudget;
 
 // The load, or that the messages are above what their field holds.
-#[derive(Drop)]
+#[derive(Clone, Copy)]
 pub enum ReadLoad {
     Read(FiberIngressBudget),
     OutOfRange,

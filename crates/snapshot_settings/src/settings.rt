@@ -7,7 +7,7 @@ use lent_bytes::number::get_u64;
 use peer_settings::config::PeerMessagePolicyConfig;
 
 // The settings, or that a number is above what its field holds.
-#[derive(Drop)]
+#[derive(Clone, Copy)]
 pub enum ReadSettings {
     Read(PeerMessagePolicyConfig),
     OutOfRange,

@@ -1,5 +1,7 @@
 // snapshot-show: reads a snapshot from standard input, all of it, and then writes it as text to standard output.
 // Crate `snapshot_text` has the lines, `standard` reads and writes.
+#![tactic(auto)]
+
 ghost use Rattle.std.specs.Prelude.{◌≡◌, ◌<◌, length};
 ghost use Rattle.snapshot_text.specs.Shown.{longest_snapshot};
 

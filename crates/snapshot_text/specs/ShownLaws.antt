@@ -96,36 +96,36 @@ module _ (z : List ℕ) where
 
   module _ (p : PeerMessagePolicy) where
     -- the scan before this line, and at this row
-    abbrev beforeLine : ℕ → Scan
-    beforeLine k = record { made = Made.Policy p; line = k; at = rows_place first }
+    abbrev before_line : ℕ → Scan
+    before_line k = record { made = Made.Policy p; line = k; at = rows_place first }
 
     abbrev at_row : ℕ → Scan
     at_row k = record { made = Made.Policy p; line = numbers + 1; at = place_of_row k }
 
-    number-shown : (k : ℕ) → k < numbers → {others : List (List ℕ)} → HandsOut z (beforeLine (k + 1)) others
-        → HandsOut z (beforeLine k) (field_line p k ∷ others)
+    number_shown : (k : ℕ) → k < numbers → {others : List (List ℕ)} → HandsOut z (before_line (k + 1)) others
+        → HandsOut z (before_line k) (field_line p k ∷ others)
     unfolding next_of policy_next
-    number-shown k h w = hands_next (rw (lt-ltb k numbers h)) w
+    number_shown k h w = hands_next (rw (lt-ltb k numbers h)) w
 
-    numbers-shown : {others : List (List ℕ)} → HandsOut z (beforeLine numbers) others
-        → HandsOut z (beforeLine 0) (map field_text_of (fields_of p) ++ others)
+    numbers_shown : {others : List (List ℕ)} → HandsOut z (before_line numbers) others
+        → HandsOut z (before_line 0) (map field_text_of (fields_of p) ++ others)
     unfolding fields_of
-    numbers-shown w =
-        number-shown 0 (omega arith) (number-shown 1 (omega arith) (number-shown 2 (omega arith) (number-shown 3 (omega arith)
-        (number-shown 4 (omega arith) (number-shown 5 (omega arith) (number-shown 6 (omega arith) (number-shown 7 (omega arith)
-        (number-shown 8 (omega arith) (number-shown 9 (omega arith) (number-shown 10 (omega arith) (number-shown 11 (omega arith) w)))))))))))
+    numbers_shown w =
+        number_shown 0 (omega arith) (number_shown 1 (omega arith) (number_shown 2 (omega arith) (number_shown 3 (omega arith)
+        (number_shown 4 (omega arith) (number_shown 5 (omega arith) (number_shown 6 (omega arith) (number_shown 7 (omega arith)
+        (number_shown 8 (omega arith) (number_shown 9 (omega arith) (number_shown 10 (omega arith) (number_shown 11 (omega arith) w)))))))))))
 
     -- ════ Its rows ════
 
     module _ (right : layout_right first z ≡ true) where
       -- the step of a row hands out its line, and behind the last row there is none
-      rows-shown : (m k : ℕ) → k + m ≡ rows_in first z → HandsOut z (at_row k) (map row_line (rows peer_layout (drop (place_of_row k) z) m))
+      rows_shown_lem : (m k : ℕ) → k + m ≡ rows_in first z → HandsOut z (at_row k) (map row_line (rows peer_layout (drop (place_of_row k) z) m))
       unfolding next_of policy_next row_handed rows part
-      rows-shown zero k e =
+      rows_shown_lem zero k e =
           let here : k ≡ rows_in first z = omega arith in
           let step : step_at z (place_of_row k) ≡ _ = ap (λ (n : ℕ). step_at z (place_of_row n)) here ∙ walk_done z right in
           ends_here (ap (row_handed (at_row k)) step)
-      rows-shown (suc m) k e =
+      rows_shown_lem (suc m) k e =
           let at : ℕ = place_of_row k in
           let step = walk_row z right k (omega arith) in
           let next : at + row_width ≡ place_of_row (k + 1) = omega arith in
@@ -133,17 +133,17 @@ module _ (z : List ℕ) where
           let key : (row_from z at).key ≡ part z at key_width = key_row_of peer_faithful z at in
           subst (λ (l : List (List ℕ)). HandsOut z (at_row k) l)
           (λ i. row_text (sym key i) (row_from z at).entry ∷ map row_line (rows peer_layout (sym behind i) m))
-          (hands_next (ap (row_handed (at_row k)) step) (rows-shown m (k + 1) (omega arith)))
+          (hands_next (ap (row_handed (at_row k)) step) (rows_shown_lem m (k + 1) (omega arith)))
 
       -- the head, where there are rows
-      table-shown : (n : ℕ) → p.rows ≡ n → n ≡ rows_in first z → HandsOut z (beforeLine numbers) (rows_shown (rows peer_layout (drop (rows_place first) z) n))
+      table_shown : (n : ℕ) → p.rows ≡ n → n ≡ rows_in first z → HandsOut z (before_line numbers) (rows_shown (rows peer_layout (drop (rows_place first) z) n))
       unfolding next_of policy_next rows
-      table-shown zero e count = ends_here (rw (eq-eqb p.rows 0 e))
-      table-shown (suc m) e count =
-          hands_next (rw (ne_eqb p.rows 0 (λ (none : p.rows ≡ 0). omega arith))) (rows-shown (suc m) 0 (omega arith))
+      table_shown zero e count = ends_here (rw (eq-eqb p.rows 0 e))
+      table_shown (suc m) e count =
+          hands_next (rw (ne_eqb p.rows 0 (λ (none : p.rows ≡ 0). omega arith))) (rows_shown_lem (suc m) 0 (omega arith))
 
-    policy-shown : Describes first z p → HandsOut z (begun (Made.Policy p)) (policy_shown p (rows_of p (drop (rows_place first) z)))
-    policy-shown d = numbers-shown (table-shown (ap was_read d.settings) p.rows refl d.count)
+    policy_shown_lem : Describes first z p → HandsOut z (begun (Made.Policy p)) (policy_shown p (rows_of p (drop (rows_place first) z)))
+    policy_shown_lem d = numbers_shown (table_shown (ap was_read d.settings) p.rows refl d.count)
 
   -- ════ An input ════
 
@@ -154,7 +154,7 @@ module _ (z : List ℕ) where
   made_shown_lem : (m : Made) → made_of z ≡ m → HandsOut z (begun m) (made_shown z m)
   unfolding made_of
   made_shown_lem (Made.Policy p) e =
-      policy-shown p (policy_describes first z p (judged (ltb longest_snapshot (length z)) wrong_layout (policy_in first z) e))
+      policy_shown_lem p (policy_describes first z p (judged (ltb longest_snapshot (length z)) wrong_layout (policy_in first z) e))
   made_shown_lem (Made.Refused n) e = refused_shown n
 
   input_shown : HandsOut z (begun (made_of z)) (shown_lines z)
@@ -188,10 +188,10 @@ module _ (z before : List ℕ) (long : 123904 ≤ length before) where
     shows = subst (λ (s : Scan). HandsOut z s (shown_lines z)) (sym (opened_made r after opened)) (input_shown z)
 
     -- and nothing else
-    pub shows-only : (lines : List (List ℕ)) → HandsOut z r lines → lines ≡ shown_lines z
-    shows-only lines out = hands_one z out shows
+    pub shows_only : (lines : List (List ℕ)) → HandsOut z r lines → lines ≡ shown_lines z
+    shows_only lines out = hands_one z out shows
 
     -- the lines that were handed out, one behind the other, are the text
-    pub shows-text : (lines : List (List ℕ)) → HandsOut z r lines → flatten lines ≡ shown_text z
+    pub shows_text : (lines : List (List ℕ)) → HandsOut z r lines → flatten lines ≡ shown_text z
     unfolding shown_text
-    shows-text lines out = ap flatten (shows-only lines out)
+    shows_text lines out = ap flatten (shows_only lines out)

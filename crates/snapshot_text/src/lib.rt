@@ -2,5 +2,7 @@
 // comes to.
 //
 // Every call takes any arguments over any lent memory.
+#![tactic(auto)]
+
 pub mod line;
 pub mod scan;

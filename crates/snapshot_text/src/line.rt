@@ -15,7 +15,7 @@ use text_pieces::piece::{put_refusal, put_text};
 pub const LINE_SIZE: usize = 300;
 
 // A line with its newline; the bytes behind its length are zero.
-#[derive(Drop)]
+#[derive(Clone, Copy)]
 pub struct ShownLine {
     pub bytes: [u8; LINE_SIZE],
     pub length: usize,

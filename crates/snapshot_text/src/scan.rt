@@ -14,7 +14,7 @@ pub const LONGEST_SNAPSHOT: usize = 124_024;
 const NUMBERS: usize = 12;
 
 // Where a scan stands: what reading the snapshot came to, the next line before the rows, and the place of the next row.
-#[derive(Drop)]
+#[derive(Clone, Copy)]
 pub struct Scan {
     pub made: Made,
     pub line: usize,
@@ -22,7 +22,7 @@ pub struct Scan {
 }
 
 // One line to write and the scan behind it; or, where it is done, an empty line and the scan as it was.
-#[derive(Drop)]
+#[derive(Clone, Copy)]
 pub struct Handed {
     pub done: bool,
     pub line: ShownLine,

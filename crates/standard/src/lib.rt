@@ -3,12 +3,14 @@
 // A program has no exit status: where it can't read or write it says so in a line of standard error that begins with `failed: `, and
 // the script `run-program` judges by that line. Which bytes are read and written is no part of any contract, since C reads and writes
 // them: `scripts/test-admit-trace` tries it.
+#![tactic(auto)]
+
 ghost use Rattle.standard.specs.Input.{ReadInto};
 
 use libc::{STDIN_FILENO, STDOUT_FILENO};
 
 // What was read: so many bytes, or nothing that counts, which has been said on standard error.
-#[derive(Drop)]
+#[derive(Clone, Copy)]
 pub enum Input {
     Bytes(usize),
     Failed,

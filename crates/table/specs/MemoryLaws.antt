@@ -215,9 +215,9 @@ bytes_used w n r =
 module _ {A : Type 0} (L : Layout A) (Good : A → Type 0) where
   -- a row that can stand in a table: its key has the key's width and is bytes, and its entry is one that a row can hold
   pub record Fit (r : Row A) : Type 0 where
-    pub key-length : length r.key ≡ L.key_width
-    pub key-bytes : Bytes r.key
-    pub entry-good : Good r.entry
+    pub key_length : length r.key ≡ L.key_width
+    pub key_bytes_lem : Bytes r.key
+    pub entry_good : Good r.entry
 
   -- every row can stand in a table
   abbrev pub AllFit : List (Row A) → Type 0
@@ -279,21 +279,21 @@ module _ {A : Type 0} {L : Layout A} {Good : A → Type 0} (ok : Faithful L Good
   pub length_row_bytes : (r : Row A) → Fit L Good r → length (row_bytes L r) ≡ L.width
   unfolding row_bytes
   length_row_bytes r f =
-      omega (arith, length-append r.key (L.encode r.entry), f.key-length, ok.length_encode r.entry, ok.key_fits)
+      omega (arith, length-append r.key (L.encode r.entry), f.key_length, ok.length_encode r.entry, ok.key_fits)
 
   -- a row's bytes are bytes
   pub Bytes_row_bytes : (r : Row A) → Fit L Good r → Bytes (row_bytes L r)
   unfolding row_bytes
-  Bytes_row_bytes r f = Bytes_append r.key (L.encode r.entry) f.key-bytes (ok.encode_bytes r.entry f.entry-good)
+  Bytes_row_bytes r f = Bytes_append r.key (L.encode r.entry) f.key_bytes_lem (ok.encode_bytes r.entry f.entry_good)
 
   -- a row's bytes spell it
   pub row_of_row_bytes : (r : Row A) → Fit L Good r → row_of L (row_bytes L r) ≡ r
   unfolding row_of row_bytes
   row_of_row_bytes r f =
       rw (
-        take_at r.key (L.encode r.entry) L.key_width f.key-length,
-        drop_at r.key (L.encode r.entry) L.key_width f.key-length,
-        ok.decode_encode r.entry f.entry-good,
+        take_at r.key (L.encode r.entry) L.key_width f.key_length,
+        drop_at r.key (L.encode r.entry) L.key_width f.key_length,
+        ok.decode_encode r.entry f.entry_good,
       )
 
   -- what stands behind the key has the width of an entry
@@ -313,9 +313,9 @@ module _ {A : Type 0} {L : Layout A} {Good : A → Type 0} (ok : Faithful L Good
   unfolding row_of
   fit_row_of s f n =
       record {
-        key-length = length-take-le L.key_width s (omega (arith, ok.key_fits));
-        key-bytes = Bytes_take L.key_width s f;
-        entry-good = ok.decode_good (drop L.key_width s) (Bytes_drop L.key_width s f) (length_behind s n);
+        key_length = length-take-le L.key_width s (omega (arith, ok.key_fits));
+        key_bytes_lem = Bytes_take L.key_width s f;
+        entry_good = ok.decode_good (drop L.key_width s) (Bytes_drop L.key_width s f) (length_behind s n);
       }
 
   -- the key of the row that bytes spell
@@ -561,9 +561,9 @@ module _ {A : Type 0} {L : Layout A} {Good : A → Type 0} (ok : Faithful L Good
       let fits : w * i + L.key_width ≤ length s = omega (arith, mul-le-mul_left w k, mul-suc w i, ok.key_fits) in
       let f : Fit L Good r =
       record {
-        key-length = ap length e ∙ length_part s (w * i) L.key_width fits;
-        key-bytes = subst Bytes (sym e) (Bytes_part s (w * i) L.key_width b);
-        entry-good = g;
+        key_length = ap length e ∙ length_part s (w * i) L.key_width fits;
+        key_bytes_lem = subst Bytes (sym e) (Bytes_part s (w * i) L.key_width b);
+        entry_good = g;
       } in
       put_earlier s (w * i) L.key_width (L.encode r.entry) fits
       ∙ ap (λ (l : List ℕ). put s (w * i) (l ++ L.encode r.entry)) (sym e) ∙ put_row s n i r b h k f

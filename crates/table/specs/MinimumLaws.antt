@@ -76,47 +76,47 @@ module _ {A : Type 0} (measure : Row A → Option ℕ) where
 
   module _ (rs : List (Row A)) (i : ℕ) (b : Best) where
     -- the loop ends: no row is left
-    pub least-ends : length rs ≤ i → minimum_from measure nothing 0 rs ≡ minimum_from measure b i (drop i rs) → minimum_from measure nothing 0 rs ≡ b
+    pub least_ends : length rs ≤ i → minimum_from measure nothing 0 rs ≡ minimum_from measure b i (drop i rs) → minimum_from measure nothing 0 rs ≡ b
     unfolding minimum_from
-    least-ends h from = from ∙ rw (drop_of_length-le rs h)
+    least_ends h from = from ∙ rw (drop_of_length-le rs h)
 
     module _ (d : Row A) (inside : i < length rs) where
       -- the i-th row is taken in
-      pub least-from : minimum_from measure b i (drop i rs) ≡ minimum_from measure (better b i (measure (get_or rs i d))) (i + 1) (drop (i + 1) rs)
-      least-from = rw (drop-cons rs i d) (least_cons b i (get_or rs i d) (drop (suc i) rs) ∙ rw (add-one i))
+      pub least_from : minimum_from measure b i (drop i rs) ≡ minimum_from measure (better b i (measure (get_or rs i d))) (i + 1) (drop (i + 1) rs)
+      least_from = rw (drop-cons rs i d) (least_cons b i (get_or rs i d) (drop (suc i) rs) ∙ rw (add-one i))
 
       -- the i-th row is taken in: the invariant at the next
-      pub least-goes-on : minimum_from measure nothing 0 rs ≡ minimum_from measure b i (drop i rs)
+      pub least_goes_on : minimum_from measure nothing 0 rs ≡ minimum_from measure b i (drop i rs)
           → minimum_from measure nothing 0 rs ≡ minimum_from measure (better b i (measure (get_or rs i d))) (i + 1) (drop (i + 1) rs)
-      least-goes-on from = from ∙ least-from
+      least_goes_on from = from ∙ least_from
 
   module _ (rs : List (Row A)) (d : Row A) where
     -- ════ What is found ════
 
     -- the measure of the row at an index
-    abbrev pub measureAt : ℕ → Option ℕ
-    measureAt i = measure (get_or rs i d)
+    abbrev pub measure_at : ℕ → Option ℕ
+    measure_at i = measure (get_or rs i d)
 
     -- the search goes on rightly from what was right before the index i
-    right-after : (left i : ℕ) (b : Best) → i + left ≡ length rs → RightBefore measureAt i b
-        → RightBefore measureAt (length rs) (minimum_from measure b i (drop i rs))
+    right_after : (left i : ℕ) (b : Best) → i + left ≡ length rs → RightBefore measure_at i b
+        → RightBefore measure_at (length rs) (minimum_from measure b i (drop i rs))
     unfolding minimum_from
-    right-after zero i b h right =
+    right_after zero i b h right =
         let e : i ≡ length rs = omega arith in
         let l : length rs ≤ i = omega arith in
         rw (drop_of_length-le rs l, ← e) right
-    right-after (suc left) i b h right =
+    right_after (suc left) i b h right =
         let inside : i < length rs = omega arith in
-        rw (least-from rs i b d inside) (right-after left (i + 1) (better b i (measureAt i)) (omega arith) (right_better measureAt i b right))
+        rw (least_from rs i b d inside) (right_after left (i + 1) (better b i (measure_at i)) (omega arith) (right_better measure_at i b right))
 
     -- what the search finds is right
-    pub least-right : RightBefore measureAt (length rs) (minimum_from measure nothing 0 rs)
-    least-right = right-after (length rs) 0 nothing (omega arith) (λ q h. absurd (omega arith))
+    pub least_right : RightBefore measure_at (length rs) (minimum_from measure nothing 0 rs)
+    least_right = right_after (length rs) 0 nothing (omega arith) (λ q h. absurd (omega arith))
 
     -- the row that is found is the first with the least measure
-    pub least-found : {j n : ℕ} → minimum_from measure nothing 0 rs ≡ best j n → LeastBefore measureAt (length rs) j n
-    least-found h = rw h at least-right
+    pub least_found : {j n : ℕ} → minimum_from measure nothing 0 rs ≡ best j n → LeastBefore measure_at (length rs) j n
+    least_found h = rw h at least_right
 
     -- where nothing is found no row has a measure
-    pub least-nothing : minimum_from measure nothing 0 rs ≡ nothing → (q : ℕ) → q < length rs → measure (get_or rs q d) ≡ none
-    least-nothing h = rw h at least-right
+    pub least_nothing : minimum_from measure nothing 0 rs ≡ nothing → (q : ℕ) → q < length rs → measure (get_or rs q d) ≡ none
+    least_nothing h = rw h at least_right

@@ -15,8 +15,8 @@ use Rattle.table.specs.declared.seek.Seek.{Seek}
 use Rattle.table.specs.declared.seek.Seek.TheVariants.{Unsound, At, Gap}
 use Rattle.table.specs.Table.{Row, ascending, every, look, store, erase, remove_at}
 use Rattle.table.specs.Private.{place_from, seek, remove_run, insert_at}
-use Rattle.table.specs.TableLaws.{by_answer, ascending-parts, below_each, remove_at_first, remove_at_later}
-use Rattle.table.specs.LookLaws.{some_is_not_none, look_below, look-before, look-first, look-later, look-erase-same, look-erase-other}
+use Rattle.table.specs.TableLaws.{by_answer, ascending_parts, below_each, remove_at_first, remove_at_later}
+use Rattle.table.specs.LookLaws.{some_is_not_none, look_below, look_before, look_first, look_later, look_erase_same, look_erase_other}
 
 -- ════ Answers ════
 
@@ -37,19 +37,19 @@ module _ {A : Type 0} where
 
   module _ (i : ℕ) (k : List ℕ) (r : Row A) (rs : List (Row A)) where
     -- a key that comes before the first row misses there
-    pub place-before : compare_bytes k r.key ≡ Less → place_from i k (r ∷ rs) ≡ Gap i
+    pub place_before : compare_bytes k r.key ≡ Less → place_from i k (r ∷ rs) ≡ Gap i
     unfolding place_from
-    place-before h = rw h
+    place_before h = rw h
 
     -- the key of the first row stands there
-    pub place-first : compare_bytes k r.key ≡ Equal → place_from i k (r ∷ rs) ≡ At i
+    pub place_first : compare_bytes k r.key ≡ Equal → place_from i k (r ∷ rs) ≡ At i
     unfolding place_from
-    place-first h = rw h
+    place_first h = rw h
 
     -- a key that comes after the first row is searched for in the others
-    pub place-later : compare_bytes k r.key ≡ Greater → place_from i k (r ∷ rs) ≡ place_from (i + 1) k rs
+    pub place_later : compare_bytes k r.key ≡ Greater → place_from i k (r ∷ rs) ≡ place_from (i + 1) k rs
     unfolding place_from
-    place-later h = rw h
+    place_later h = rw h
 
   -- ════ A key's place, as a derivation ════
 
@@ -76,15 +76,15 @@ module _ {A : Type 0} where
 
   -- where a key stands is the place that a search answers, counted from i
   pub stands_place : (i : ℕ) {k : List ℕ} {j : ℕ} {rs : List (Row A)} → Stands k j rs → place_from i k rs ≡ At (i + j)
-  stands_place i {k} (first {r} {rs} h) = place-first i k r rs h ∙ ap At (omega arith)
-  stands_place i {k} (later {j} {r} {rs} h s) = place-later i k r rs h ∙ stands_place (i + 1) s ∙ ap At (omega arith)
+  stands_place i {k} (first {r} {rs} h) = place_first i k r rs h ∙ ap At (omega arith)
+  stands_place i {k} (later {j} {r} {rs} h s) = place_later i k r rs h ∙ stands_place (i + 1) s ∙ ap At (omega arith)
 
   -- where a key fits is the gap that a search answers, counted from i
   pub fits_place : (i : ℕ) {k : List ℕ} {j : ℕ} {rs : List (Row A)} → Fits k j rs → place_from i k rs ≡ Gap (i + j)
   unfolding place_from
   fits_place i end = ap Gap (omega arith)
-  fits_place i {k} (before {r} {rs} h) = place-before i k r rs h ∙ ap Gap (omega arith)
-  fits_place i {k} (after {j} {r} {rs} h s) = place-later i k r rs h ∙ fits_place (i + 1) s ∙ ap Gap (omega arith)
+  fits_place i {k} (before {r} {rs} h) = place_before i k r rs h ∙ ap Gap (omega arith)
+  fits_place i {k} (after {j} {r} {rs} h s) = place_later i k r rs h ∙ fits_place (i + 1) s ∙ ap Gap (omega arith)
 
   -- the place that a search answers, counted from i, is where the key stands
   pub place_stands : (i : ℕ) (k : List ℕ) (rs : List (Row A)) {j : ℕ} → place_from i k rs ≡ At j → (m : ℕ) × (j ≡ i + m) × Stands k m rs
@@ -122,55 +122,55 @@ module _ {A : Type 0} where
   -- ════ What follows from a derivation; the public laws, of `At` and of `Gap`, are below ════
 
   module _ {k : List ℕ} where
-    stands-inside : {j : ℕ} {rs : List (Row A)} → Stands k j rs → j < length rs
-    stands-inside (first h) = omega arith
-    stands-inside (later h s) = let rest = stands-inside s in omega arith
+    stands_inside : {j : ℕ} {rs : List (Row A)} → Stands k j rs → j < length rs
+    stands_inside (first h) = omega arith
+    stands_inside (later h s) = let rest = stands_inside s in omega arith
 
-    stands-key : {j : ℕ} {rs : List (Row A)} (d : Row A) → Stands k j rs → (get_or rs j d).key ≡ k
-    stands-key d (first {r} h) = sym (compare_equal k r.key h)
-    stands-key d (later h s) = stands-key d s
+    stands_key : {j : ℕ} {rs : List (Row A)} (d : Row A) → Stands k j rs → (get_or rs j d).key ≡ k
+    stands_key d (first {r} h) = sym (compare_equal k r.key h)
+    stands_key d (later h s) = stands_key d s
 
-    stands-look : {j : ℕ} {rs : List (Row A)} (d : Row A) → Stands k j rs → look k rs ≡ some (get_or rs j d).entry
-    stands-look d (first {r} {rs} h) = look-first k r rs h
-    stands-look d (later {j} {r} {rs} h s) = look-later k r rs h ∙ stands-look d s
+    stands_look : {j : ℕ} {rs : List (Row A)} (d : Row A) → Stands k j rs → look k rs ≡ some (get_or rs j d).entry
+    stands_look d (first {r} {rs} h) = look_first k r rs h
+    stands_look d (later {j} {r} {rs} h s) = look_later k r rs h ∙ stands_look d s
 
-    stands-some : {j : ℕ} {rs : List (Row A)} → Stands k j rs → (e : A) × (look k rs ≡ some e)
-    stands-some (first {r} {rs} h) = (r.entry, look-first k r rs h)
-    stands-some (later {j} {r} {rs} h s) =
-        let rest = stands-some s in
-        (rest.0, look-later k r rs h ∙ rest.1)
+    stands_some : {j : ℕ} {rs : List (Row A)} → Stands k j rs → (e : A) × (look k rs ≡ some e)
+    stands_some (first {r} {rs} h) = (r.entry, look_first k r rs h)
+    stands_some (later {j} {r} {rs} h s) =
+        let rest = stands_some s in
+        (rest.0, look_later k r rs h ∙ rest.1)
 
     stands_set : {j : ℕ} {rs : List (Row A)} (e : A) → Stands k j rs → store k e rs ≡ set rs j (record { key = k; entry = e })
     unfolding store
     stands_set e (first h) = rw h
     stands_set e (later h s) = rw (h, stands_set e s)
 
-    stands-erase : {j : ℕ} {rs : List (Row A)} → Stands k j rs → erase k rs ≡ remove_at j rs
+    stands_erase : {j : ℕ} {rs : List (Row A)} → Stands k j rs → erase k rs ≡ remove_at j rs
     unfolding erase
-    stands-erase (first {r} {rs} h) = rw (h, remove_at_first r rs)
-    stands-erase (later {j} {r} {rs} h s) = rw (h, remove_at_later j r rs, stands-erase s)
+    stands_erase (first {r} {rs} h) = rw (h, remove_at_first r rs)
+    stands_erase (later {j} {r} {rs} h s) = rw (h, remove_at_later j r rs, stands_erase s)
 
-    fits-inside : {j : ℕ} {rs : List (Row A)} → Fits k j rs → j ≤ length rs
-    fits-inside end = omega arith
-    fits-inside (before h) = omega arith
-    fits-inside (after h s) = let rest = fits-inside s in omega arith
+    fits_inside : {j : ℕ} {rs : List (Row A)} → Fits k j rs → j ≤ length rs
+    fits_inside end = omega arith
+    fits_inside (before h) = omega arith
+    fits_inside (after h s) = let rest = fits_inside s in omega arith
 
-    fits-look : {j : ℕ} {rs : List (Row A)} → Fits k j rs → look k rs ≡ none
-    fits-look end = look_below k [] refl
-    fits-look (before {r} {rs} h) = look-before k r rs h
-    fits-look (after {j} {r} {rs} h s) = look-later k r rs h ∙ fits-look s
+    fits_look : {j : ℕ} {rs : List (Row A)} → Fits k j rs → look k rs ≡ none
+    fits_look end = look_below k [] refl
+    fits_look (before {r} {rs} h) = look_before k r rs h
+    fits_look (after {j} {r} {rs} h s) = look_later k r rs h ∙ fits_look s
 
-    fits-store : {j : ℕ} {rs : List (Row A)} (e : A) → Fits k j rs → store k e rs ≡ insert_at j (record { key = k; entry = e }) rs
+    fits_store : {j : ℕ} {rs : List (Row A)} (e : A) → Fits k j rs → store k e rs ≡ insert_at j (record { key = k; entry = e }) rs
     unfolding store insert_at
-    fits-store e end = refl
-    fits-store e (before h) = rw h
-    fits-store e (after h s) = rw (h, fits-store e s)
+    fits_store e end = refl
+    fits_store e (before h) = rw h
+    fits_store e (after h s) = rw (h, fits_store e s)
 
-    fits-erase : {j : ℕ} {rs : List (Row A)} → Fits k j rs → erase k rs ≡ rs
+    fits_erase : {j : ℕ} {rs : List (Row A)} → Fits k j rs → erase k rs ≡ rs
     unfolding erase
-    fits-erase end = refl
-    fits-erase (before h) = rw h
-    fits-erase (after h s) = rw (h, fits-erase s)
+    fits_erase end = refl
+    fits_erase (before h) = rw h
+    fits_erase (after h s) = rw (h, fits_erase s)
 
   -- ════ Lengths, with a row taken out or put in ════
 
@@ -193,16 +193,16 @@ module _ {A : Type 0} where
 
   module _ (k : List ℕ) (rs : List (Row A)) {j : ℕ} (found : place_from 0 k rs ≡ At j) where
     -- the place is that of a row
-    pub at-inside : j < length rs
-    at-inside = stands-inside (stands_at k rs found)
+    pub at_inside : j < length rs
+    at_inside = stands_inside (stands_at k rs found)
 
     -- the row there has the key
     pub at_key : (d : Row A) → (get_or rs j d).key ≡ k
-    at_key d = stands-key d (stands_at k rs found)
+    at_key d = stands_key d (stands_at k rs found)
 
     -- its entry is what is found
-    pub at-look : (d : Row A) → look k rs ≡ some (get_or rs j d).entry
-    at-look d = stands-look d (stands_at k rs found)
+    pub at_look : (d : Row A) → look k rs ≡ some (get_or rs j d).entry
+    at_look d = stands_look d (stands_at k rs found)
 
     -- a store writes over that row
     pub at_set : (e : A) → store k e rs ≡ set rs j (record { key = k; entry = e })
@@ -210,46 +210,46 @@ module _ {A : Type 0} where
 
     -- the same, by the rows before it and behind it
     pub at_store : (e : A) → store k e rs ≡ take j rs ++ (record { key = k; entry = e } ∷ drop (j + 1) rs)
-    at_store e = at_set e ∙ rw (add-one, set_split rs j (record { key = k; entry = e }) at-inside)
+    at_store e = at_set e ∙ rw (add-one, set_split rs j (record { key = k; entry = e }) at_inside)
 
     -- an erase takes that row out
     pub at_erase : erase k rs ≡ remove_at j rs
-    at_erase = stands-erase (stands_at k rs found)
+    at_erase = stands_erase (stands_at k rs found)
 
     -- as many rows after a store
-    pub at-length-store : (e : A) → length (store k e rs) ≡ length rs
-    at-length-store e = rw (at_set e) (length-set rs j (record { key = k; entry = e }))
+    pub at_length_store : (e : A) → length (store k e rs) ≡ length rs
+    at_length_store e = rw (at_set e) (length-set rs j (record { key = k; entry = e }))
 
     -- one row fewer after an erase
-    pub at-length-erase : length (erase k rs) + 1 ≡ length rs
-    at-length-erase = rw at_erase (length_remove_at j rs at-inside)
+    pub at_length_erase : length (erase k rs) + 1 ≡ length rs
+    at_length_erase = rw at_erase (length_remove_at j rs at_inside)
 
   -- ════ The key would stand at a gap: `Gap` ════
 
   module _ (k : List ℕ) (rs : List (Row A)) {j : ℕ} (gap : place_from 0 k rs ≡ Gap j) where
     -- the gap is before a row or behind the last
-    pub gap-inside : j ≤ length rs
-    gap-inside = fits-inside (fits_at k rs gap)
+    pub gap_inside : j ≤ length rs
+    gap_inside = fits_inside (fits_at k rs gap)
 
     -- the key is not found
-    pub gap-look : look k rs ≡ none
-    gap-look = fits-look (fits_at k rs gap)
+    pub gap_look : look k rs ≡ none
+    gap_look = fits_look (fits_at k rs gap)
 
     -- a store puts a row in there
-    pub gap-store : (e : A) → store k e rs ≡ insert_at j (record { key = k; entry = e }) rs
-    gap-store e = fits-store e (fits_at k rs gap)
+    pub gap_store : (e : A) → store k e rs ≡ insert_at j (record { key = k; entry = e }) rs
+    gap_store e = fits_store e (fits_at k rs gap)
 
     -- an erase changes nothing
-    pub gap-erase : erase k rs ≡ rs
-    gap-erase = fits-erase (fits_at k rs gap)
+    pub gap_erase : erase k rs ≡ rs
+    gap_erase = fits_erase (fits_at k rs gap)
 
     -- one row more after a store
-    pub gap-length-store : (e : A) → length (store k e rs) ≡ length rs + 1
-    gap-length-store e = rw (gap-store e) (length_insert_at j (record { key = k; entry = e }) rs gap-inside)
+    pub gap_length_store : (e : A) → length (store k e rs) ≡ length rs + 1
+    gap_length_store e = rw (gap_store e) (length_insert_at j (record { key = k; entry = e }) rs gap_inside)
 
     -- as many rows after an erase
-    pub gap-length-erase : length (erase k rs) ≡ length rs
-    gap-length-erase = rw gap-erase
+    pub gap_length_erase : length (erase k rs) ≡ length rs
+    gap_length_erase = rw gap_erase
 
   -- ════ Judging and searching ════
 
@@ -261,33 +261,33 @@ module _ {A : Type 0} where
 
   module _ (rule : Row A → Bool) (k : List ℕ) (rs : List (Row A)) where
     -- in sound rows the key is searched for
-    pub seek-sound : (every rule rs && ascending rs) ≡ true → seek rule k rs ≡ place_from 0 k rs
+    pub seek_sound : (every rule rs && ascending rs) ≡ true → seek rule k rs ≡ place_from 0 k rs
     unfolding seek
-    seek-sound h = rw h
+    seek_sound h = rw h
 
     -- the answer is that the rows are unsound just where they are
-    pub seek-unsound : seek rule k rs ≡ Unsound ↔ ((every rule rs && ascending rs) ≡ false)
+    pub seek_unsound : seek rule k rs ≡ Unsound ↔ ((every rule rs && ascending rs) ≡ false)
     unfolding seek
-    seek-unsound = (
+    seek_unsound = (
       λ h. by_test (every rule rs && ascending rs) (λ t. absurd (place_is_sound 0 k rs (rw t at h))) (λ t. t),
       λ h. rw h,
     )
 
     -- any other answer is that of a search in sound rows
-    pub seek-sought : {answer : Seek} → seek rule k rs ≡ answer → (answer ≡ Unsound → ⊥) → Sought rule k rs answer
-    seek-sought {answer} h sound =
+    pub seek_sought : {answer : Seek} → seek rule k rs ≡ answer → (answer ≡ Unsound → ⊥) → Sought rule k rs answer
+    seek_sought {answer} h sound =
         by_test (every rule rs && ascending rs)
         (λ t. let parts = both_parts (every rule rs) (ascending rs) t in
-        record { rules = parts.0; order = parts.1; place = sym (seek-sound t) ∙ h })
-        (λ t. absurd (sound (sym h ∙ seek-unsound.1 t)))
+        record { rules = parts.0; order = parts.1; place = sym (seek_sound t) ∙ h })
+        (λ t. absurd (sound (sym h ∙ seek_unsound.1 t)))
 
     -- the key stands at a place in sound rows
-    pub seek-at : {j : ℕ} → seek rule k rs ≡ At j → Sought rule k rs (At j)
-    seek-at h = seek-sought h (at_is_not_unsound refl)
+    pub seek_at : {j : ℕ} → seek rule k rs ≡ At j → Sought rule k rs (At j)
+    seek_at h = seek_sought h (at_is_not_unsound refl)
 
     -- the key misses in sound rows
-    pub seek-gap : {j : ℕ} → seek rule k rs ≡ Gap j → Sought rule k rs (Gap j)
-    seek-gap h = seek-sought h (gap_is_not_unsound refl)
+    pub seek_gap : {j : ℕ} → seek rule k rs ≡ Gap j → Sought rule k rs (Gap j)
+    seek_gap h = seek_sought h (gap_is_not_unsound refl)
 
   -- ════ The row at an index ════
 
@@ -296,57 +296,57 @@ module _ {A : Type 0} where
   stands_row [] j d order inside = absurd (omega arith)
   stands_row (r ∷ rs) zero d order inside = first (compare_self r.key)
   stands_row (r ∷ rs) (suc j) d order inside =
-      let parts = ascending-parts r rs order in
+      let parts = ascending_parts r rs order in
       let within : j < length rs = omega arith in
       later (less_flip r.key (get_or rs j d).key (below_each r.key rs j d parts.0 parts.1 within))
       (stands_row rs j d parts.1 within)
 
   module _ (rs : List (Row A)) (j : ℕ) (d : Row A) (order : ascending rs ≡ true) (inside : j < length rs) where
     -- a search for the key of a row finds that row
-    pub row-place : place_from 0 (get_or rs j d).key rs ≡ At j
-    row-place = stands_place 0 (stands_row rs j d order inside) ∙ ap At (omega arith)
+    pub row_place_lem : place_from 0 (get_or rs j d).key rs ≡ At j
+    row_place_lem = stands_place 0 (stands_row rs j d order inside) ∙ ap At (omega arith)
 
     -- its entry is found for its key
-    pub row-look : look (get_or rs j d).key rs ≡ some (get_or rs j d).entry
-    row-look = stands-look d (stands_row rs j d order inside)
+    pub row_look : look (get_or rs j d).key rs ≡ some (get_or rs j d).entry
+    row_look = stands_look d (stands_row rs j d order inside)
 
     -- to take a row out is to erase its key
-    pub removeAt-erase : remove_at j rs ≡ erase (get_or rs j d).key rs
-    removeAt-erase = sym (stands-erase (stands_row rs j d order inside))
+    pub remove_at_erase : remove_at j rs ≡ erase (get_or rs j d).key rs
+    remove_at_erase = sym (stands_erase (stands_row rs j d order inside))
 
     -- the key of a row taken out is not found
-    pub look-removeAt-same : look (get_or rs j d).key (remove_at j rs) ≡ none
-    look-removeAt-same = rw removeAt-erase (look-erase-same (get_or rs j d).key rs order)
+    pub look_remove_at_same : look (get_or rs j d).key (remove_at j rs) ≡ none
+    look_remove_at_same = rw remove_at_erase (look_erase_same (get_or rs j d).key rs order)
 
     -- what is found for any other key is as before
-    pub look-removeAt-other : (other : List ℕ) → (other ≡ (get_or rs j d).key → ⊥) → look other (remove_at j rs) ≡ look other rs
-    look-removeAt-other other ne = rw removeAt-erase (look-erase-other (get_or rs j d).key other ne rs order)
+    pub look_remove_at_other : (other : List ℕ) → (other ≡ (get_or rs j d).key → ⊥) → look other (remove_at j rs) ≡ look other rs
+    look_remove_at_other other ne = rw remove_at_erase (look_erase_other (get_or rs j d).key other ne rs order)
 
   -- ════ Found or not ════
 
   module _ (k : List ℕ) (rs : List (Row A)) where
     -- what is found stands at a place
-    pub look-some-at : {e : A} → look k rs ≡ some e → (j : ℕ) × (place_from 0 k rs ≡ At j)
-    look-some-at h =
-        ⊎_elim (λ s. (0 + s.0, stands_place 0 s.1)) (λ f. absurd (some_is_not_none h (fits-look f.1))) (stands_or_fits k rs)
+    pub look_some_at : {e : A} → look k rs ≡ some e → (j : ℕ) × (place_from 0 k rs ≡ At j)
+    look_some_at h =
+        ⊎_elim (λ s. (0 + s.0, stands_place 0 s.1)) (λ f. absurd (some_is_not_none h (fits_look f.1))) (stands_or_fits k rs)
 
     -- what is not found would stand at a gap
-    pub look-none-gap : look k rs ≡ none → (j : ℕ) × (place_from 0 k rs ≡ Gap j)
-    look-none-gap h =
-        ⊎_elim (λ s. absurd (some_is_not_none (stands-some s.1).1 h)) (λ f. (0 + f.0, fits_place 0 f.1)) (stands_or_fits k rs)
+    pub look_none_gap : look k rs ≡ none → (j : ℕ) × (place_from 0 k rs ≡ Gap j)
+    look_none_gap h =
+        ⊎_elim (λ s. absurd (some_is_not_none (stands_some s.1).1 h)) (λ f. (0 + f.0, fits_place 0 f.1)) (stands_or_fits k rs)
 
     -- a store over what is found leaves as many rows
-    pub length-store-some : {x : A} (e : A) → look k rs ≡ some x → length (store k e rs) ≡ length rs
-    length-store-some e h = at-length-store k rs (look-some-at h).1 e
+    pub length_store_some : {x : A} (e : A) → look k rs ≡ some x → length (store k e rs) ≡ length rs
+    length_store_some e h = at_length_store k rs (look_some_at h).1 e
 
     -- a store of what is not found leaves one row more
-    pub length-store-none : (e : A) → look k rs ≡ none → length (store k e rs) ≡ length rs + 1
-    length-store-none e h = gap-length-store k rs (look-none-gap h).1 e
+    pub length_store_none : (e : A) → look k rs ≡ none → length (store k e rs) ≡ length rs + 1
+    length_store_none e h = gap_length_store k rs (look_none_gap h).1 e
 
     -- an erase of what is found leaves one row fewer
-    pub length-erase-some : {x : A} → look k rs ≡ some x → length (erase k rs) + 1 ≡ length rs
-    length-erase-some h = at-length-erase k rs (look-some-at h).1
+    pub length_erase_some : {x : A} → look k rs ≡ some x → length (erase k rs) + 1 ≡ length rs
+    length_erase_some h = at_length_erase k rs (look_some_at h).1
 
     -- an erase of what is not found leaves as many rows
-    pub length-erase-none : look k rs ≡ none → length (erase k rs) ≡ length rs
-    length-erase-none h = gap-length-erase k rs (look-none-gap h).1
+    pub length_erase_none : look k rs ≡ none → length (erase k rs) ≡ length rs
+    length_erase_none h = gap_length_erase k rs (look_none_gap h).1

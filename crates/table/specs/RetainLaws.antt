@@ -11,9 +11,9 @@ use Rattle.truths.specs.TruthLaws.{by_test, true_is_not_false}
 use Rattle.pubkey.specs.Order.{compare_bytes}
 use Rattle.pubkey.specs.OrderLaws.{compare_equal}
 use Rattle.table.specs.Table.{Row, row_under, below, ascending, every, look, retain}
-use Rattle.table.specs.TableLaws.{by_answer, ascending-parts, equal-below, before-below}
-use Rattle.table.specs.TableLaws.{every-parts, every-cons, every_fails, sub_length, sub_below, sub_retain}
-use Rattle.table.specs.LookLaws.{look_below, look-before, look-first, look-later}
+use Rattle.table.specs.TableLaws.{by_answer, ascending_parts, equal_below, before_below}
+use Rattle.table.specs.TableLaws.{every_parts, every_cons, every_fails, sub_length, sub_below, sub_retain}
+use Rattle.table.specs.LookLaws.{look_below, look_before, look_first, look_later}
 
 module _ {A : Type 0} (test : Row A → Bool) where
   -- ════ The first row ════
@@ -40,34 +40,34 @@ module _ {A : Type 0} (test : Row A → Bool) where
   unfolding retain
   look_retain k [] order = rw (look_below k [] refl)
   look_retain k (r ∷ rs) order =
-      let parts = ascending-parts r rs order in
+      let parts = ascending_parts r rs order in
       let rest : look k (retain test rs) ≡ passing k (look k rs) = look_retain k rs parts.1 in
       let left : below k rs ≡ true → look k (retain test rs) ≡ none =
       λ h. look_below k (retain test rs) (sub_below k (sub_retain test rs) parts.1 h) in
       by_answer (compare_bytes k r.key)
-      (λ o. rw (look-before k r rs o) (by_test (test r)
-      (λ t. rw t (look-before k r (retain test rs) o))
-      (λ t. rw t (left (before-below r rs k order o)))))
+      (λ o. rw (look_before k r rs o) (by_test (test r)
+      (λ t. rw t (look_before k r (retain test rs) o))
+      (λ t. rw t (left (before_below r rs k order o)))))
       (λ o. let same : test (row_under k r.entry) ≡ test r = ap (λ (l : List ℕ). test (row_under l r.entry)) (compare_equal k r.key o) in
-      rw (look-first k r rs o, same) (by_test (test r)
-      (λ t. rw t (look-first k r (retain test rs) o))
-      (λ t. rw t (left (equal-below r rs k order o)))))
-      (λ o. rw (look-later k r rs o) (by_test (test r)
-      (λ t. rw t (look-later k r (retain test rs) o ∙ rest))
+      rw (look_first k r rs o, same) (by_test (test r)
+      (λ t. rw t (look_first k r (retain test rs) o))
+      (λ t. rw t (left (equal_below r rs k order o)))))
+      (λ o. rw (look_later k r rs o) (by_test (test r)
+      (λ t. rw t (look_later k r (retain test rs) o ∙ rest))
       (λ t. rw t rest)))
 
   module _ (k : List ℕ) (rs : List (Row A)) (order : ascending rs ≡ true) where
     -- an entry whose row passes is found as before
-    pub look-retain-pass : {e : A} → look k rs ≡ some e → test (row_under k e) ≡ true → look k (retain test rs) ≡ some e
-    look-retain-pass h t = look_retain k rs order ∙ rw (h, t)
+    pub look_retain_pass : {e : A} → look k rs ≡ some e → test (row_under k e) ≡ true → look k (retain test rs) ≡ some e
+    look_retain_pass h t = look_retain k rs order ∙ rw (h, t)
 
     -- an entry whose row fails is not found any more
-    pub look-retain-fail : {e : A} → look k rs ≡ some e → test (row_under k e) ≡ false → look k (retain test rs) ≡ none
-    look-retain-fail h t = look_retain k rs order ∙ rw (h, t)
+    pub look_retain_fail : {e : A} → look k rs ≡ some e → test (row_under k e) ≡ false → look k (retain test rs) ≡ none
+    look_retain_fail h t = look_retain k rs order ∙ rw (h, t)
 
     -- what was not found is not found
-    pub look-retain-none : look k rs ≡ none → look k (retain test rs) ≡ none
-    look-retain-none h = look_retain k rs order ∙ rw h
+    pub look_retain_none : look k rs ≡ none → look k (retain test rs) ≡ none
+    look_retain_none h = look_retain k rs order ∙ rw h
 
   -- ════ A retain as a loop ════
 
@@ -90,9 +90,9 @@ module _ {A : Type 0} (test : Row A → Bool) where
     retain_step = rw (add-one, take-suc rs i d) (retain_append (take i rs) (get_or rs i d ∷ []))
 
     -- the i-th row passes: it comes behind those retained
-    pub retain-keeps : test (get_or rs i d) ≡ true → retain test (take (i + 1) rs) ≡ retain test (take i rs) ++ (get_or rs i d ∷ [])
+    pub retain_keeps : test (get_or rs i d) ≡ true → retain test (take (i + 1) rs) ≡ retain test (take i rs) ++ (get_or rs i d ∷ [])
     unfolding retain
-    retain-keeps h = retain_step ∙ rw (retain_pass (get_or rs i d) [] h)
+    retain_keeps h = retain_step ∙ rw (retain_pass (get_or rs i d) [] h)
 
     -- the i-th row fails: those retained stay
     pub retain_drops : test (get_or rs i d) ≡ false → retain test (take (i + 1) rs) ≡ retain test (take i rs)
@@ -119,14 +119,14 @@ module _ {A : Type 0} (test : Row A → Bool) where
   retain_passes [] = refl
   retain_passes (r ∷ rs) =
       let rest : every test (retain test rs) ≡ true = retain_passes rs in
-      by_test (test r) (λ h. rw h (every-cons test r (retain test rs) h rest)) (λ h. rw h rest)
+      by_test (test r) (λ h. rw h (every_cons test r (retain test rs) h rest)) (λ h. rw h rest)
 
   -- rows that all pass are left as they are
   pub retain_all : (rs : List (Row A)) → every test rs ≡ true → retain test rs ≡ rs
   unfolding retain
   retain_all [] h = refl
   retain_all (r ∷ rs) h =
-      let parts = every-parts test r rs h in
+      let parts = every_parts test r rs h in
       rw (parts.0, retain_all rs parts.1)
 
   -- where not every row passes, fewer are left

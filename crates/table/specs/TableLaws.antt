@@ -43,49 +43,49 @@ module _ {A : Type 0} where
         (λ e. absurd (true_is_not_false h (rw e)))
 
     -- a key that comes before that of the first row is below the rows
-    pub less-below : compare_bytes k r.key ≡ Less → below k (r ∷ rs) ≡ true
-    less-below h = rw h
+    pub less_below : compare_bytes k r.key ≡ Less → below k (r ∷ rs) ≡ true
+    less_below h = rw h
 
   -- what comes before a key that is below the rows is below them
   pub below_from_less : (a b : List ℕ) (rs : List (Row A)) → compare_bytes a b ≡ Less → below b rs ≡ true → below a rs ≡ true
   below_from_less a b [] h k = refl
-  below_from_less a b (r ∷ rs) h k = less-below a r rs (transitive a b r.key h (below_less b r rs k))
+  below_from_less a b (r ∷ rs) h k = less_below a r rs (transitive a b r.key h (below_less b r rs k))
 
   module _ (r : Row A) (rs : List (Row A)) where
     -- of ascending rows the first is below the others, which are ascending
-    pub ascending-parts : ascending (r ∷ rs) ≡ true → (below r.key rs ≡ true) × (ascending rs ≡ true)
+    pub ascending_parts : ascending (r ∷ rs) ≡ true → (below r.key rs ≡ true) × (ascending rs ≡ true)
     unfolding ascending
-    ascending-parts h = both_parts (below r.key rs) (ascending rs) h
+    ascending_parts h = both_parts (below r.key rs) (ascending rs) h
 
     -- a row below ascending rows, put before them
-    pub ascending-cons : below r.key rs ≡ true → ascending rs ≡ true → ascending (r ∷ rs) ≡ true
+    pub ascending_cons : below r.key rs ≡ true → ascending rs ≡ true → ascending (r ∷ rs) ≡ true
     unfolding ascending
-    ascending-cons h k = both h k
+    ascending_cons h k = both h k
 
     -- the key of the first of ascending rows is below the others
-    pub equal-below : (k : List ℕ) → ascending (r ∷ rs) ≡ true → compare_bytes k r.key ≡ Equal → below k rs ≡ true
-    equal-below k order o = rw (compare_equal k r.key o) (ascending-parts order).0
+    pub equal_below : (k : List ℕ) → ascending (r ∷ rs) ≡ true → compare_bytes k r.key ≡ Equal → below k rs ≡ true
+    equal_below k order o = rw (compare_equal k r.key o) (ascending_parts order).0
 
     -- what comes before the first of ascending rows is below the others
-    pub before-below : (k : List ℕ) → ascending (r ∷ rs) ≡ true → compare_bytes k r.key ≡ Less → below k rs ≡ true
-    before-below k order o = below_from_less k r.key rs o (ascending-parts order).0
+    pub before_below : (k : List ℕ) → ascending (r ∷ rs) ≡ true → compare_bytes k r.key ≡ Less → below k rs ≡ true
+    before_below k order o = below_from_less k r.key rs o (ascending_parts order).0
 
   module _ (rule : Row A → Bool) (r : Row A) (rs : List (Row A)) where
     -- of rows that keep a rule the first does, and the others do
-    pub every-parts : every rule (r ∷ rs) ≡ true → (rule r ≡ true) × (every rule rs ≡ true)
+    pub every_parts : every rule (r ∷ rs) ≡ true → (rule r ≡ true) × (every rule rs ≡ true)
     unfolding every
-    every-parts h = both_parts (rule r) (every rule rs) h
+    every_parts h = both_parts (rule r) (every rule rs) h
 
     -- a row that keeps a rule, put before rows that do
-    pub every-cons : rule r ≡ true → every rule rs ≡ true → every rule (r ∷ rs) ≡ true
+    pub every_cons : rule r ≡ true → every rule rs ≡ true → every rule (r ∷ rs) ≡ true
     unfolding every
-    every-cons h k = both h k
+    every_cons h k = both h k
 
     -- rows are sound where the first keeps the rule and is below the others, and those are sound
-    pub sound-cons : (every rule (r ∷ rs) && ascending (r ∷ rs))
+    pub sound_cons : (every rule (r ∷ rs) && ascending (r ∷ rs))
         ≡ (rule r && (below r.key rs && (every rule rs && ascending rs)))
     unfolding every ascending
-    sound-cons = regroup (rule r) (every rule rs) (below r.key rs) (ascending rs)
+    sound_cons = regroup (rule r) (every rule rs) (below r.key rs) (ascending rs)
 
   -- ════ The row at an index ════
 
@@ -95,14 +95,14 @@ module _ {A : Type 0} where
   below_each k [] i d h order inside = absurd (omega arith)
   below_each k (r ∷ rs) zero d h order inside = below_less k r rs h
   below_each k (r ∷ rs) (suc i) d h order inside =
-      below_each k rs i d (before-below r rs k order (below_less k r rs h)) (ascending-parts r rs order).1 (omega arith)
+      below_each k rs i d (before_below r rs k order (below_less k r rs h)) (ascending_parts r rs order).1 (omega arith)
 
   -- where every row keeps a rule, the row at an index does
   pub every_at : (rule : Row A → Bool) (rs : List (Row A)) (i : ℕ) (d : Row A) → every rule rs ≡ true → i < length rs
       → rule (get_or rs i d) ≡ true
   every_at rule [] i d h inside = absurd (omega arith)
-  every_at rule (r ∷ rs) zero d h inside = (every-parts rule r rs h).0
-  every_at rule (r ∷ rs) (suc i) d h inside = every_at rule rs i d (every-parts rule r rs h).1 (omega arith)
+  every_at rule (r ∷ rs) zero d h inside = (every_parts rule r rs h).0
+  every_at rule (r ∷ rs) (suc i) d h inside = every_at rule rs i d (every_parts rule r rs h).1 (omega arith)
 
   -- where the row at an index breaks a rule, not every row keeps it
   pub every_fails : (rule : Row A → Bool) (rs : List (Row A)) (i : ℕ) (d : Row A) → i < length rs → rule (get_or rs i d) ≡ false
@@ -133,24 +133,24 @@ module _ {A : Type 0} where
   pub sub_every : (rule : Row A → Bool) {xs ys : List (Row A)} → Sub xs ys → every rule ys ≡ true → every rule xs ≡ true
   sub_every rule done h = h
   sub_every rule (keep {r} {xs} {ys} s) h =
-      let parts = every-parts rule r ys h in
-      every-cons rule r xs parts.0 (sub_every rule s parts.1)
-  sub_every rule (leave {r} {xs} {ys} s) h = sub_every rule s (every-parts rule r ys h).1
+      let parts = every_parts rule r ys h in
+      every_cons rule r xs parts.0 (sub_every rule s parts.1)
+  sub_every rule (leave {r} {xs} {ys} s) h = sub_every rule s (every_parts rule r ys h).1
 
   -- what is below ascending rows is below those left
   pub sub_below : (k : List ℕ) {xs ys : List (Row A)} → Sub xs ys → ascending ys ≡ true → below k ys ≡ true → below k xs ≡ true
   sub_below k done order h = h
   sub_below k (keep s) order h = h
   sub_below k (leave {r} {xs} {ys} s) order h =
-      sub_below k s (ascending-parts r ys order).1 (before-below r ys k order (below_less k r ys h))
+      sub_below k s (ascending_parts r ys order).1 (before_below r ys k order (below_less k r ys h))
 
   -- rows left of ascending rows are ascending
   pub sub_ascending : {xs ys : List (Row A)} → Sub xs ys → ascending ys ≡ true → ascending xs ≡ true
   sub_ascending done order = order
   sub_ascending (keep {r} {xs} {ys} s) order =
-      let parts = ascending-parts r ys order in
-      ascending-cons r xs (sub_below r.key s parts.1 parts.0) (sub_ascending s parts.1)
-  sub_ascending (leave {r} {xs} {ys} s) order = sub_ascending s (ascending-parts r ys order).1
+      let parts = ascending_parts r ys order in
+      ascending_cons r xs (sub_below r.key s parts.1 parts.0) (sub_ascending s parts.1)
+  sub_ascending (leave {r} {xs} {ys} s) order = sub_ascending s (ascending_parts r ys order).1
 
   -- an erase takes rows out
   pub sub_erase : (k : List ℕ) (rs : List (Row A)) → Sub (erase k rs) rs
@@ -234,34 +234,34 @@ module _ {A : Type 0} where
 
   module _ (k : List ℕ) (e : A) where
     -- rows that keep a rule keep it after a row that does is stored
-    pub every-store : (rule : Row A → Bool) (rs : List (Row A)) → rule (row_under k e) ≡ true → every rule rs ≡ true → every rule (store k e rs) ≡ true
+    pub every_store : (rule : Row A → Bool) (rs : List (Row A)) → rule (row_under k e) ≡ true → every rule rs ≡ true → every rule (store k e rs) ≡ true
     unfolding store
-    every-store rule [] h rules = every-cons rule (row_under k e) [] h rules
-    every-store rule (r ∷ rs) h rules =
+    every_store rule [] h rules = every_cons rule (row_under k e) [] h rules
+    every_store rule (r ∷ rs) h rules =
         let stored : Row A = row_under k e in
-        let parts = every-parts rule r rs rules in
-        let rest : every rule (store k e rs) ≡ true = every-store rule rs h parts.1 in
+        let parts = every_parts rule r rs rules in
+        let rest : every rule (store k e rs) ≡ true = every_store rule rs h parts.1 in
         by_answer (compare_bytes k r.key)
-        (λ o. rw o (every-cons rule stored (r ∷ rs) h rules))
-        (λ o. rw o (every-cons rule stored rs h parts.1))
-        (λ o. rw o (every-cons rule r (store k e rs) parts.0 rest))
+        (λ o. rw o (every_cons rule stored (r ∷ rs) h rules))
+        (λ o. rw o (every_cons rule stored rs h parts.1))
+        (λ o. rw o (every_cons rule r (store k e rs) parts.0 rest))
 
     -- what is below the rows and before the stored key is below the rows after
-    pub below-store : (a : List ℕ) (rs : List (Row A)) → compare_bytes a k ≡ Less → below a rs ≡ true → below a (store k e rs) ≡ true
+    pub below_store : (a : List ℕ) (rs : List (Row A)) → compare_bytes a k ≡ Less → below a rs ≡ true → below a (store k e rs) ≡ true
     unfolding store
-    below-store a [] h under = rw h
-    below-store a (r ∷ rs) h under =
+    below_store a [] h under = rw h
+    below_store a (r ∷ rs) h under =
         by_answer (compare_bytes k r.key) (λ o. rw (o, h)) (λ o. rw (o, h)) (λ o. rw o under)
 
     -- ascending rows are ascending after a store
-    pub ascending-store : (rs : List (Row A)) → ascending rs ≡ true → ascending (store k e rs) ≡ true
+    pub ascending_store : (rs : List (Row A)) → ascending rs ≡ true → ascending (store k e rs) ≡ true
     unfolding store
-    ascending-store [] order = ascending-cons (row_under k e) [] refl order
-    ascending-store (r ∷ rs) order =
+    ascending_store [] order = ascending_cons (row_under k e) [] refl order
+    ascending_store (r ∷ rs) order =
         let stored : Row A = row_under k e in
-        let parts = ascending-parts r rs order in
-        let rest : ascending (store k e rs) ≡ true = ascending-store rs parts.1 in
+        let parts = ascending_parts r rs order in
+        let rest : ascending (store k e rs) ≡ true = ascending_store rs parts.1 in
         by_answer (compare_bytes k r.key)
-        (λ o. rw o (ascending-cons stored (r ∷ rs) (less-below k r rs o) order))
-        (λ o. rw o (ascending-cons stored rs (equal-below r rs k order o) parts.1))
-        (λ o. rw o (ascending-cons r (store k e rs) (below-store r.key rs (greater_flip k r.key o) parts.0) rest))
+        (λ o. rw o (ascending_cons stored (r ∷ rs) (less_below k r rs o) order))
+        (λ o. rw o (ascending_cons stored rs (equal_below r rs k order o) parts.1))
+        (λ o. rw o (ascending_cons r (store k e rs) (below_store r.key rs (greater_flip k r.key o) parts.0) rest))

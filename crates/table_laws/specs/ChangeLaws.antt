@@ -13,7 +13,7 @@ use Rattle.table.specs.Table.{Row, row_under, look, store, erase, remove_at}
 use Rattle.table.specs.Private.{place_from, insert_at, remove_run}
 use Rattle.table.specs.Memory.{Layout, row_bytes, row_of, rows, laid, Holds}
 use Rattle.table.specs.TableLaws.{sub_remove_at, sub_remove_run}
-use Rattle.table.specs.PlaceLaws.{at-inside, at_key, at_store, at_erase, at-length-store, at-length-erase, gap-inside, gap-store, gap-length-store, length-store-some, length-store-none}
+use Rattle.table.specs.PlaceLaws.{at_inside, at_key, at_store, at_erase, at_length_store, at_length_erase, gap_inside, gap_store, gap_length_store, length_store_some, length_store_none}
 use Rattle.table.specs.MemoryLaws.{Faithful, AllFit, Fit, length_rows, rows_cons, fit_rows, fit_append, fit_take, fit_drop, fit_insert_at, sub_fit}
 use Rattle.table.specs.MemoryLaws.{put_remove, put_remove_run, put_insert, put_entry, holds, key_rows, key_row_of, laid_rows, laid_laid}
 use Rattle.table_laws.specs.Raw.{raw_layout, map_entries}
@@ -40,10 +40,10 @@ module _ {A : Type 0} {L : Layout A} {Good : A → Type 0} (ok : Faithful L Good
         holds ok s t n (remove_at i (rows L s n)) (sub_fit ok (sub_remove_at i (rows L s n)) all_fit) (e ∙ put_remove ok s n i b h k)
 
     -- m neighbouring rows taken out
-    pub removed-run : (i m : ℕ) → i + m ≤ n
+    pub removed_run : (i m : ℕ) → i + m ≤ n
         → t ≡ put s (L.width * i) (part s (L.width * (i + m)) (L.width * (n - (i + m))) ++ zeros (L.width * m))
         → Holds L s t n (remove_run i m (rows L s n))
-    removed-run i m k e =
+    removed_run i m k e =
         holds ok s t n (remove_run i m (rows L s n)) (sub_fit ok (sub_remove_run i m (rows L s n)) all_fit) (e ∙ put_remove_run ok s n i m b h k)
 
     -- an entry's bytes written over those of the i-th
@@ -55,9 +55,9 @@ module _ {A : Type 0} {L : Layout A} {Good : A → Type 0} (ok : Faithful L Good
         let inside : L.width * i + L.key_width ≤ length s = omega (arith, row_in L.width i n (length s) k h, ok.key_fits) in
         let fit : Fit L Good (row_under key e) =
         record {
-          key-length = length_part s (L.width * i) L.key_width inside;
-          key-bytes = Bytes_part s (L.width * i) L.key_width b;
-          entry-good = good;
+          key_length = length_part s (L.width * i) L.key_width inside;
+          key_bytes_lem = Bytes_part s (L.width * i) L.key_width b;
+          entry_good = good;
         } in
         holds ok s t n (over L s n i e)
         (fit_append ok (take i rs) (row_under key e ∷ drop (i + 1) rs) (fit_take ok i rs all_fit) (fit, fit_drop ok (i + 1) rs all_fit))
@@ -68,8 +68,8 @@ module _ {A : Type 0} {L : Layout A} {Good : A → Type 0} (ok : Faithful L Good
         → bytes ≡ L.encode e → t ≡ put s (L.width * i) ((key ++ bytes) ++ part s (L.width * i) (L.width * (n - i)))
         → Holds L s t n (insert_at i (row_under key e) (rows L s n))
     unfolding row_bytes
-    inserted i key e bytes k long key-bytes good same w =
-        let fit : Fit L Good (row_under key e) = record { key-length = long; key-bytes = key-bytes; entry-good = good } in
+    inserted i key e bytes k long key_bytes_lem good same w =
+        let fit : Fit L Good (row_under key e) = record { key_length = long; key_bytes_lem = key_bytes_lem; entry_good = good } in
         holds ok s t n (insert_at i (row_under key e) (rows L s n)) (fit_insert_at ok i (row_under key e) (rows L s n) fit all_fit)
         (w ∙ ap (λ (l : List ℕ). put s (L.width * i) ((key ++ l) ++ part s (L.width * i) (L.width * (n - i)))) same
         ∙ put_insert ok s n i (row_under key e) b h k fit)
@@ -83,11 +83,11 @@ module _ {A : Type 0} {L : Layout A} {Good : A → Type 0} (ok : Faithful L Good
 module _ {A : Type 0} (L : Layout A) (s : List ℕ) (n : ℕ) (k : List ℕ) (j : ℕ) where
   -- where the key stands is the index of a row
   pub place_inside : place_from 0 k (rows L s n) ≡ At j → j < n
-  place_inside h = omega (arith, at-inside k (rows L s n) h, length_rows L s n)
+  place_inside h = omega (arith, at_inside k (rows L s n) h, length_rows L s n)
 
   -- where the key would stand is before a row or behind the last
   pub gap_within : place_from 0 k (rows L s n) ≡ Gap j → j ≤ n
-  gap_within h = omega (arith, gap-inside k (rows L s n) h, length_rows L s n)
+  gap_within h = omega (arith, gap_inside k (rows L s n) h, length_rows L s n)
 
 -- ════ Stored and erased by key ════
 
@@ -108,14 +108,14 @@ module _ {A : Type 0} {L : Layout A} {Good : A → Type 0} (ok : Faithful L Good
   pub stored_at : (e : A) → place_from 0 k (rows L s n) ≡ At j → Holds L s t n (over L s n j e)
       → Counted L s t n n (store k e (rows L s n))
   stored_at e h held =
-      (holds_same (over_store e h) held, sym (at-length-store k (rows L s n) h e ∙ length_rows L s n))
+      (holds_same (over_store e h) held, sym (at_length_store k (rows L s n) h e ∙ length_rows L s n))
 
   -- a store into a row put in
   pub stored_gap : (e : A) → place_from 0 k (rows L s n) ≡ Gap j → Holds L s t n (insert_at j (row_under k e) (rows L s n))
       → Counted L s t n (n + 1) (store k e (rows L s n))
   stored_gap e h held = (
-    holds_same (sym (gap-store k (rows L s n) h e)) held,
-    sym (gap-length-store k (rows L s n) h e ∙ ap (λ (m : ℕ). m + 1) (length_rows L s n)),
+    holds_same (sym (gap_store k (rows L s n) h e)) held,
+    sym (gap_length_store k (rows L s n) h e ∙ ap (λ (m : ℕ). m + 1) (length_rows L s n)),
   )
 
   -- the row of the key taken out is an erase
@@ -123,7 +123,7 @@ module _ {A : Type 0} {L : Layout A} {Good : A → Type 0} (ok : Faithful L Good
       → Counted L s t n (n - 1) (erase k (rows L s n))
   erased_at h held = (
     holds_same (sym (at_erase k (rows L s n) h)) held,
-    omega (arith, at-length-erase k (rows L s n) h, length_rows L s n),
+    omega (arith, at_length_erase k (rows L s n) h, length_rows L s n),
   )
 
   -- the entry that stands under the key, stored again: the rows as they are
@@ -155,8 +155,8 @@ pub length_store_most : {A : Type 0} (k : List ℕ) (e : A) (rs : List (Row A)) 
 length_store_most {A} k e rs = by (look k rs) refl
   where
     by : (found : Option A) → look k rs ≡ found → length (store k e rs) ≤ length rs + 1
-    by none h = omega (arith, length-store-none k rs e h)
-    by (some x) h = omega (arith, length-store-some k rs e h)
+    by none h = omega (arith, length_store_none k rs e h)
+    by (some x) h = omega (arith, length_store_some k rs e h)
 
 -- a store among raw rows, of an entry's bytes, is a store of the entry among the rows
 module _ {A : Type 0} {L : Layout A} {Good : A → Type 0} (ok : Faithful L Good) (s t : List ℕ) (n m : ℕ) (k : List ℕ) (e : A) (bytes : List ℕ) where

@@ -13,7 +13,7 @@ use Rattle.lent_bytes.specs.LentBytesLaws.{put_nil, put_put, length_part, Bytes_
 use Rattle.table.specs.Table.{Row, every, retain}
 use Rattle.table.specs.Memory.{Layout, row_bytes, row_of, rows, table_bytes, Holds}
 use Rattle.table.specs.TableLaws.{every_at}
-use Rattle.table.specs.RetainLaws.{retain-keeps, retain_drops, retain_ends, length_retain_tried}
+use Rattle.table.specs.RetainLaws.{retain_keeps, retain_drops, retain_ends, length_retain_tried}
 use Rattle.table.specs.MemoryLaws.{Faithful, AllFit, length_rows, get_d_rows, row_bytes_row_of, length_table_bytes, table_bytes_append}
 use Rattle.table.specs.MemoryLaws.{fit_rows, fit_take, fit_retain, part_kept, put_retained, holds}
 use Rattle.table_laws.specs.Raw.{map_row, map_entries}
@@ -50,18 +50,18 @@ module _ {A : Type 0} {L : Layout A} {Good : A → Type 0} (ok : Faithful L Good
 
   module _ {i k : ℕ} {t : List ℕ} (inside : i < length qs) (so : KeptSo L test s qs i t k) (r : Row A) (row : get_or qs i r ≡ r) where
     -- the i-th row fails: the rows kept stay
-    step-drops : test r ≡ false → retain test (take (i + 1) qs) ≡ retain test (take i qs)
-    step-drops h = retain_drops test qs i r inside (ap test row ∙ h)
+    step_drops : test r ≡ false → retain test (take (i + 1) qs) ≡ retain test (take i qs)
+    step_drops h = retain_drops test qs i r inside (ap test row ∙ h)
 
     -- the i-th row passes: it comes behind those kept
     step_keeps : test r ≡ true → retain test (take (i + 1) qs) ≡ retain test (take i qs) ++ (r ∷ [])
     step_keeps h =
-        retain-keeps test qs i r inside (ap test row ∙ h) ∙ ap (λ (q : Row A). retain test (take i qs) ++ (q ∷ [])) row
+        retain_keeps test qs i r inside (ap test row ∙ h) ∙ ap (λ (q : Row A). retain test (take i qs) ++ (q ∷ [])) row
 
     -- what stands in memory when the i-th row was written behind those kept
-    step-written : test r ≡ true → put t (L.width * k) (row_bytes L r) ≡ put s 0 (table_bytes L (retain test (take (i + 1) qs)))
+    step_written : test r ≡ true → put t (L.width * k) (row_bytes L r) ≡ put s 0 (table_bytes L (retain test (take (i + 1) qs)))
     unfolding table_bytes
-    step-written h =
+    step_written h =
         let kept : List (Row A) = retain test (take i qs) in
         let place : L.width * k ≡ 0 + length (table_bytes L kept) =
         ap (λ (m : ℕ). L.width * m) so.count ∙ omega (arith, length_table_bytes ok kept (kept_fit i)) in
@@ -78,14 +78,14 @@ module _ {A : Type 0} {L : Layout A} {Good : A → Type 0} (ok : Faithful L Good
     kept_step u l after next =
         by_test (test r)
         (λ q. record {
-          memory = after ∙ ap (λ (c : Bool). cond c (put t (L.width * k) (row_bytes L r)) t) q ∙ step-written q;
+          memory = after ∙ ap (λ (c : Bool). cond c (put t (L.width * k) (row_bytes L r)) t) q ∙ step_written q;
           count = next ∙ ap (λ (c : Bool). cond c (k + 1) k) q ∙ ap (λ (m : ℕ). m + 1) so.count
               ∙ sym (ap length (step_keeps q) ∙ length-append (retain test (take i qs)) (r ∷ []));
         })
         (λ q. record {
           memory = after ∙ ap (λ (c : Bool). cond c (put t (L.width * k) (row_bytes L r)) t) q ∙ so.memory
-              ∙ ap (λ (rs : List (Row A)). put s 0 (table_bytes L rs)) (sym (step-drops q));
-          count = next ∙ ap (λ (c : Bool). cond c (k + 1) k) q ∙ so.count ∙ ap length (sym (step-drops q));
+              ∙ ap (λ (rs : List (Row A)). put s 0 (table_bytes L rs)) (sym (step_drops q));
+          count = next ∙ ap (λ (c : Bool). cond c (k + 1) k) q ∙ so.count ∙ ap length (sym (step_drops q));
         })
 
   -- the walk has ended: all rows have been tried
@@ -121,17 +121,17 @@ module _ {A : Type 0} {L : Layout A} {Good : A → Type 0} (ok : Faithful L Good
 
   module _ {i k : ℕ} {t : List ℕ} (inside : i < n) (so : KeptSo L test s (map_entries f (rows L s n)) i t k) where
     -- the i-th of the rewritten rows is that of the place
-    row-rewritten : get_or (map_entries f (rows L s n)) i (rewritten L f t i) ≡ rewritten L f t i
-    row-rewritten =
+    row_rewritten : get_or (map_entries f (rows L s n)) i (rewritten L f t i) ≡ rewritten L f t i
+    row_rewritten =
         get_d_map f (rows L s n) i (row_of L (part t (L.width * i) L.width))
         ∙ ap (map_row f) (get_d_rows L s n i (row_of L (part t (L.width * i) L.width)) inside
         ∙ ap (row_of L) (sym (kept_place ok test s (map_entries f (rows L s n)) fit so)))
 
     -- one step: the row is written, rewritten, behind those kept, if it then passes
-    pub keep-step : (u : List ℕ) (l : ℕ) → u ≡ cond (test (rewritten L f t i)) (put t (L.width * k) (row_bytes L (rewritten L f t i))) t
+    pub keep_step : (u : List ℕ) (l : ℕ) → u ≡ cond (test (rewritten L f t i)) (put t (L.width * k) (row_bytes L (rewritten L f t i))) t
         → l ≡ cond (test (rewritten L f t i)) (k + 1) k → KeptSo L test s (map_entries f (rows L s n)) (i + 1) u l
-    keep-step =
-        kept_step ok test s (map_entries f (rows L s n)) fit (omega (arith, length_rewritten)) so (rewritten L f t i) row-rewritten
+    keep_step =
+        kept_step ok test s (map_entries f (rows L s n)) fit (omega (arith, length_rewritten)) so (rewritten L f t i) row_rewritten
 
     -- a row that the walk has not come to still keeps the rule that all rows kept
     pub kept_rule : (rule : Row A → Bool) → every rule (rows L s n) ≡ true → rule (row_of L (part t (L.width * i) L.width)) ≡ true

@@ -17,12 +17,12 @@ use Rattle.pubkey.specs.Order.{compare_bytes}
 use Rattle.table.specs.Table.{Row, row_under, every, ascending, store}
 use Rattle.table.specs.Memory.{Layout, row_of, rows, row_bytes, table_bytes, laid}
 use Rattle.table.specs.Outcome.{Change, same, become, Memory, changed_rows, count_after}
-use Rattle.table.specs.TableLaws.{by_answer, every-store, ascending-store, Sub, done, keep, leave, sub_every, sub_ascending, sub_length}
+use Rattle.table.specs.TableLaws.{by_answer, every_store, ascending_store, Sub, done, keep, leave, sub_every, sub_ascending, sub_length}
 use Rattle.table.specs.MemoryLaws.{length_rows, bytes_used}
 use Rattle.table_laws.specs.Words.{Numbers}
 use Rattle.table_laws.specs.WordsLaws.{OfNumbers, length_encode, encode_bytes}
-use Rattle.table_laws.specs.Lent.{lentSound}
-use Rattle.table_laws.specs.LentLaws.{limit_fits, rules-kept, order-kept}
+use Rattle.table_laws.specs.Lent.{lent_sound}
+use Rattle.table_laws.specs.LentLaws.{limit_fits, rules_kept, order_kept}
 use Rattle.table_laws.specs.Kept.{Key, Keyed, Encodes, RowsHold, ChangeHolds, LentHolds, LentKept}
 
 -- ════ Keys ════
@@ -85,9 +85,9 @@ module _ {A : Type 0} {L : Layout A} (enc : Encodes L) where
 
   module _ (s : List ℕ) (n : ℕ) (rs : List (Row A)) (keys : Keyed L rs) where
     -- memory keeps its length
-    pub length-laid-keyed : L.width * n ≤ length s → L.width * length rs ≤ length s → length (laid L s n rs) ≡ length s
+    pub length_laid_keyed : L.width * n ≤ length s → L.width * length rs ≤ length s → length (laid L s n rs) ≡ length s
     unfolding laid
-    length-laid-keyed h k =
+    length_laid_keyed h k =
         let w : ℕ = L.width in
         let freed : List ℕ = zeros (w * (n - length rs)) in
         let behind : List ℕ = drop (w * max n (length rs)) s in
@@ -104,9 +104,9 @@ module _ {A : Type 0} {L : Layout A} (enc : Encodes L) where
         )
 
     -- memory holds bytes
-    pub bytes-laid-keyed : Bytes s → Bytes (laid L s n rs)
+    pub bytes_laid_keyed : Bytes s → Bytes (laid L s n rs)
     unfolding laid
-    bytes-laid-keyed b =
+    bytes_laid_keyed b =
         let w : ℕ = L.width in
         let freed : List ℕ = zeros (w * (n - length rs)) in
         let behind : List ℕ = drop (w * max n (length rs)) s in
@@ -132,8 +132,8 @@ module _ {A : Type 0} (L : Layout A) (rule : Row A → Bool) (limit : ℕ) where
   store_hold k e rs key kept h room =
       record {
         few = room;
-        rules = every-store k e rule rs kept h.rules;
-        order = ascending-store k e rs h.order;
+        rules = every_store k e rule rs kept h.rules;
+        order = ascending_store k e rs h.order;
         keyed = keyed_store L k e rs key h.keyed;
       }
 
@@ -141,19 +141,19 @@ module _ {A : Type 0} (L : Layout A) (rule : Row A → Bool) (limit : ℕ) where
 
   module _ (s : List ℕ) (n : ℕ) where
     -- sound memory holds its rows as it should, where they are no more than the limit
-    pub lent-holds : (own : Bool) → n ≤ limit → lentSound L rule own limit s n ≡ true → LentHolds L rule limit s n
-    lent-holds own few h =
+    pub lent_holds : (own : Bool) → n ≤ limit → lent_sound L rule own limit s n ≡ true → LentHolds L rule limit s n
+    lent_holds own few h =
         record {
           few = few;
           long = limit_fits L rule own limit s n h;
-          rules = rules-kept L rule own limit s n h;
-          order = order-kept L rule own limit s n h;
+          rules = rules_kept L rule own limit s n h;
+          order = order_kept L rule own limit s n h;
         }
 
     -- memory that does is sound, with a record that keeps its own rules
-    pub holds-lent : {own : Bool} → own ≡ true → LentHolds L rule limit s n → lentSound L rule own limit s n ≡ true
-    unfolding lentSound
-    holds-lent own h = both own (both (le-leb (L.width * limit) (length s) h.long) (both h.rules h.order))
+    pub holds_lent : {own : Bool} → own ≡ true → LentHolds L rule limit s n → lent_sound L rule own limit s n ≡ true
+    unfolding lent_sound
+    holds_lent own h = both own (both (le-leb (L.width * limit) (length s) h.long) (both h.rules h.order))
 
     -- the rows that it holds, in bytes
     pub rows_hold : L.key_width ≤ L.width → LentHolds L rule limit s n → Bytes s → RowsHold L rule limit (rows L s n)
@@ -175,7 +175,7 @@ module _ {A : Type 0} {L : Layout A} (enc : Encodes L) (rule : Row A → Bool) (
   change_kept (become rs) h b r m =
       let inside : L.width * n ≤ length s = omega (arith, mul-le-mul_left L.width h.few, h.long) in
       let fits : L.width * length rs ≤ length s = omega (arith, mul-le-mul_left L.width r.few, h.long) in
-      let same_length : length t ≡ length s = ap length m.memory ∙ length-laid-keyed enc s n rs r.keyed inside fits in
+      let same_length : length t ≡ length s = ap length m.memory ∙ length_laid_keyed enc s n rs r.keyed inside fits in
       record {
         holds =
             record {
@@ -185,7 +185,7 @@ module _ {A : Type 0} {L : Layout A} (enc : Encodes L) (rule : Row A → Bool) (
               order = ap ascending m.reads ∙ r.order;
             };
         same_length = same_length;
-        holds_bytes = rw m.memory (bytes-laid-keyed enc s n rs r.keyed b);
+        holds_bytes = rw m.memory (bytes_laid_keyed enc s n rs r.keyed b);
       }
 
 -- the rows after a change are what the change says

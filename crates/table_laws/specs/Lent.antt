@@ -16,5 +16,5 @@ module _ {A : Type 0} (L : Layout A) where
 
     module _ (own : Bool) (limit : ℕ) (s : List ℕ) (n : ℕ) where
       -- a record whose own rules hold or not, with the memory that is lent to it
-      unfoldable pub lentSound : Bool
-      lentSound = own && (long_enough limit s && rows_sound s n)
+      unfoldable pub lent_sound : Bool
+      lent_sound = own && (long_enough limit s && rows_sound s n)

@@ -7,7 +7,7 @@ use Rattle.lent_bytes.specs.LentBytes.{part, put}
 use Rattle.lent_bytes.specs.LentBytesLaws.{length_part, length_put, part_append, put_put, put_over}
 use Rattle.table.specs.Table.{Row, every}
 use Rattle.table.specs.Memory.{Layout}
-use Rattle.table.specs.TableLaws.{every-parts, every-cons}
+use Rattle.table.specs.TableLaws.{every_parts, every_cons}
 use Rattle.table.specs.MemoryLaws.{AllFit}
 use Rattle.table_laws.specs.Raw.{map_row, map_entries}
 use Rattle.table_laws.specs.RawLaws.{length_map, ascending_map}
@@ -22,9 +22,9 @@ module _ {A : Type 0} (f : A → A) where
   fit_map L Good good [] fit = tt
   fit_map L Good good (r ∷ rs) fit = (
     record {
-      key-length = fit.0.key-length;
-      key-bytes = fit.0.key-bytes;
-      entry-good = good r.entry fit.0.entry-good;
+      key_length = fit.0.key_length;
+      key_bytes_lem = fit.0.key_bytes_lem;
+      entry_good = good r.entry fit.0.entry_good;
     },
     fit_map L Good good rs fit.1,
   )
@@ -41,12 +41,12 @@ module _ {A : Type 0} (f : A → A) where
     unfolding map_entries
     every_map [] h = h
     every_map (r ∷ rs) h =
-        let parts = every-parts rule r rs h in
-        every-cons rule (map_row f r) (map_entries f rs) (kept r parts.0) (every_map rs parts.1)
+        let parts = every_parts rule r rs h in
+        every_cons rule (map_row f r) (map_entries f rs) (kept r parts.0) (every_map rs parts.1)
 
     -- rows that may stand in a table may stand there rewritten
-    pub map-hold : (L : Layout A) (limit : ℕ) (rs : List (Row A)) → RowsHold L rule limit rs → RowsHold L rule limit (map_entries f rs)
-    map-hold L limit rs h =
+    pub map_hold : (L : Layout A) (limit : ℕ) (rs : List (Row A)) → RowsHold L rule limit rs → RowsHold L rule limit (map_entries f rs)
+    map_hold L limit rs h =
         record {
           few = omega (arith, length_map f rs, h.few);
           rules = every_map rs h.rules;

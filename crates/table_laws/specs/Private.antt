@@ -8,7 +8,7 @@ use Rattle.table.specs.Private.{seek, place_from}
 use Rattle.table.specs.Memory.{Layout, row_bytes, rows, table_bytes, Holds}
 use Rattle.table_laws.specs.Raw.{raw_layout, map_row}
 use Rattle.table_laws.specs.Walk.{row_at}
-use Rattle.table_laws.specs.Lent.{long_enough, lentSound}
+use Rattle.table_laws.specs.Lent.{long_enough, lent_sound}
 
 -- ════ Judged and found ════
 
@@ -19,12 +19,12 @@ module _ {A : Type 0} (L : Layout A) (rule : Row A → Bool) (own : Bool) (limit
 
   -- all is sound, and the key is that of the i-th row
   pub record Known (i : ℕ) : Type 0 where
-    pub is_sound : lentSound L rule own limit s n ≡ true
+    pub is_sound : lent_sound L rule own limit s n ≡ true
     pub place : place_from 0 k (rows L s n) ≡ At i
 
   -- all is sound, and the key has no row: it would stand before the i-th
   pub record Unknown (i : ℕ) : Type 0 where
-    pub is_sound : lentSound L rule own limit s n ≡ true
+    pub is_sound : lent_sound L rule own limit s n ≡ true
     pub place : place_from 0 k (rows L s n) ≡ Gap i
 
 -- ════ Rows that a change leaves, and their number ════

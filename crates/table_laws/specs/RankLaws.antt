@@ -17,24 +17,24 @@ module _ (base : ℕ) where
 
   module _ (a b c d : ℕ) (h : b < base) (k : d < base) where
     -- the first parts decide, and the second where those are equal
-    pub ltb-pair : ltb (ranked base a b) (ranked base c d) ≡ (ltb a c || (eqb a c && ltb b d))
-    ltb-pair =
+    pub ltb_pair : ltb (ranked base a b) (ranked base c d) ≡ (ltb a c || (eqb a c && ltb b d))
+    ltb_pair =
         ⊎_elim
         (λ p. lt-ltb (ranked base a b) (ranked base c d) (rank_first a b c d h p) ∙ rw (lt-ltb a c p))
         (⊎_elim
-        (λ p. ltb-equal p)
+        (λ p. ltb_equal p)
         (λ p. let q : ranked base c d < ranked base a b = rank_first c d a b k p in
         le-ltb (ranked base a b) (ranked base c d) (omega arith) ∙ rw (le-ltb a c (omega arith), ne_eqb a c (λ e. omega arith))))
         (numbers_cases a c)
       where
-        ltb-same : (x y z : ℕ) → ltb (x + y) (x + z) ≡ ltb y z
-        ltb-same x y z =
+        ltb_same : (x y z : ℕ) → ltb (x + y) (x + z) ≡ ltb y z
+        ltb_same x y z =
             ⊎_elim (λ p. lt-ltb (x + y) (x + z) (omega arith) ∙ sym (lt-ltb y z p))
             (⊎_elim (λ p. le-ltb (x + y) (x + z) (omega arith) ∙ sym (le-ltb y z (omega arith)))
             (λ p. le-ltb (x + y) (x + z) (omega arith) ∙ sym (le-ltb y z (omega arith))))
             (numbers_cases y z)
 
-        ltb-equal : a ≡ c → ltb (ranked base a b) (ranked base c d) ≡ (ltb a c || (eqb a c && ltb b d))
-        ltb-equal e =
-            ap (λ (x : ℕ). ltb (x * base + b) (c * base + d)) e ∙ ltb-same (c * base) b d
+        ltb_equal : a ≡ c → ltb (ranked base a b) (ranked base c d) ≡ (ltb a c || (eqb a c && ltb b d))
+        ltb_equal e =
+            ap (λ (x : ℕ). ltb (x * base + b) (c * base + d)) e ∙ ltb_same (c * base) b d
             ∙ sym (rw (le-ltb a c (omega arith), eq-eqb a c e))

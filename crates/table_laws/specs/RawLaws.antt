@@ -115,34 +115,34 @@ module _ {A : Type 0} (L : Layout A) where
 
   module _ (s : List ℕ) (n : ℕ) where
     -- the rows ascend where the raw ones do
-    pub ascending-raw : ascending (rows L s n) ≡ ascending (raw_rows s n)
-    ascending-raw = ap ascending (rows_raw s n) ∙ ascending_map L.decode (raw_rows s n)
+    pub ascending_raw : ascending (rows L s n) ≡ ascending (raw_rows s n)
+    ascending_raw = ap ascending (rows_raw s n) ∙ ascending_map L.decode (raw_rows s n)
 
     -- a key has its place among the raw rows
-    place-rows : (i j : ℕ) (k : List ℕ) → place_from i k (drop j (rows L s n)) ≡ place_from i k (drop j (raw_rows s n))
-    place-rows i j k =
+    place_rows : (i j : ℕ) (k : List ℕ) → place_from i k (drop j (rows L s n)) ≡ place_from i k (drop j (raw_rows s n))
+    place_rows i j k =
         ap (λ (rs : List (Row A)). place_from i k (drop j rs)) (rows_raw s n)
         ∙ ap (place_from i k) (drop_map L.decode j (raw_rows s n))
         ∙ place_map L.decode i k (drop j (raw_rows s n))
 
     module _ {r : Seek} (k : List ℕ) (size : length k ≡ L.key_width) where
       -- a place among the raw rows from the j-th on, the first of which counts as the i-th, is that among the rows
-      pub place-raw : (i j : ℕ) → r ≡ place_from i k (drop j (rows (raw_layout (length k) L.width) s n))
+      pub place_raw : (i j : ℕ) → r ≡ place_from i k (drop j (rows (raw_layout (length k) L.width) s n))
           → r ≡ place_from i k (drop j (rows L s n))
-      place-raw i j found =
-          found ∙ ap (λ (w : ℕ). place_from i k (drop j (rows (raw_layout w L.width) s n))) size ∙ sym (place-rows i j k)
+      place_raw i j found =
+          found ∙ ap (λ (w : ℕ). place_from i k (drop j (rows (raw_layout w L.width) s n))) size ∙ sym (place_rows i j k)
 
       -- what is found in raw rows is found in the rows, where these keep their rule
-      pub seek-raw : (rule : Row A → Bool) → r ≡ seek any_row k (rows (raw_layout (length k) L.width) s n)
+      pub seek_raw : (rule : Row A → Bool) → r ≡ seek any_row k (rows (raw_layout (length k) L.width) s n)
           → every rule (rows L s n) ≡ true → r ≡ seek rule k (rows L s n)
       unfolding seek
-      seek-raw rule found rules =
+      seek_raw rule found rules =
           let raw : List (Row (List ℕ)) = raw_rows s n in
           found ∙ ap (λ (w : ℕ). seek any_row k (rows (raw_layout w L.width) s n)) size
           ∙ ap (λ (b : Bool). cond (b && ascending raw) (place_from 0 k raw) Unsound) (every_any raw)
           ∙ sym (ap (λ (b : Bool). cond (b && ascending (rows L s n)) (place_from 0 k (rows L s n)) Unsound) rules
-          ∙ ap (λ (b : Bool). cond b (place_from 0 k (rows L s n)) Unsound) ascending-raw
-          ∙ ap (λ (p : Seek). cond (ascending raw) p Unsound) (place-rows 0 0 k))
+          ∙ ap (λ (b : Bool). cond b (place_from 0 k (rows L s n)) Unsound) ascending_raw
+          ∙ ap (λ (p : Seek). cond (ascending raw) p Unsound) (place_rows 0 0 k))
 
 module _ {A : Type 0} {L : Layout A} {Good : A → Type 0} (ok : Faithful L Good) where
   -- decoded rows have the bytes of the raw ones
@@ -151,7 +151,7 @@ module _ {A : Type 0} {L : Layout A} {Good : A → Type 0} (ok : Faithful L Good
   unfolding table_bytes row_bytes map_entries
   table_bytes_raw [] f = refl
   table_bytes_raw (r ∷ rs) f =
-      let good : RawFits L.key_width L.width r.entry = f.0.entry-good in
+      let good : RawFits L.key_width L.width r.entry = f.0.entry_good in
       rw (
         ok.encode_decode r.entry good.bytes good.size,
         raw_encode L.key_width L.width r.entry good.size,

@@ -113,17 +113,17 @@ module _ {A : Type 0} {L : Layout A} {Good : A → Type 0} (ok : Faithful L Good
       made_free k = left_alone (room_free limit test evict (rows L s n) (omega (arith, length_rows L s n)))
 
       module _ (full : limit ≤ n) (t : List ℕ) (k : ℕ) (left : Left L s t n k (retain test (rows L s n))) where
-        full-rows : limit ≤ length (rows L s n)
-        full-rows = omega (arith, length_rows L s n)
+        full_rows : limit ≤ length (rows L s n)
+        full_rows = omega (arith, length_rows L s n)
 
         -- the rows that fail have gone, and there is room
         pub made_pruned : k < limit → Left L s t n k (room_made limit test evict (rows L s n))
-        made_pruned l = left_same L (sym (room_pruned limit test evict (rows L s n) full-rows (omega (arith, left.1)))) left
+        made_pruned l = left_same L (sym (room_pruned limit test evict (rows L s n) full_rows (omega (arith, left.1)))) left
 
         -- the table was still full, and one row more has gone
-        pub made-evicted : limit ≤ k → (u : List ℕ) (r : ℕ) → Left L t u k r (evict (rows L t k))
+        pub made_evicted : limit ≤ k → (u : List ℕ) (r : ℕ) → Left L t u k r (evict (rows L t k))
             → Left L s u n r (room_made limit test evict (rows L s n))
-        made-evicted l u r gone =
-            left_same L (sym (room_evicted limit test evict (rows L s n) full-rows (omega (arith, left.1))))
+        made_evicted l u r gone =
+            left_same L (sym (room_evicted limit test evict (rows L s n) full_rows (omega (arith, left.1))))
             (changed_again evict (sub_fit ok (sub_retain test (rows L s n)) (fit_rows ok s n b h))
             (omega (arith, length_retain test (rows L s n), length_rows L s n)) left gone)

@@ -6,7 +6,7 @@ use mathlib.Core.List.{List, [], ◌∷◌}
 use Rattle.pubkey.specs.Order.{compare_bytes}
 use Rattle.table.specs.Table.{Row, row_under, below, ascending, store, erase}
 use Rattle.table.specs.Memory.{Layout, rows, Holds}
-use Rattle.table.specs.TableLaws.{by_answer, below_less, ascending-parts, equal-below}
+use Rattle.table.specs.TableLaws.{by_answer, below_less, ascending_parts, equal_below}
 use Rattle.table.specs.MemoryLaws.{Faithful, AllFit}
 use Rattle.table_laws.specs.Private.{Counted}
 use Rattle.table_laws.specs.ChangeLaws.{holds_holds}
@@ -23,8 +23,8 @@ module _ {A : Type 0} (k : List ℕ) (e : A) where
   unfolding store erase
   store_erase [] h = refl
   store_erase (r ∷ rs) h =
-      let rest : store k e (erase k rs) ≡ store k e rs = store_erase rs (ascending-parts r rs h).1 in
-      by_answer (compare_bytes k r.key) (λ o. rw (o, o)) (λ o. rw o (store_below rs (equal-below r rs k h o))) (λ o. rw (o, o, rest))
+      let rest : store k e (erase k rs) ≡ store k e rs = store_erase rs (ascending_parts r rs h).1 in
+      by_answer (compare_bytes k r.key) (λ o. rw (o, o)) (λ o. rw o (store_below rs (equal_below r rs k h o))) (λ o. rw (o, o, rest))
 
 -- rows that were left in memory, then changed there: one change of the rows that there were
 pub counted_then : {A : Type 0} {L : Layout A} {Good : A → Type 0} → Faithful L Good → (change : List (Row A) → List (Row A)) (s t u : List ℕ) (n m l : ℕ) (rs : List (Row A))

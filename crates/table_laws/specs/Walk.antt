@@ -32,9 +32,9 @@ module _ {A : Type 0} (L : Layout A) where
     pub key_fits : L.key_width ≤ L.width
     pub front_fits : m ≤ L.key_width
     pub rows_fit : L.width * n ≤ length s
-    pub memory-bytes : Bytes s
-    pub key-bytes : Bytes k
-    pub key-length : length k ≡ L.key_width
+    pub memory_bytes : Bytes s
+    pub key_bytes_lem : Bytes k
+    pub key_length : length k ≡ L.key_width
 
   -- the invariant of the walk at the i-th row. The rows are sound just where those from the i-th on are and come after the one before
   -- them; `last` is the front of that one; and where all rows ascend, the key's place is that among those from `place` on

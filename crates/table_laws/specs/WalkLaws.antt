@@ -22,8 +22,8 @@ use Rattle.table.specs.declared.seek.Seek.TheVariants.{Unsound, At, Gap}
 use Rattle.table.specs.Table.{Row, by_order, below, ascending, every}
 use Rattle.table.specs.Private.{place_from, seek}
 use Rattle.table.specs.Memory.{Layout, row_of, rows}
-use Rattle.table.specs.TableLaws.{below_each, ascending-parts, sound-cons}
-use Rattle.table.specs.PlaceLaws.{place-before, place-first, place-later, seek-sound, seek-unsound}
+use Rattle.table.specs.TableLaws.{below_each, ascending_parts, sound_cons}
+use Rattle.table.specs.PlaceLaws.{place_before, place_first, place_later, seek_sound, seek_unsound}
 use Rattle.table.specs.MemoryLaws.{length_rows, get_d_rows, rows_cons}
 use Rattle.table_laws.specs.Walk.{rises, row_at, follows, sound_from, Walkable, Walking}
 
@@ -71,9 +71,9 @@ module _ {A : Type 0} (L : Layout A) where
 
   module _ (fits : L.key_width ≤ L.width) (s : List ℕ) (n : ℕ) where
     -- the rows from the i-th on come after the one before them where the i-th rises
-    follows-rises : (i : ℕ) → i < n → follows L s n i ≡ rises L.width L.key_width s i
-    follows-rises zero h = refl
-    follows-rises (suc i) h =
+    follows_rises : (i : ℕ) → i < n → follows L s n i ≡ rises L.width L.key_width s i
+    follows_rises zero h = refl
+    follows_rises (suc i) h =
         let key : (row_at L s i).key ≡ part s (L.width * i) L.key_width = key_at fits s i in
         let next : (row_at L s (suc i)).key ≡ part s (L.width * suc i) L.key_width = key_at fits s (suc i) in
         ap (λ (rs : List (Row A)). below (row_at L s i).key rs) (rows_cons L s n (suc i) h)
@@ -82,9 +82,9 @@ module _ {A : Type 0} (L : Layout A) where
 
     module _ (rule : Row A → Bool) (i : ℕ) where
       -- no row is left
-      pub sound-ends : n ≤ i → sound_from L rule s n i ≡ true
+      pub sound_ends : n ≤ i → sound_from L rule s n i ≡ true
       unfolding sound_from every ascending
-      sound-ends h =
+      sound_ends h =
           let most : length (rows L s n) ≤ i = omega (arith, length_rows L s n) in
           ended i (drop_of_length-le (rows L s n) most)
         where
@@ -99,66 +99,66 @@ module _ {A : Type 0} (L : Layout A) where
             ap (follows L s n) (add-one i) ∙ ap (λ (j : ℕ). below (row_at L s i).key (drop j (rows L s n))) (sym (add-one i))
 
         -- one row: it rises and keeps the rule, and so on
-        sound-step : sound_from L rule s n i
+        sound_step : sound_from L rule s n i
             ≡ (rises L.width L.key_width s i && (rule (row_at L s i) && sound_from L rule s n (i + 1)))
         unfolding sound_from
-        sound-step =
+        sound_step =
             let up : Bool = rises L.width L.key_width s i in
             let ruled : Bool = rule (row_at L s i) in
             let rest : List (Row A) = drop (i + 1) (rows L s n) in
-            ap (λ (b : Bool). b && (every rule (drop i (rows L s n)) && ascending (drop i (rows L s n)))) (follows-rises i inside)
+            ap (λ (b : Bool). b && (every rule (drop i (rows L s n)) && ascending (drop i (rows L s n)))) (follows_rises i inside)
             ∙ ap (λ (rs : List (Row A)). up && (every rule rs && ascending rs)) (rows_cons L s n i inside)
-            ∙ ap (λ (b : Bool). up && b) (sound-cons rule (row_at L s i) rest)
+            ∙ ap (λ (b : Bool). up && b) (sound_cons rule (row_at L s i) rest)
             ∙ ap (λ (b : Bool). up && (ruled && (b && (every rule rest && ascending rest)))) (sym follows_next)
 
         -- the i-th row breaks the rule
-        pub sound-breaks-rule : rule (row_at L s i) ≡ false → sound_from L rule s n i ≡ false
-        sound-breaks-rule h = sound-step ∙ second_fails (rises L.width L.key_width s i) (rw h)
+        pub sound_breaks_rule : rule (row_at L s i) ≡ false → sound_from L rule s n i ≡ false
+        sound_breaks_rule h = sound_step ∙ second_fails (rises L.width L.key_width s i) (rw h)
 
         -- the i-th row does not come after the one before it
-        pub sound-breaks-order : rises L.width L.key_width s i ≡ false → sound_from L rule s n i ≡ false
-        sound-breaks-order h = sound-step ∙ rw h
+        pub sound_breaks_order : rises L.width L.key_width s i ≡ false → sound_from L rule s n i ≡ false
+        sound_breaks_order h = sound_step ∙ rw h
 
         -- the i-th row is sound
-        pub sound-goes-on : rule (row_at L s i) ≡ true → rises L.width L.key_width s i ≡ true
+        pub sound_goes_on : rule (row_at L s i) ≡ true → rises L.width L.key_width s i ≡ true
             → sound_from L rule s n i ≡ sound_from L rule s n (i + 1)
-        sound-goes-on h k = sound-step ∙ rw (k, h)
+        sound_goes_on h k = sound_step ∙ rw (k, h)
 
   -- ════ The rule alone: the invariant says that every row keeps it just where those from the i-th on do ════
 
   module _ (rule : Row A → Bool) (s : List ℕ) (n i : ℕ) (from : every rule (rows L s n) ≡ every rule (drop i (rows L s n))) where
     -- no row is left
-    pub rules-end : n ≤ i → every rule (rows L s n) ≡ true
+    pub rules_end : n ≤ i → every rule (rows L s n) ≡ true
     unfolding every
-    rules-end h =
+    rules_end h =
         let most : length (rows L s n) ≤ i = omega (arith, length_rows L s n) in
         from ∙ ap (every rule) (drop_of_length-le (rows L s n) most)
 
     module _ (inside : i < n) where
-      rules-step : every rule (rows L s n) ≡ (rule (row_at L s i) && every rule (drop (i + 1) (rows L s n)))
+      rules_step : every rule (rows L s n) ≡ (rule (row_at L s i) && every rule (drop (i + 1) (rows L s n)))
       unfolding every
-      rules-step = from ∙ ap (every rule) (rows_cons L s n i inside)
+      rules_step = from ∙ ap (every rule) (rows_cons L s n i inside)
 
       -- the i-th row breaks the rule
-      pub rules-break : rule (row_at L s i) ≡ false → every rule (rows L s n) ≡ false
-      rules-break h = rules-step ∙ rw h
+      pub rules_break : rule (row_at L s i) ≡ false → every rule (rows L s n) ≡ false
+      rules_break h = rules_step ∙ rw h
 
       -- the i-th row keeps the rule
-      pub rules-go-on : rule (row_at L s i) ≡ true → every rule (rows L s n) ≡ every rule (drop (i + 1) (rows L s n))
-      rules-go-on h = rules-step ∙ rw h
+      pub rules_go_on : rule (row_at L s i) ≡ true → every rule (rows L s n) ≡ every rule (drop (i + 1) (rows L s n))
+      rules_go_on h = rules_step ∙ rw h
 
   -- rows that do not all keep the rule are unsound
   pub rules_fail : (rule : Row A → Bool) (s : List ℕ) (n : ℕ) (k : List ℕ) → every rule (rows L s n) ≡ false → Unsound ≡ seek rule k (rows L s n)
-  rules_fail rule s n k h = sym ((seek-unsound rule k (rows L s n)).1 (rw h))
+  rules_fail rule s n k h = sym ((seek_unsound rule k (rows L s n)).1 (rw h))
 
   -- ════ Finding from a row on: the invariant says that the answer is the key's place among the rows from the i-th on ════
 
   module _ (fits : L.key_width ≤ L.width) (k s : List ℕ) (n : ℕ) (answer : Seek) (i : ℕ)
       (from : answer ≡ place_from i k (drop i (rows L s n))) where
     -- no row is left
-    pub find-ends : n ≤ i → answer ≡ Gap i
+    pub find_ends : n ≤ i → answer ≡ Gap i
     unfolding place_from
-    find-ends h =
+    find_ends h =
         let most : length (rows L s n) ≤ i = omega (arith, length_rows L s n) in
         from ∙ rw (drop_of_length-le (rows L s n) most)
 
@@ -168,17 +168,17 @@ module _ {A : Type 0} (L : Layout A) where
       from_row = from ∙ ap (λ (rs : List (Row A)). place_from i k rs) (rows_cons L s n i inside)
 
       -- the key comes before the i-th row
-      pub find-before : compare_bytes k (part s (L.width * i) L.key_width) ≡ Less → answer ≡ Gap i
-      find-before h = from_row ∙ place-before i k (row_at L s i) (drop (i + 1) (rows L s n)) (rw (key_at fits s i) h)
+      pub find_before : compare_bytes k (part s (L.width * i) L.key_width) ≡ Less → answer ≡ Gap i
+      find_before h = from_row ∙ place_before i k (row_at L s i) (drop (i + 1) (rows L s n)) (rw (key_at fits s i) h)
 
       -- the key is that of the i-th row
-      pub find-finds : compare_bytes k (part s (L.width * i) L.key_width) ≡ Equal → answer ≡ At i
-      find-finds h = from_row ∙ place-first i k (row_at L s i) (drop (i + 1) (rows L s n)) (rw (key_at fits s i) h)
+      pub find_finds : compare_bytes k (part s (L.width * i) L.key_width) ≡ Equal → answer ≡ At i
+      find_finds h = from_row ∙ place_first i k (row_at L s i) (drop (i + 1) (rows L s n)) (rw (key_at fits s i) h)
 
       -- the key comes after the i-th row
-      pub find-goes-on : compare_bytes k (part s (L.width * i) L.key_width) ≡ Greater
+      pub find_goes_on : compare_bytes k (part s (L.width * i) L.key_width) ≡ Greater
           → answer ≡ place_from (i + 1) k (drop (i + 1) (rows L s n))
-      find-goes-on h = from_row ∙ place-later i k (row_at L s i) (drop (i + 1) (rows L s n)) (rw (key_at fits s i) h)
+      find_goes_on h = from_row ∙ place_later i k (row_at L s i) (drop (i + 1) (rows L s n)) (rw (key_at fits s i) h)
 
 -- ════ Rows whose fronts are below the key's ════
 
@@ -189,16 +189,16 @@ module _ {A : Type 0} (L : Layout A) (m : ℕ) (s : List ℕ) (n : ℕ) (k : Lis
   passes =
       let w : ℕ = L.key_width in
       let own : List ℕ = part s (L.width * i) w in
-      let all : part k 0 w ≡ k = ap (part k 0) (sym on.key-length) ∙ part_all k in
+      let all : part k 0 w ≡ k = ap (part k 0) (sym on.key_length) ∙ part_all k in
       let room : L.width * i + w ≤ length s = omega (arith, row_in L.width i n (length s) inside on.rows_fit, on.key_fits) in
       let first : compare_bytes own (part k 0 w) ≡ Less =
-      front_less m w s (L.width * i) k 0 on.front_fits on.memory-bytes on.key-bytes room (omega (arith, on.key-length)) less in
+      front_less m w s (L.width * i) k 0 on.front_fits on.memory_bytes on.key_bytes_lem room (omega (arith, on.key_length)) less in
       less_flip own k (ap (compare_bytes own) (sym all) ∙ first)
 
   -- so a search goes on behind it, whatever the order of the rows
   pub find_passes : (answer : Seek) → answer ≡ place_from i k (drop i (rows L s n))
       → answer ≡ place_from (i + 1) k (drop (i + 1) (rows L s n))
-  find_passes answer from = find-goes-on L on.key_fits k s n answer i from inside passes
+  find_passes answer from = find_goes_on L on.key_fits k s n answer i from inside passes
 
 -- ════ Rows passed, where they ascend ════
 
@@ -210,9 +210,9 @@ module _ {A : Type 0} where
   after_earlier k (r ∷ rs) zero zero d order most inside after = after
   after_earlier k (r ∷ rs) (suc p) zero d order most inside after = absurd (omega arith)
   after_earlier k (r ∷ rs) (suc p) (suc i) d order most inside after =
-      after_earlier k rs p i d (ascending-parts r rs order).1 (omega arith) (omega arith) after
+      after_earlier k rs p i d (ascending_parts r rs order).1 (omega arith) (omega arith) after
   after_earlier k (r ∷ rs) zero (suc i) d order most inside after =
-      let parts = ascending-parts r rs order in
+      let parts = ascending_parts r rs order in
       let own : List ℕ = (get_or rs i d).key in
       let less : compare_bytes r.key own ≡ Less = below_each r.key rs i d parts.0 parts.1 (omega arith) in
       less_flip r.key k (transitive r.key own k less (greater_flip k own after))
@@ -238,22 +238,22 @@ module _ {A : Type 0} (L : Layout A) (rule : Row A → Bool) (m : ℕ) (s : List
   -- rows that are not sound from the first on are not sound
   walk_fails : sound_from L rule s n 0 ≡ false → Unsound ≡ seek rule k (rows L s n)
   unfolding sound_from
-  walk_fails h = sym ((seek-unsound rule k (rows L s n)).1 h)
+  walk_fails h = sym ((seek_unsound rule k (rows L s n)).1 h)
 
   module _ (on : Walkable L m s n k) (i last place : ℕ) (at : Walking L rule m s n k i last place) where
     -- the i-th row breaks the rule
-    pub walk-breaks-rule : i < n → rule (row_at L s i) ≡ false → Unsound ≡ seek rule k (rows L s n)
-    walk-breaks-rule h broken = walk_fails (at.judged ∙ sound-breaks-rule L on.key_fits s n rule i h broken)
+    pub walk_breaks_rule : i < n → rule (row_at L s i) ≡ false → Unsound ≡ seek rule k (rows L s n)
+    walk_breaks_rule h broken = walk_fails (at.judged ∙ sound_breaks_rule L on.key_fits s n rule i h broken)
 
     -- the i-th row does not come after the one before it
-    pub walk-breaks-order : i < n → rises L.width L.key_width s i ≡ false → Unsound ≡ seek rule k (rows L s n)
-    walk-breaks-order h broken = walk_fails (at.judged ∙ sound-breaks-order L on.key_fits s n rule i h broken)
+    pub walk_breaks_order : i < n → rises L.width L.key_width s i ≡ false → Unsound ≡ seek rule k (rows L s n)
+    walk_breaks_order h broken = walk_fails (at.judged ∙ sound_breaks_order L on.key_fits s n rule i h broken)
 
     -- the key comes after a row whose front is below its own, so after the one at the place, which is no later: it is sought behind that
     counts : i < n → front m s (L.width * i) < front m k 0 → ascending (rows L s n) ≡ true
         → place_from 0 k (rows L s n) ≡ place_from (place + 1) k (drop (place + 1) (rows L s n))
     counts h less order =
-        find-goes-on L on.key_fits k s n (place_from 0 k (rows L s n)) place (at.passed order) (omega (arith, at.place_inside))
+        find_goes_on L on.key_fits k s n (place_from 0 k (rows L s n)) place (at.passed order) (omega (arith, at.place_inside))
         (after_row L on.key_fits k s n place i order at.place_inside h (passes L m s n k on i h less))
 
     module _ (inside : i < n) (ruled : rule (row_at L s i) ≡ true) (risen : rises L.width L.key_width s i ≡ true)
@@ -266,21 +266,21 @@ module _ {A : Type 0} (L : Layout A) (rule : Row A → Bool) (m : ℕ) (s : List
           let back : i ≡ i + 1 - 1 = omega arith in
           record {
             inside = omega arith;
-            judged = at.judged ∙ sound-goes-on L on.key_fits s n rule i inside ruled risen;
+            judged = at.judged ∙ sound_goes_on L on.key_fits s n rule i inside ruled risen;
             carried = λ h. front_is ∙ ap (λ (j : ℕ). front m s (L.width * j)) back;
             place_inside = omega arith;
             passed = λ order. rw e (found order);
           }
 
       -- the i-th row is sound: the invariant at the next. The place may stay, and counts the row only where its front is below the key's
-      pub walk-goes-on : ((own < front m k 0) × (next ≡ place + 1)) ⊎ (next ≡ place) → Walking L rule m s n k (i + 1) own next
-      walk-goes-on (inl w) = stepped (place + 1) w.1 (omega (arith, at.place_inside)) (counts inside (omega (arith, front_is, w.0)))
-      walk-goes-on (inr e) = stepped place e (omega (arith, at.place_inside)) at.passed
+      pub walk_goes_on : ((own < front m k 0) × (next ≡ place + 1)) ⊎ (next ≡ place) → Walking L rule m s n k (i + 1) own next
+      walk_goes_on (inl w) = stepped (place + 1) w.1 (omega (arith, at.place_inside)) (counts inside (omega (arith, front_is, w.0)))
+      walk_goes_on (inr e) = stepped place e (omega (arith, at.place_inside)) at.passed
 
     -- no row is left, and the key was sought from its place on
     pub walk_ends : {r : Seek} → n ≤ i → r ≡ place_from place k (drop place (rows L s n)) → r ≡ seek rule k (rows L s n)
     unfolding sound_from
     walk_ends h found =
-        let sound : (every rule (rows L s n) && ascending (rows L s n)) ≡ true = at.judged ∙ sound-ends L on.key_fits s n rule i h in
+        let sound : (every rule (rows L s n) && ascending (rows L s n)) ≡ true = at.judged ∙ sound_ends L on.key_fits s n rule i h in
         let order : ascending (rows L s n) ≡ true = (both_parts (every rule (rows L s n)) (ascending (rows L s n)) sound).1 in
-        found ∙ sym (seek-sound rule k (rows L s n) sound ∙ at.passed order)
+        found ∙ sym (seek_sound rule k (rows L s n) sound ∙ at.passed order)

@@ -2,6 +2,8 @@
 // their room).
 //
 // Every contract says the same: the text stands at its place, every other byte stays, and the answer is the place behind it.
+#![tactic(auto)]
+
 pub mod column;
 pub mod hex;
 pub mod piece;

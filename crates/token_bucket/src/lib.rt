@@ -7,6 +7,8 @@
 //
 // Each bucket is proved in a crate of its own (`bucket_discrete`, `bucket_bytes`, over `bucket_terms`); this one gathers them, and has
 // the lent forms.
+#![tactic(auto)]
+
 pub mod answer;
 pub mod bytes;
 pub mod discrete;

@@ -59,36 +59,36 @@ release_tested false p q s n h e = record { answers = e ∙ ap (changed_answered
 
 module _ (p : PeerMessagePolicy) (e : Event) (number : ℕ) (before : List ℕ) where
   module _ (after : List ℕ) {b : Answered} where
-    pub asked-admit : e.kind ≡ kind.Admit → (a : Admission)
+    pub asked_admit : e.kind ≡ kind.Admit → (a : Admission)
         → AdmitMeets p before e.key e.bytes e.now_ms a after → b ≡ admission_answered a → AnsweredMeets p before e number b after
     unfolding AdmitMeets admit_outcome AnsweredMeets answered_outcome event_outcome
-    asked-admit k a h w =
+    asked_admit k a h w =
         rw k (meets_tested admission_answered (sound p before)
         (admission_turn p (admit p.config p.ingress (rows_of p before) e.key.bytes e.bytes e.now_ms))
         (admission_of p (Cause.Refused unsound)) h w)
 
-    pub asked-invalid : e.kind ≡ kind.Invalid → (a : Invalid)
+    pub asked_invalid : e.kind ≡ kind.Invalid → (a : Invalid)
         → RecordInvalidMeets p before e.key e.now_ms a after → b ≡ invalid_answered a → AnsweredMeets p before e number b after
     unfolding RecordInvalidMeets record_invalid_outcome AnsweredMeets answered_outcome event_outcome
-    asked-invalid k a h w =
+    asked_invalid k a h w =
         rw k (meets_tested invalid_answered (sound p before)
         (invalid_turn p (record_invalid p.config p.ingress (rows_of p before) e.key.bytes e.now_ms))
         (invalid_of p (InvalidCause.Refused unsound)) h w)
 
-    pub asked-ban : e.kind ≡ kind.BanQuery → (a : Standing)
+    pub asked_ban : e.kind ≡ kind.BanQuery → (a : Standing)
         → IsBannedMeets p before e.key e.now_ms a after → b ≡ standing_answered p a → AnsweredMeets p before e number b after
     unfolding IsBannedMeets is_banned_outcome AnsweredMeets answered_outcome event_outcome
-    asked-ban k a h w =
+    asked_ban k a h w =
         let held = look e.key.bytes (rows_of p before) in
         rw k (meets_tested (standing_answered p) (sound p before)
         (standing_changed p (is_banned held e.now_ms) (is_banned_change (rows_of p before) e.key.bytes e.now_ms held))
         (Standing.Refused unsound) h w)
 
-    pub asked-disconnected : e.kind ≡ kind.Disconnected → (a : Changed)
+    pub asked_disconnected : e.kind ≡ kind.Disconnected → (a : Changed)
         → OnDisconnectedMeets p before e.key e.now_ms a after → b ≡ changed_answered p Answer.Closed a
         → AnsweredMeets p before e number b after
     unfolding OnDisconnectedMeets on_disconnected_outcome AnsweredMeets answered_outcome event_outcome
-    asked-disconnected k a h w =
+    asked_disconnected k a h w =
         let held = look e.key.bytes (rows_of p before) in
         rw k (meets_tested (changed_answered p Answer.Closed) (sound p before)
         (changed_by p (disconnected_change p.config (rows_of p before) e.key.bytes e.now_ms held))

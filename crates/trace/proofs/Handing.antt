@@ -56,19 +56,19 @@ module _ (scan : Scan) (input before : List ℕ) where
   settings_unended k w = rw (not_found input scan.at k) (w, refl)
 
   module _ (end : ℕ) (k : line_end_of input scan.at ≡ At end) (a : Settled) (middle : List ℕ) (settled : SettleMeets (between input scan.at end) before a middle) where
-    pub settings-bad : {r : Handed} → a ≡ Settled.Bad → r ≡ last scan (Answer.BadLine scan.number) → SettingsMeets scan input before r middle
+    pub settings_bad : {r : Handed} → a ≡ Settled.Bad → r ≡ last scan (Answer.BadLine scan.number) → SettingsMeets scan input before r middle
     unfolding SettingsMeets
-    settings-bad e w = rw (found input scan.at end k).first (Settled.Bad, middle, rw e at settled, (w, refl))
+    settings_bad e w = rw (found input scan.at end k).first (Settled.Bad, middle, rw e at settled, (w, refl))
 
     pub settings_refused : {r : Handed} → (n : ℕ) → a ≡ Settled.Refused n → r ≡ last scan (Answer.Refused n) → SettingsMeets scan input before r middle
     unfolding SettingsMeets
     settings_refused n e w = rw (found input scan.at end k).first (Settled.Refused n, middle, rw e at settled, (w, refl))
 
-    pub settings-good : (p : PeerMessagePolicy) → a ≡ Settled.Policy p → (r : Handed) (after : List ℕ)
+    pub settings_good : (p : PeerMessagePolicy) → a ≡ Settled.Policy p → (r : Handed) (after : List ℕ)
         → EventsMeets (record { at = end + 1; number = following scan.number; policy = p; phase = Phase.Events }) input middle r after
         → SettingsMeets scan input before r after
     unfolding SettingsMeets
-    settings-good p e r after next =
+    settings_good p e r after next =
         let f = found input scan.at end k in
         rw f.first (Settled.Policy p, middle, rw e at settled, rw f.behind next)
 

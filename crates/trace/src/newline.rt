@@ -3,7 +3,7 @@ ghost use Rattle.std.specs.Prelude.{◌≡◌};
 ghost use Rattle.trace.specs.Private.{line_end_of};
 
 // The place of a line's newline.
-#[derive(Drop)]
+#[derive(Clone, Copy)]
 pub enum LineEnd {
     At(usize),
     Missing,

@@ -19,7 +19,7 @@ pub const FIRST_LINE: u64 = 1;
 // The number of none: what is handed out where the scan is done answers no line.
 const NO_LINE: u64 = 0;
 
-#[derive(Drop)]
+#[derive(Clone, Copy)]
 pub enum Phase {
     TooLong,
     Settings,
@@ -28,7 +28,7 @@ pub enum Phase {
 }
 
 // Where a scan stands: the place of the next line and its number, the policy, and what the next line is.
-#[derive(Drop)]
+#[derive(Clone, Copy)]
 pub struct Scan {
     pub at: usize,
     pub number: u64,
@@ -38,7 +38,7 @@ pub struct Scan {
 
 // One line to write, the event that it answers with the answer that it spells, and the scan behind it; or, where it is done, an empty
 // line and the scan as it was. Where a line answers no event, the event is a bad one. An enum can't hold a line.
-#[derive(Drop)]
+#[derive(Clone, Copy)]
 pub struct Handed {
     pub done: bool,
     pub event: Event,

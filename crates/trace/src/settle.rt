@@ -6,7 +6,7 @@ use peer_message_policy::policy::PeerMessagePolicy;
 use trace_lines::settings::{Settings, parse_settings};
 
 // What came of a settings line.
-#[derive(Drop)]
+#[derive(Clone, Copy)]
 pub enum Settled {
     Policy(PeerMessagePolicy),
     Refused(u32),

@@ -13,7 +13,7 @@ use trace_lines::event::{Event, EventKind};
 use trace_lines::line::{TraceLine, Word, answer_line, bad_line, refusal_line};
 
 // What was answered to a line of the input.
-#[derive(Drop)]
+#[derive(Clone, Copy)]
 pub enum Answer {
     Admit(Cause),
     Invalid(InvalidCause),
@@ -26,14 +26,14 @@ pub enum Answer {
 }
 
 // The answer, and the policy to go on with: after a refusal or a bad line it is as it was.
-#[derive(Drop)]
+#[derive(Clone, Copy)]
 pub struct Answered {
     pub answer: Answer,
     pub policy: PeerMessagePolicy,
 }
 
 // What an answer is spelled as.
-#[derive(Drop)]
+#[derive(Clone, Copy)]
 pub enum Spoken {
     Word(Word),
     Refusal(u32),
@@ -41,7 +41,7 @@ pub enum Spoken {
 }
 
 // The answer to an event, the policy after it, the line to write, and whether the trace goes on behind it.
-#[derive(Drop)]
+#[derive(Clone, Copy)]
 pub struct Stepped {
     pub answer: Answer,
     pub policy: PeerMessagePolicy,

@@ -27,7 +27,7 @@ use Rattle.trace.specs.Scan.{text_of, first_line, following, last, ended, phase_
 use Rattle.trace_laws.specs.Trace.{InputLine, whole, unended, lines_of, LineAnswer, line_answer_of, answered_then, events_of}
 use Rattle.trace_laws.specs.Running.{answers_from, Lent, Reading, Handing, over, more}
 use Rattle.trace_laws.specs.Fits.{LoadFits, PolicyFits, ScanFits}
-use Rattle.trace_laws.specs.LinesLaws.{lines_at_end, lines-at-unended, lines-at-whole, behind-within}
+use Rattle.trace_laws.specs.LinesLaws.{lines_at_end, lines_at_unended, lines_at_whole, behind_within}
 use Rattle.trace_laws.specs.KeyLaws.{event_key}
 use Rattle.trace_laws.specs.StepLaws.{Stepping, stepping}
 use Rattle.trace_laws.specs.FitsLaws.{event_fits}
@@ -84,7 +84,7 @@ module _ (scan : Scan) (input s t : List ℕ) (here : Reading scan input s) (lin
   after_fits : (q : PeerMessagePolicy) (goes : Bool) → PolicyFits q → ScanFits (after q goes)
   after_fits q goes fits =
       record {
-        at = omega (arith, behind-within input scan.at line first, here.short);
+        at = omega (arith, behind_within input scan.at line first, here.short);
         number = omega (arith, counts, here.counted, here.inside, here.short);
         policy = fits;
       }
@@ -103,7 +103,7 @@ module _ (scan : Scan) (input s t : List ℕ) (here : Reading scan input s) (lin
             record {
               is_sound = is_sound;
               short = here.short;
-              inside = behind-within input scan.at line first;
+              inside = behind_within input scan.at line first;
               counted = omega (arith, counts, here.counted);
             };
       })
@@ -141,7 +141,7 @@ module _ (scan : Scan) (input s t : List ℕ) (fits : ScanFits scan) (lent : Len
       in
       let q : PeerMessagePolicy = o.answer.policy in
       let kept : Kept p s q t = step.leaves.kept in
-      rw (step.answers, lines-at-whole input scan.at line first, events_whole scan.number p rs line behind)
+      rw (step.answers, lines_at_whole input scan.at line first, events_whole scan.number p rs line behind)
       (hands_by scan input s t here line first e o.answer.answer q (changed_rows rs o.change) kept.stays_sound
       (kept_fits p s fits.policy q t kept (event_fits p fits.policy.config fits.policy.load rs e scan.number))
       (record { holds_bytes = kept.holds_bytes; block = kept.same_length ∙ lent.block }) step.leaves.rows
@@ -150,7 +150,7 @@ module _ (scan : Scan) (input s t : List ℕ) (fits : ScanFits scan) (lent : Len
   hands_line : (r : Handed) (line : Option (List ℕ)) → first_line (drop scan.at input) ≡ line → scan.at < length input
       → Meets r s t scan.policy.rows (line_outcome scan line s) → Handing input (rest (lines_of (drop scan.at input))) r t
   hands_line r none first h m =
-      rw (m.answers, lines-at-unended input scan.at h first, events_unended scan.number scan.policy (rows_of scan.policy s))
+      rw (m.answers, lines_at_unended input scan.at h first, events_unended scan.number scan.policy (rows_of scan.policy s))
       (hands_last input t scan (Answer.BadLine scan.number) fits (rw m.leaves lent))
   hands_line r (some line) first h m = rw m.answers (hands_step line first m.leaves)
 

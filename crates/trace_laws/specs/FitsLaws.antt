@@ -27,7 +27,7 @@ use Rattle.peer_rows.specs.Rows.{Peers}
 use Rattle.peer_message_policy.specs.declared.policy.PeerMessagePolicy.{PeerMessagePolicy}
 use Rattle.peer_message_policy.specs.Policy.{Change, Update, banned, update, turn_of, carried_out, noted_down, entry_for_update, Turn, admit, record_invalid, is_banned, is_banned_change}
 use Rattle.peer_message_policy.specs.Calls.{policy_after, standing_changed}
-use Rattle.peer_laws.specs.CallLaws.{of-standing}
+use Rattle.peer_laws.specs.CallLaws.{of_standing}
 use Rattle.trace_lines.specs.declared.settings.Settings.{Settings}
 use Rattle.trace_lines.specs.declared.settings.Settings.TheVariants as Settings
 use Rattle.trace_lines.specs.declared.event.Event.{Event}
@@ -160,7 +160,7 @@ module _ (p : PeerMessagePolicy) (config : ConfigFits p.config) (load : LoadFits
       let change : Change = is_banned_change rs k now (look k rs) in
       let live : Bool = is_banned (look k rs) now in
       of_standing_answered p InFlightFits (standing_changed p live change).answer
-      (of-standing p InFlightFits (policy_after p p.ingress change) live load)
+      (of_standing p InFlightFits (policy_after p p.ingress change) live load)
   kind_fits k size now number kind.Disconnected = load
   kind_fits k size now number kind.Release = record { messages = omega (arith, load.messages); bytes = omega (arith, load.bytes) }
   kind_fits k size now number kind.Bad = load

@@ -69,8 +69,8 @@ module _ (input : List ℕ) (at : ℕ) where
     some_left : 0 < length (drop at input)
     some_left = omega (arith, length-drop at input)
 
-    pub lines-at-unended : first_line (drop at input) ≡ none → lines_of (drop at input) ≡ unended ∷ []
-    lines-at-unended first = lines_unended (drop at input) some_left first
+    pub lines_at_unended : first_line (drop at input) ≡ none → lines_of (drop at input) ≡ unended ∷ []
+    lines_at_unended first = lines_unended (drop at input) some_left first
 
   module _ (line : List ℕ) (first : first_line (drop at input) ≡ some line) where
     behind : drop (suc (length line)) (drop at input) ≡ drop (at + length line + 1) input
@@ -78,9 +78,9 @@ module _ (input : List ℕ) (at : ℕ) where
         let e : at + suc (length line) ≡ at + length line + 1 = omega arith in
         drop-drop (suc (length line)) at input ∙ ap (λ n. drop n input) e
 
-    pub lines-at-whole : lines_of (drop at input) ≡ whole line ∷ lines_of (drop (at + length line + 1) input)
-    lines-at-whole = lines_whole (drop at input) line first ∙ ap (λ text. whole line ∷ lines_of text) behind
+    pub lines_at_whole : lines_of (drop at input) ≡ whole line ∷ lines_of (drop (at + length line + 1) input)
+    lines_at_whole = lines_whole (drop at input) line first ∙ ap (λ text. whole line ∷ lines_of text) behind
 
     -- the place behind the line is no further than the end
-    pub behind-within : at + length line + 1 ≤ length input
-    behind-within = omega (arith, first_within (drop at input) line first, length-drop at input)
+    pub behind_within : at + length line + 1 ≤ length input
+    behind_within = omega (arith, first_within (drop at input) line first, length-drop at input)

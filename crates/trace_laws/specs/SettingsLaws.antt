@@ -45,7 +45,7 @@ use Rattle.trace_laws.specs.Trace.{InputLine, lines_of, events_of, block_places,
 use Rattle.trace_laws.specs.Running.{Lent, Starting, Reading, Handing}
 use Rattle.trace_laws.specs.Fits.{LoadFits, ScanFits}
 use Rattle.trace_laws.specs.FitsLaws.{SettingsFit, settings_fit}
-use Rattle.trace_laws.specs.LinesLaws.{lines_at_end, lines-at-unended, lines-at-whole, behind-within}
+use Rattle.trace_laws.specs.LinesLaws.{lines_at_end, lines_at_unended, lines_at_whole, behind_within}
 use Rattle.trace_laws.specs.EventsLaws.{hands_last, following_more, hands_event}
 
 -- ════ The settings line is missing ════
@@ -56,7 +56,7 @@ answers_unended : (input : List ℕ) (at : ℕ) → first_line (drop at input) �
 answers_unended input at first =
     by_test (leb (length input) at)
     (λ ends. ap lines_answers (lines_at_end input at (leb-true (length input) at ends)))
-    (λ goes. ap lines_answers (lines-at-unended input at (leb-false (length input) at goes) first))
+    (λ goes. ap lines_answers (lines_at_unended input at (leb-false (length input) at goes) first))
 
 -- ════ A fresh policy ════
 
@@ -97,15 +97,15 @@ module _ (scan : Scan) (input s : List ℕ) (fits : ScanFits scan) (lent : Lent 
     behind = lines_of (drop (scan.at + length line + 1) input)
 
     -- good settings: the first event's line
-    hands-fresh : (c : PeerMessagePolicyConfig) → ConfigFits c → Fresh c s (fresh c) middle → EventsMeets (settled_scan scan line (fresh c)) input middle r t
+    hands_fresh : (c : PeerMessagePolicyConfig) → ConfigFits c → Fresh c s (fresh c) middle → EventsMeets (settled_scan scan line (fresh c)) input middle r t
         → Handing input (events_of 2 (fresh c) [] behind) r t
-    hands-fresh c config made m =
+    hands_fresh c config made m =
         let counts : following scan.number ≡ 2 = following_more scan.number (omega (arith, here.first_line_lem)) ∙ ap suc here.first_line_lem in
         let reading : Reading (settled_scan scan line (fresh c)) input middle =
         record {
           is_sound = made.is_sound;
           short = here.short;
-          inside = behind-within input scan.at line first;
+          inside = behind_within input scan.at line first;
           counted = omega (arith, counts);
         }
         in
@@ -125,46 +125,46 @@ module _ (scan : Scan) (input s : List ℕ) (fits : ScanFits scan) (lent : Lent 
         (hands_event (settled_scan scan line (fresh c)) input middle t settled left reading r m))
 
     -- a refusal: the answer that says so
-    hands-refused : (n : ℕ) (a : Settled) → a ≡ Settled.Refused n → middle ≡ s → SettledMeets scan line a input middle r t
+    hands_refused : (n : ℕ) (a : Settled) → a ≡ Settled.Refused n → middle ≡ s → SettledMeets scan line a input middle r t
         → Handing input (unsettled (Answer.Refused n)) r t
-    hands-refused n a e stays told =
+    hands_refused n a e stays told =
         let (says, leaves) = subst (λ x. SettledMeets scan line x input middle r t) e told in
         hands_unsettled (Answer.Refused n) says (leaves ∙ stays)
 
     -- a policy that is made, or refused, by the two tests of its settings
-    hands-made : (c : PeerMessagePolicyConfig) → ConfigFits c → (a : Settled) (many enough : Bool)
+    hands_made : (c : PeerMessagePolicyConfig) → ConfigFits c → (a : Settled) (many enough : Bool)
         → new_outcome c s
         ≡ cond many (refuse (Made.Refused limit_too_large))
         (cond enough (record { answer = Made.Policy (fresh c); change = become [] }) (refuse (Made.Refused too_short)))
         → Meets a s middle (limit c) (mapped made_settled (new_outcome c s)) → SettledMeets scan line a input middle r t
         → Handing input (cond many (unsettled (Answer.Refused limit_too_large)) (cond enough (events_of 2 (fresh c) [] behind) (unsettled (Answer.Refused too_short)))) r t
     unfolding NewMeets
-    hands-made c config a true enough e m told =
-        hands-refused limit_too_large a (m.answers ∙ ap (λ o. made_settled o.answer) e)
+    hands_made c config a true enough e m told =
+        hands_refused limit_too_large a (m.answers ∙ ap (λ o. made_settled o.answer) e)
         (subst (λ o. Memory s middle (limit c) o.change) e m.leaves) told
-    hands-made c config a false true e m told =
+    hands_made c config a false true e m told =
         let memory : Memory s middle (limit c) (become []) = subst (λ o. Memory s middle (limit c) o.change) e m.leaves in
         let meets : NewMeets c s (Made.Policy (fresh c)) middle = rw e (record { answers = refl; leaves = memory }) in
         let is_fresh : a ≡ Settled.Policy (fresh c) = m.answers ∙ ap (λ o. made_settled o.answer) e in
-        hands-fresh c config (new_fresh c s middle (fresh c) meets) (subst (λ x. SettledMeets scan line x input middle r t) is_fresh told)
-    hands-made c config a false false e m told =
-        hands-refused too_short a (m.answers ∙ ap (λ o. made_settled o.answer) e)
+        hands_fresh c config (new_fresh c s middle (fresh c) meets) (subst (λ x. SettledMeets scan line x input middle r t) is_fresh told)
+    hands_made c config a false false e m told =
+        hands_refused too_short a (m.answers ∙ ap (λ o. made_settled o.answer) e)
         (subst (λ o. Memory s middle (limit c) o.change) e m.leaves) told
 
-    hands-settled : (c : Settings) → SettingsFit c → (a : Settled) → Meets a s middle (places c) (settle_outcome c s) → SettledMeets scan line a input middle r t
+    hands_settled : (c : Settings) → SettingsFit c → (a : Settled) → Meets a s middle (places c) (settle_outcome c s) → SettledMeets scan line a input middle r t
         → Handing input (settled_of c behind) r t
-    hands-settled Settings.Bad config a m told =
+    hands_settled Settings.Bad config a m told =
         let (says, leaves) = subst (λ x. SettledMeets scan line x input middle r t) m.answers told in
         hands_bad says (leaves ∙ m.leaves)
-    hands-settled (Settings.Good c) config a m told =
-        hands-made c config a (ltb 1024 c.max_tracked_peers) (leb (limit c) block_places) (new_in_block c s lent.block) m told
+    hands_settled (Settings.Good c) config a m told =
+        hands_made c config a (ltb 1024 c.max_tracked_peers) (leb (limit c) block_places) (new_in_block c s lent.block) m told
 
   hands_first : (line : Option (List ℕ)) → first_line (drop scan.at input) ≡ line → SettingsBy scan line input s r t
       → Handing input (lines_answers (lines_of (drop scan.at input))) r t
   unfolding SettleMeets
   hands_first none first told = rw (answers_unended input scan.at first) (hands_bad told.0 told.1)
   hands_first (some line) first told =
-      rw (lines-at-whole input scan.at line first) (hands-settled line first told.1 (settings_of line) (settings_fit line) told.0 told.2 told.3)
+      rw (lines_at_whole input scan.at line first) (hands_settled line first told.1 (settings_of line) (settings_fit line) told.0 told.2 told.3)
 
   pub hands_settings : SettingsMeets scan input s r t → Handing input (lines_answers (lines_of (drop scan.at input))) r t
   unfolding SettingsMeets

@@ -84,42 +84,42 @@ module _ (p : PeerMessagePolicy) (s : List ℕ) (h : sound p s ≡ true) (b : By
   LeavesBy o = Memory s t p.rows o.change → Leaves p s o.change o.answer.policy t
 
   module _ (k : Pubkey) (key : Key k.bytes) (number : ℕ) where
-    admit-left : (size now : ℕ) → LeavesBy (kind_outcome p (rows_of p s) k.bytes size now number kind.Admit)
+    admit_left : (size now : ℕ) → LeavesBy (kind_outcome p (rows_of p s) k.bytes size now number kind.Admit)
     unfolding AdmitMeets
-    admit-left size now m =
+    admit_left size now m =
         let o = admission_turn p (admit p.config p.ingress (rows_of p s) k.bytes size now) in
         admit_leaves p s h b k key size now o.answer t (meets_outcome (admit_outcome_lem p s h k size now) m)
 
-    invalid-left : (size now : ℕ) → LeavesBy (kind_outcome p (rows_of p s) k.bytes size now number kind.Invalid)
+    invalid_left : (size now : ℕ) → LeavesBy (kind_outcome p (rows_of p s) k.bytes size now number kind.Invalid)
     unfolding RecordInvalidMeets
-    invalid-left size now m =
+    invalid_left size now m =
         let o = invalid_turn p (record_invalid p.config p.ingress (rows_of p s) k.bytes now) in
         record_invalid_leaves p s h b k key now o.answer t (meets_outcome (record_invalid_outcome_lem p s h k now) m)
 
-    ban-query-left : (size now : ℕ) → LeavesBy (kind_outcome p (rows_of p s) k.bytes size now number kind.BanQuery)
+    ban_query_left : (size now : ℕ) → LeavesBy (kind_outcome p (rows_of p s) k.bytes size now number kind.BanQuery)
     unfolding IsBannedMeets
-    ban-query-left size now m =
+    ban_query_left size now m =
         let found = look k.bytes (rows_of p s) in
         let o = standing_changed p (is_banned found now) (is_banned_change (rows_of p s) k.bytes now found) in
         of_standing_answered p (λ q. Leaves p s o.change q t) o.answer
         (is_banned_leaves p s h b k key now o.answer t (meets_outcome (is_banned_outcome_lem p s h k now) m))
 
-    disconnected-left : (size now : ℕ) → LeavesBy (kind_outcome p (rows_of p s) k.bytes size now number kind.Disconnected)
+    disconnected_left : (size now : ℕ) → LeavesBy (kind_outcome p (rows_of p s) k.bytes size now number kind.Disconnected)
     unfolding OnDisconnectedMeets
-    disconnected-left size now m =
+    disconnected_left size now m =
         let o = changed_by p (disconnected_change p.config (rows_of p s) k.bytes now (look k.bytes (rows_of p s))) in
         on_disconnected_leaves p s h b k key now o.answer t (meets_outcome (on_disconnected_outcome_lem p s h k now) m)
 
-    kind-left : (size now : ℕ) (which : EventKind) → LeavesBy (kind_outcome p (rows_of p s) k.bytes size now number which)
-    kind-left size now kind.Admit = admit-left size now
-    kind-left size now kind.Invalid = invalid-left size now
-    kind-left size now kind.BanQuery = ban-query-left size now
-    kind-left size now kind.Disconnected = disconnected-left size now
-    kind-left size now kind.Release =
+    kind_left : (size now : ℕ) (which : EventKind) → LeavesBy (kind_outcome p (rows_of p s) k.bytes size now number which)
+    kind_left size now kind.Admit = admit_left size now
+    kind_left size now kind.Invalid = invalid_left size now
+    kind_left size now kind.BanQuery = ban_query_left size now
+    kind_left size now kind.Disconnected = disconnected_left size now
+    kind_left size now kind.Release =
         λ m.
         change_leaves p s t (ingress_released p.ingress size) same holds b
         (released_sound p.config p.ingress size holds.own.load) tt m
-    kind-left size now kind.Bad = λ m. change_leaves p s t p.ingress same holds b holds.own.load tt m
+    kind_left size now kind.Bad = λ m. change_leaves p s t p.ingress same holds b holds.own.load tt m
 
   -- ════ One step ════
 
@@ -138,7 +138,7 @@ module _ (p : PeerMessagePolicy) (s : List ℕ) (h : sound p s ≡ true) (b : By
 
   event_left : (e : Event) (number : ℕ) → EventKey e → LeavesBy (event_outcome p (rows_of p s) e number)
   unfolding event_outcome
-  event_left e number key = kind-left e.key key number e.bytes e.now_ms e.kind
+  event_left e number key = kind_left e.key key number e.bytes e.now_ms e.kind
 
   step_sound : (e : Event) (number : ℕ) → step_outcome p s e number ≡ mapped step_of (event_outcome p (rows_of p s) e number)
   unfolding step_outcome

@@ -64,25 +64,25 @@ module _ (p : PeerMessagePolicy) where
   Stops o = goes_on (spoken o.answer.answer) ≡ false → (o.answer.policy ≡ p) × (o.change ≡ same)
 
   module _ (rs : Peers) (k : List ℕ) (size now number : ℕ) where
-    admit-stops : Stops (kind_outcome p rs k size now number kind.Admit)
-    admit-stops h =
+    admit_stops : Stops (kind_outcome p rs k size now number kind.Admit)
+    admit_stops h =
         let turn : Turn Cause = admit p.config p.ingress rs k size now in
         let undone = admit_undone p.config p.ingress k size now rs (stopped_refuses turn.cause h) in
         (subst₂ (λ i change. policy_after p i change ≡ p) (sym undone.0) (sym undone.1) refl, undone.1)
 
-    kind-stops : (which : EventKind) → Stops (kind_outcome p rs k size now number which)
-    kind-stops kind.Admit = admit-stops
-    kind-stops kind.Invalid =
+    kind_stops : (which : EventKind) → Stops (kind_outcome p rs k size now number which)
+    kind_stops kind.Admit = admit_stops
+    kind_stops kind.Invalid =
         let turn : Turn InvalidCause = record_invalid p.config p.ingress rs k now in
         λ h. absurd (true_is_not_false (invalid_goes_on turn.cause (invalid_not_refused p.config p.ingress rs k now)) h)
-    kind-stops kind.BanQuery = λ h. absurd (true_is_not_false (standing_goes_on p _ (is_banned (look k rs) now)) h)
-    kind-stops kind.Disconnected = λ h. absurd (true_is_not_false refl h)
-    kind-stops kind.Release = λ h. absurd (true_is_not_false refl h)
-    kind-stops kind.Bad = λ h. (refl, refl)
+    kind_stops kind.BanQuery = λ h. absurd (true_is_not_false (standing_goes_on p _ (is_banned (look k rs) now)) h)
+    kind_stops kind.Disconnected = λ h. absurd (true_is_not_false refl h)
+    kind_stops kind.Release = λ h. absurd (true_is_not_false refl h)
+    kind_stops kind.Bad = λ h. (refl, refl)
 
   event_stops : (s : List ℕ) (e : Event) (number : ℕ) → Stops (event_outcome p (rows_of p s) e number)
   unfolding event_outcome
-  event_stops s e number = kind-stops (rows_of p s) e.key.bytes e.bytes e.now_ms number e.kind
+  event_stops s e number = kind_stops (rows_of p s) e.key.bytes e.bytes e.now_ms number e.kind
 
   answered_stops : (s : List ℕ) (e : Event) (number : ℕ) → Stops (answered_outcome p s e number)
   unfolding answered_outcome

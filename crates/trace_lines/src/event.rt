@@ -17,7 +17,7 @@ const BEHIND_PAIR: usize = 4;
 const KEY_SIZE: usize = 33;
 
 // What an event asks of the policy, by the letters a, i, b, d and r.
-#[derive(Drop)]
+#[derive(Clone, Copy)]
 pub enum EventKind {
     Admit,
     Invalid,
@@ -28,7 +28,7 @@ pub enum EventKind {
 }
 
 // An event; what its kind has no use for is zero. An enum can't hold a key, so a bad line is a kind of its own.
-#[derive(Drop)]
+#[derive(Clone, Copy)]
 pub struct Event {
     pub kind: EventKind,
     pub key: Pubkey,
@@ -37,7 +37,7 @@ pub struct Event {
 }
 
 // A key, and the place behind it as the field before the next one.
-#[derive(Drop)]
+#[derive(Clone, Copy)]
 pub struct KeyField {
     pub key: Pubkey,
     pub end: Scanned,

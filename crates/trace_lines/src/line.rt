@@ -9,14 +9,14 @@ use text_pieces::piece::{put_number, put_refusal, put_text};
 pub const LINE_SIZE: usize = 73;
 
 // A line with its newline; the bytes behind its length are zero.
-#[derive(Drop)]
+#[derive(Clone, Copy)]
 pub struct TraceLine {
     pub bytes: [u8; LINE_SIZE],
     pub length: usize,
 }
 
 // What the policy answered to an event; a disconnect names the limit that ran short.
-#[derive(Drop)]
+#[derive(Clone, Copy)]
 pub enum Word {
     Allow,
     DisconnectMessages,

@@ -5,7 +5,7 @@ ghost use Rattle.trace_lines.specs.Lines.{settings_of};
 use super::field::{LARGEST_32, LARGEST_64, ends, field, value};
 use peer_settings::config::PeerMessagePolicyConfig;
 
-#[derive(Drop)]
+#[derive(Clone, Copy)]
 pub enum Settings {
     Good(PeerMessagePolicyConfig),
     Bad,

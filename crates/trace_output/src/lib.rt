@@ -1,4 +1,6 @@
 // What the programs over crate `trace` write: the lines that a scan hands out, on standard output.
+#![tactic(auto)]
+
 use trace::scan::{next, open};
 use trace_lines::line::{LINE_SIZE, TraceLine};
 

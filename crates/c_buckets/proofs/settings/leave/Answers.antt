@@ -1,0 +1,10 @@
+-- `settings::leave` meets its contract: by whether it was refused. Assumes nothing.
+use Rattle.std.proofs.Common.{refl}
+use borrow.Author.Tests.{lt-ltb, le-ltb}
+use Rattle.c_buckets.proofs.settings.leave.Goals as goal
+
+pub returns-then-reply-lt-ANSWERS : goal.returns-then-reply-lt-ANSWERS
+returns-then-reply-lt-ANSWERS c = rw (lt-ltb _ _ c.if-reply-lt-ANSWERS.true) (refl, refl, refl)
+
+pub returns : goal.returns
+returns c = rw (le-ltb _ _ c.if-reply-lt-ANSWERS.false) (refl, c.longs_of.ensures, c.shorts_of.ensures)

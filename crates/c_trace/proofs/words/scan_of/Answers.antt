@@ -1,0 +1,5 @@
+-- `words::scan_of` meets its contract. Assumes nothing.
+use Rattle.c_trace.proofs.words.scan_of.Goals as goal
+
+pub returns : goal.returns
+returns c = rw (c.policy_of-policy.ensures, c.phase_of-phase.ensures)

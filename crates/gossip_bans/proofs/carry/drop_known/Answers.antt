@@ -1,0 +1,17 @@
+-- `gossip_bans::carry::drop_known` meets its contract: the peer's row is taken out (`left_out`). Assumes nothing.
+use Rattle.std.proofs.Common.{arith}
+use Rattle.gossip_bans.proofs.Judged.{known_inside, rows_fit}
+use Rattle.gossip_bans.proofs.Carried.{left_out}
+use Rattle.gossip_bans.proofs.carry.drop_known.Goals as goal
+
+pub remove_at-requires : goal.remove_at-requires
+remove_at-requires c = let a = c.args in
+    (known_inside a.t a.table.now a.peer.bytes a.index c.requires, rows_fit a.t a.table.now c.requires.is_sound)
+
+pub overflow_sub-t : goal.overflow_sub-t
+overflow_sub-t c = let a = c.args in
+    omega (arith, known_inside a.t a.table.now a.peer.bytes a.index c.requires)
+
+pub returns : goal.returns
+returns c = let a = c.args in
+    rw c.with_rows.ensures (left_out a.t a.table.now _ a.peer.bytes a.index c.requires c.remove_at.ensures)

@@ -1,0 +1,49 @@
+-- `gossip_outbound::calls::should_bypass_oversized_outbound_message` meets its contract: a law of `CallLaws` for each answer. Assumes nothing.
+use Rattle.std.proofs.Common.{sym, ◌∙◌}
+use Rattle.std.proofs.Common.{rules}
+use borrow.Author.Tests.{not-true, not-false}
+use Rattle.gossip_outbound_state.specs.CarryLaws.{found_unsound, found_placed, placed_global}
+use Rattle.gossip_outbound.specs.CallLaws.{bypass_unsound, bypass_fits, bypass_global_debt, bypass_peer}
+use Rattle.gossip_outbound.proofs.calls.should_bypass_oversized_outbound_message.Goals as goal
+
+pub returns-then-is_unsound : goal.returns-then-is_unsound
+returns-then-is_unsound c = let a = c.args in
+    bypass_unsound a.o a.table.now a.peer a.bytes a.now_ms (found_unsound a.o a.table.now a.peer.bytes c.sought-found.result c.sought-found.ensures (sym c.is_unsound.ensures ∙ c.if-is_unsound.true))
+
+outbound_message_exceeds_single_message_capacity_requires :
+    tie.Need-outbound-message-exceeds-single-message-capacity-requires
+outbound_message_exceeds_single_message_capacity_requires c κs = search rules
+
+pub returns-then-not-outbound_message_exceeds_single_message_capacity : goal.returns-then-not-outbound_message_exceeds_single_message_capacity
+returns-then-not-outbound_message_exceeds_single_message_capacity c = let a = c.args in
+    let p = found_placed a.o a.table.now a.peer.bytes c.sought-found.result c.sought-found.ensures (sym c.is_unsound.ensures ∙ c.if-is_unsound.false) in
+    bypass_fits a.o a.table.now a.peer a.bytes a.now_ms p.is_sound (sym c.outbound_message_exceeds_single_message_capacity.ensures ∙ not-true c.outbound_message_exceeds_single_message_capacity.result c.if-not-outbound_message_exceeds_single_message_capacity.true-raw)
+
+pub in_debt-requires : goal.in_debt-requires
+in_debt-requires c = let a = c.args in
+    let p = found_placed a.o a.table.now a.peer.bytes c.sought-found.result c.sought-found.ensures (sym c.is_unsound.ensures ∙ c.if-is_unsound.false) in
+    placed_global a.o a.table.now a.peer.bytes p
+
+pub returns-then-in_debt : goal.returns-then-in_debt
+returns-then-in_debt c =
+    let a = c.args in
+    let p = found_placed a.o a.table.now a.peer.bytes c.sought-found.result c.sought-found.ensures (sym c.is_unsound.ensures ∙ c.if-is_unsound.false) in
+    bypass_global_debt a.o a.table.now a.peer a.bytes a.now_ms p.is_sound (sym c.outbound_message_exceeds_single_message_capacity.ensures ∙ not-false c.outbound_message_exceeds_single_message_capacity.result c.if-not-outbound_message_exceeds_single_message_capacity.false-raw) (sym c.in_debt.ensures ∙ c.if-in_debt.true)
+
+pub peer_debt-requires : goal.peer_debt-requires
+peer_debt-requires c =
+    let a = c.args in
+    let p = found_placed a.o a.table.now a.peer.bytes c.sought-found.result c.sought-found.ensures (sym c.is_unsound.ensures ∙ c.if-is_unsound.false) in
+    p
+
+pub returns-then-peer_debt : goal.returns-then-peer_debt
+returns-then-peer_debt c =
+    let a = c.args in
+    let p = found_placed a.o a.table.now a.peer.bytes c.sought-found.result c.sought-found.ensures (sym c.is_unsound.ensures ∙ c.if-is_unsound.false) in
+    rw c.if-peer_debt.true at (bypass_peer a.o a.table.now a.peer a.bytes a.now_ms p.is_sound (sym c.outbound_message_exceeds_single_message_capacity.ensures ∙ not-false c.outbound_message_exceeds_single_message_capacity.result c.if-not-outbound_message_exceeds_single_message_capacity.false-raw) (sym c.in_debt.ensures ∙ c.if-in_debt.false) c.peer_debt.result c.peer_debt.ensures)
+
+pub returns : goal.returns
+returns c =
+    let a = c.args in
+    let p = found_placed a.o a.table.now a.peer.bytes c.sought-found.result c.sought-found.ensures (sym c.is_unsound.ensures ∙ c.if-is_unsound.false) in
+    rw c.if-peer_debt.false at (bypass_peer a.o a.table.now a.peer a.bytes a.now_ms p.is_sound (sym c.outbound_message_exceeds_single_message_capacity.ensures ∙ not-false c.outbound_message_exceeds_single_message_capacity.result c.if-not-outbound_message_exceeds_single_message_capacity.false-raw) (sym c.in_debt.ensures ∙ c.if-in_debt.false) c.peer_debt.result c.peer_debt.ensures)

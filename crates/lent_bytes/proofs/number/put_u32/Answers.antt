@@ -1,0 +1,12 @@
+-- `lent_bytes::number::put_u32` meets its contract: a number is written by its halves. Assumes nothing.
+use Rattle.std.proofs.Common.{◌∙◌, ap, List, ℕ, ◌+◌, ◌/◌, ◌^◌, arith}
+use Rattle.lent_bytes.specs.LentBytes.{put, bytes}
+use Rattle.lent_bytes.specs.LentBytesLaws.{put_bytes_append}
+use Rattle.lent_bytes.proofs.number.put_u32.Goals as goal
+
+pub returns : goal.returns
+returns c =
+    let a = c.args in
+    c.put_u16-2.ensures
+    ∙ ap (λ (l : List ℕ). put l (a.at + 2) (bytes 2 (a.v / 256 ^ 2))) c.put_u16.ensures
+    ∙ put_bytes_append a.s.now a.at 2 2 a.v (omega arith)

@@ -1,0 +1,13 @@
+-- `carry::store_known` meets its contract: a write over the peer's row is a store (`left_over`). Assumes nothing.
+use Rattle.std.proofs.Common.{refl}
+use Rattle.peer_message_policy.proofs.Judged.{known_inside, rows_fit}
+use Rattle.peer_message_policy.proofs.Changes.{left_over}
+use Rattle.peer_message_policy.proofs.carry.store_known.Goals as goal
+
+pub overwrite_at-requires : goal.overwrite_at-requires
+overwrite_at-requires c = let a = c.args in
+    (known_inside a.p a.table.now a.peer.bytes a.index c.requires, rows_fit a.p a.table.now c.requires.is_sound)
+
+pub returns : goal.returns
+returns c = let a = c.args in
+    rw c.after.ensures (left_over a.p a.table.now a.peer.bytes a.index c.requires a.ingress _ a.entry a.entry refl c.overwrite_at.ensures)

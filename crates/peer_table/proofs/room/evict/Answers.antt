@@ -1,0 +1,51 @@
+-- `peer_table::room::evict` meets its contract: what the searches found decides which row goes. Assumes nothing.
+use Rattle.std.proofs.Common.{true, false, sym, ap, ◌∙◌, arith}
+use Rattle.table.specs.Memory.{rows}
+use Rattle.peer_rows.specs.Rows.{peer_layout}
+use Rattle.peer_table.specs.Private.{best_of, measure_by}
+use Rattle.peer_table.specs.RoomLaws.{evict_ordinary, evict_banned, evict_nobody}
+use Rattle.table_laws.specs.MinimumRowsLaws.{found_inside}
+use Rattle.table_laws.specs.RoomLaws.{evicted_row, left_alone}
+use Rattle.peer_rows.specs.RowsLaws.{peer_faithful}
+use Rattle.peer_table.proofs.room.evict.Goals as goal
+
+pub remove_at-requires : goal.remove_at-requires
+remove_at-requires c = let a = c.args in
+    omega (arith, c.requires, found_inside peer_layout (measure_by false) a.table.now a.count (sym c.find_first.ensures ∙ ap best_of c.in-At.is))
+
+pub overflow_sub-result : goal.overflow_sub-result
+overflow_sub-result c =
+    let a = c.args in
+    omega (arith, c.requires, found_inside peer_layout (measure_by false) a.table.now a.count (sym c.find_first.ensures ∙ ap best_of c.in-At.is))
+
+pub returns-in-At : goal.returns-in-At
+returns-in-At c =
+    let a = c.args in
+    let found = sym c.find_first.ensures ∙ ap best_of c.in-At.is in
+    evicted_row peer_faithful a.table.now a.count _ (found_inside peer_layout (measure_by false) a.table.now a.count found)
+    (evict_ordinary (rows peer_layout a.table.now a.count) found) c.remove_at.ensures
+
+pub remove_at-requires-in-At-find_first : goal.remove_at-requires-in-At-find_first
+remove_at-requires-in-At-find_first c =
+    let a = c.args in
+    omega (arith, c.requires, found_inside peer_layout (measure_by true) a.table.now a.count (sym c.find_first-2.ensures ∙ ap best_of c.in-At-find_first.is))
+
+pub overflow_sub-result-in-At-find_first : goal.overflow_sub-result-in-At-find_first
+overflow_sub-result-in-At-find_first c =
+    let a = c.args in
+    omega (arith, c.requires, found_inside peer_layout (measure_by true) a.table.now a.count (sym c.find_first-2.ensures ∙ ap best_of c.in-At-find_first.is))
+
+pub returns-in-At-find_first : goal.returns-in-At-find_first
+returns-in-At-find_first c =
+    let a = c.args in
+    let found = sym c.find_first-2.ensures ∙ ap best_of c.in-At-find_first.is in
+    evicted_row peer_faithful a.table.now a.count _ (found_inside peer_layout (measure_by true) a.table.now a.count found)
+    (evict_banned (rows peer_layout a.table.now a.count) (sym c.find_first.ensures ∙ ap best_of c.in_default.is) found)
+    c.remove_at-in-At-find_first.ensures
+
+pub returns : goal.returns
+returns c =
+    let a = c.args in
+    left_alone peer_faithful a.table.now a.count (λ i. (c.slice_known-1.given i).fits) (omega (arith, c.requires))
+    (evict_nobody (rows peer_layout a.table.now a.count) (sym c.find_first.ensures ∙ ap best_of c.in_default.is)
+    (sym c.find_first-2.ensures ∙ ap best_of c.in_default-find_first.is))
