@@ -20,7 +20,7 @@ missing c =
     c.sum-missing.ensures
 
 pub returns-then-is_negative : goal.returns-then-is_negative
-returns-then-is_negative c = is_moved (negative_natural (missing c) (sym c.is_negative.ensures ∙ c.if-is_negative.true)) c.from_u64.ensures
+returns-then-is_negative c = is_moved (negative_natural (missing c.before.before.before) (sym c.is_negative.ensures ∙ c.if-is_negative.true)) c.from_u64.ensures
 
 pub returns : goal.returns
-returns c = is_moved (other_natural (missing c) (sym c.is_negative.ensures ∙ c.if-is_negative.false)) (missing c)
+returns c = is_moved (other_natural (missing c.before.before) (sym c.is_negative.ensures ∙ c.if-is_negative.false)) (missing c.before.before)

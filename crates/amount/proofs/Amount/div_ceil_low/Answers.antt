@@ -21,14 +21,14 @@ returns-then-self c = let a = c.args in
     ap (λ (n : ℕ). n % 2 ^ 64) (sym (ap (λ (n : ℕ). ceil_div n a.d) none ∙ ceil_exact (nothing a.d c.requires) refl))
 
 pub returns-then-quotient-eq0 : goal.returns-then-quotient-eq0
-returns-then-quotient-eq0 c = c.low_half-low.ensures ∙ ap (λ (n : ℕ). n % 2 ^ 64) (sym (ceil_exact (divided c) c.if-quotient-eq0.true))
+returns-then-quotient-eq0 c = c.low_half-low.ensures ∙ ap (λ (n : ℕ). n % 2 ^ 64) (sym (ceil_exact (divided c.before.before) c.if-quotient-eq0.true))
 
 pub returns-then-low-lt18446744073709551615 : goal.returns-then-low-lt18446744073709551615
 returns-then-low-lt18446744073709551615 c = let low = c.low_half-low.result in
     let fits : (low + 1) % 2 ^ 64 ≡ low + 1 = omega arith in
-    sym (ceil_low (divided c) c.if-quotient-eq0.false c.low_half-low.ensures ∙ fits)
+    sym (ceil_low (divided c.before.before.before) c.if-quotient-eq0.false c.low_half-low.ensures ∙ fits)
 
 pub returns : goal.returns
 returns c = let low = c.low_half-low.result in
     let wraps : (low + 1) % 2 ^ 64 ≡ 0 = omega arith in
-    sym (ceil_low (divided c) c.if-quotient-eq0.false c.low_half-low.ensures ∙ wraps)
+    sym (ceil_low (divided c.before.before.before) c.if-quotient-eq0.false c.low_half-low.ensures ∙ wraps)

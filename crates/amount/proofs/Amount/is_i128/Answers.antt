@@ -14,7 +14,7 @@ returns-then-not-self c =
     let m = known.result in
     rw (not-true c.args.self.negative c.if-not-self.true, ← known.ensures)
     (plus_i128 (size m) (ltb m.high (2 ^ 63))
-    (λ h. size_under m (omega (arith, known.type-inv)) (ltb-true m.high (2 ^ 63) h))
+    (λ h. size_under m (omega (arith, known.type_inv)) (ltb-true m.high (2 ^ 63) h))
     (λ h. size_over m (ltb-false m.high (2 ^ 63) h)))
 
 pub returns-then-m-lt9223372036854775808 : goal.returns-then-m-lt9223372036854775808
@@ -22,7 +22,7 @@ unfolding is_i128 value minus_zero
 returns-then-m-lt9223372036854775808 c =
     let known = c.magnitude-m in
     let m = known.result in
-    let under = size_under m (omega (arith, known.type-inv)) c.if-m-lt9223372036854775808.true in
+    let under = size_under m (omega (arith, known.type_inv)) c.if-m-lt9223372036854775808.true in
     rw (not-false c.args.self.negative c.if-not-self.false, ← known.ensures)
     (ap not c.is_zero.ensures ∙ sym (minus_within (size m) under))
 

@@ -16,10 +16,10 @@ pub returns-then-is_less : goal.returns-then-is_less
 unfolding value
 returns-then-is_less c =
     let s = c.args.self.negative in
-    let least = lesser_left (value c.args.self) (pos c.args.n) (sym (tested c) ∙ c.if-is_less.true) in
+    let least = lesser_left (value c.args.self) (pos c.args.n) (sym (tested c.before.before) ∙ c.if-is_less.true) in
     is_moved (ap saturated (ap (λ (k : ℕ). signed s k) c.magnitude-m.ensures ∙ sym least)) c.clamped.ensures
 
 pub returns : goal.returns
 returns c =
-    let least = lesser_right (value c.args.self) (pos c.args.n) (sym (tested c) ∙ c.if-is_less.false) in
+    let least = lesser_right (value c.args.self) (pos c.args.n) (sym (tested c.before.before) ∙ c.if-is_less.false) in
     is_moved (ap saturated (ap pos c.of_u64-other.ensures ∙ sym least)) c.clamped-2.ensures

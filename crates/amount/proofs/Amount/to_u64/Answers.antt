@@ -15,7 +15,7 @@ unfolding value
 returns-then-m-eq0 c =
     let m = c.magnitude-m in
     rw c.if-self.false
-    (rw m.ensures at (small_min m.result (omega (arith, m.type-inv)) c.if-m-eq0.true))
+    (rw m.ensures at (small_min m.result (omega (arith, m.type_inv)) c.if-m-eq0.true))
 
 pub returns : goal.returns
 unfolding value

@@ -18,22 +18,22 @@ at_most c =
 
 pub overflow_sub-result : goal.overflow_sub-result
 overflow_sub-result c =
-    high_most c.args.a c.args.b (omega arith) (at_most c)
+    high_most c.args.a c.args.b (omega arith) (at_most c.before.before.before.before.before.before)
 
 pub overflow_sub-result-then-a-b : goal.overflow_sub-result-then-a-b
 overflow_sub-result-then-a-b c =
-    omega (arith, high_more c.args.a c.args.b (omega arith) (at_most c))
+    omega (arith, high_more c.args.a c.args.b (omega arith) (at_most c.before.before.before.before.before.before))
 
 pub returns-then-a-b : goal.returns-then-a-b
 returns-then-a-b c =
     let difference = c.wrapping_sub_u64 in
     size_borrowed c.args.a c.args.b
-    (omega (arith, difference.type-inv)) (omega arith) (omega arith) (at_most c) difference.ensures
+    (omega (arith, difference.type_inv)) (omega arith) (omega arith) (at_most c.before.before.before.before.before.before) difference.ensures
 
 pub overflow_sub-result-3 : goal.overflow_sub-result-3
 overflow_sub-result-3 c =
-    high_most c.args.a c.args.b (omega arith) (at_most c)
+    high_most c.args.a c.args.b (omega arith) (at_most c.before.before.before.before.before.before.before)
 
 pub returns : goal.returns
 returns c =
-    size_difference c.args.a c.args.b (omega arith) (at_most c) (omega arith)
+    size_difference c.args.a c.args.b (omega arith) (at_most c.before.before.before.before.before.before.before) (omega arith)

@@ -27,28 +27,28 @@ loop-i-init c = let a = c.args in
 pub overflow_mul-width : goal.overflow_mul-width
 overflow_mul-width c =
     let a = c.args in
-    omega (arith, row_in a.width c.loop-i.i a.count (length a.table.now) (omega arith) (on c).rows_fit)
+    omega (arith, row_in a.width c.loop-i.i a.count (length a.table.now) (omega arith) (on c.before).rows_fit)
 
 pub front_at-own-requires : goal.front_at-own-requires
 front_at-own-requires c =
     let a = c.args in
-    omega (arith, row_in a.width c.loop-i.i a.count (length a.table.now) (omega arith) (on c).rows_fit, (on c).key_fits, (on c).front_fits)
+    omega (arith, row_in a.width c.loop-i.i a.count (length a.table.now) (omega arith) (on c.before).rows_fit, (on c.before).key_fits, (on c.before).front_fits)
 
 pub in_order-requires : goal.in_order-requires
 in_order-requires c =
     let a = c.args in
-    (((on c).front_fits, (on c).key_fits), (row_in a.width c.loop-i.i a.count (length a.table.now) (omega arith) (on c).rows_fit, (c.front_at-own.ensures, c.loop-i.invariant.carried)))
+    (((on c.before.before).front_fits, (on c.before.before).key_fits), (row_in a.width c.loop-i.i a.count (length a.table.now) (omega arith) (on c.before.before).rows_fit, (c.front_at-own.ensures, c.loop-i.invariant.carried)))
 
 pub returns-then-not-in_order : goal.returns-then-not-in_order
 returns-then-not-in_order c =
     let a = c.args in
-    walk_breaks_order (raw_layout (length a.key.now) a.width) any_row 8 a.table.now a.count a.key.now (on c) c.loop-i.i c.loop-i.last c.loop-i.place c.loop-i.invariant (omega arith) (sym c.in_order.ensures ∙ not-true c.in_order.result c.if-not-in_order.true-raw)
+    walk_breaks_order (raw_layout (length a.key.now) a.width) any_row 8 a.table.now a.count a.key.now (on c.before.before.before.before) c.loop-i.i c.loop-i.last c.loop-i.place c.loop-i.invariant (omega arith) (sym c.in_order.ensures ∙ not-true c.in_order.result c.if-not-in_order.true-raw)
 
 pub loop-i-preserved : goal.loop-i-preserved
 loop-i-preserved c =
     let a = c.args in
     let own = c.front_at-own in
-    walk_goes_on (raw_layout (length a.key.now) a.width) any_row 8 a.table.now a.count a.key.now (on c) c.loop-i.i c.loop-i.last c.loop-i.place c.loop-i.invariant (omega arith) refl
+    walk_goes_on (raw_layout (length a.key.now) a.width) any_row 8 a.table.now a.count a.key.now (on c.before.before.before.before.before) c.loop-i.i c.loop-i.last c.loop-i.place c.loop-i.invariant (omega arith) refl
     (sym c.in_order.ensures ∙ not-false c.in_order.result c.if-not-in_order.false-raw)
     own.result c.if-own-key_front.place own.ensures
     (⊎_elim (λ w. inl (omega (arith, c.front_at-key_front.ensures), w.1)) (λ w. inr w.1) c.if-own-key_front.branch)
@@ -56,9 +56,9 @@ loop-i-preserved c =
 pub place_from-requires : goal.place_from-requires
 place_from-requires c =
     let a = c.args in
-    ((on c).key_fits, (on c).rows_fit)
+    ((on c.before).key_fits, (on c.before).rows_fit)
 
 pub returns : goal.returns
 returns c =
     let a = c.args in
-    walk_ends (raw_layout (length a.key.now) a.width) any_row 8 a.table.now a.count a.key.now (on c) c.loop-i.i c.loop-i.last c.loop-i.place c.loop-i.invariant (omega arith) c.place_from.ensures
+    walk_ends (raw_layout (length a.key.now) a.width) any_row 8 a.table.now a.count a.key.now (on c.before.before) c.loop-i.i c.loop-i.last c.loop-i.place c.loop-i.invariant (omega arith) c.place_from.ensures

@@ -22,21 +22,21 @@ on c =
 pub overflow_mul-width : goal.overflow_mul-width
 overflow_mul-width c =
     let a = c.args in
-    omega (arith, row_in a.width c.loop-i.i a.count (length a.table.now) (omega arith) (on c).rows_fit)
+    omega (arith, row_in a.width c.loop-i.i a.count (length a.table.now) (omega arith) (on c.before).rows_fit)
 
 pub front_at-own-requires : goal.front_at-own-requires
 front_at-own-requires c =
     let a = c.args in
-    omega (arith, row_in a.width c.loop-i.i a.count (length a.table.now) (omega arith) (on c).rows_fit, (on c).key_fits, (on c).front_fits)
+    omega (arith, row_in a.width c.loop-i.i a.count (length a.table.now) (omega arith) (on c.before).rows_fit, (on c.before).key_fits, (on c.before).front_fits)
 
 pub loop-i-preserved : goal.loop-i-preserved
 loop-i-preserved c =
     let a = c.args in
-    find_passes (raw_layout (length a.key.now) a.width) 8 a.table.now a.count a.key.now (on c) c.loop-i.i (omega arith)
+    find_passes (raw_layout (length a.key.now) a.width) 8 a.table.now a.count a.key.now (on c.before.before.before) c.loop-i.i (omega arith)
     (omega (arith, c.front_at-own.ensures, c.front_at-key_front.ensures)) _ c.loop-i.invariant
 
 pub place_from-requires : goal.place_from-requires
-place_from-requires c = ((on c).key_fits, (on c).rows_fit)
+place_from-requires c = ((on c.before).key_fits, (on c.before).rows_fit)
 
 pub returns : goal.returns
 returns c = c.place_from.ensures ∙ sym c.loop-i.invariant

@@ -37,12 +37,12 @@ counts-decide c =
 pub returns-then-violations-gt4294967295 : goal.returns-then-violations-gt4294967295
 returns-then-violations-gt4294967295 c =
     ⊎_elim
-    (λ w. sym (counts-decide c ∙ rw (lt-leb _ _ w.taken)))
-    (λ w. sym (counts-decide c ∙ rw (le-leb _ _ w.0.left, lt-leb c.get_u64-invalid.result 4294967295 (omega (arith, ltb-true)))))
+    (λ w. sym (counts-decide c.before ∙ rw (lt-leb _ _ w.taken)))
+    (λ w. sym (counts-decide c.before ∙ rw (le-leb _ _ w.0.left, lt-leb c.get_u64-invalid.result 4294967295 (omega (arith, ltb-true)))))
     c.then-violations-gt4294967295.branch
 
 pub returns : goal.returns
 returns c =
     c.ban_sound.ensures
-    ∙ sym (counts-decide c
+    ∙ sym (counts-decide c.before.before.before
     ∙ rw (le-leb _ _ c.if-violations-gt4294967295.false, le-leb c.get_u64-invalid.result 4294967295 (omega (arith, ltb-false))))

@@ -28,7 +28,7 @@ loop-i-init c = let a = c.args in
 pub returns-then-not-row_sound : goal.returns-then-not-row_sound
 returns-then-not-row_sound c =
     let a = c.args in
-    walk_breaks_rule peer_layout (peer_sound a.config) 8 a.table.now a.count a.key.now (on c) c.loop-i.i c.loop-i.last c.loop-i.place c.loop-i.invariant (omega arith) (sym c.row_sound.ensures ∙ not-true c.row_sound.result c.if-not-row_sound.true-raw)
+    walk_breaks_rule peer_layout (peer_sound a.config) 8 a.table.now a.count a.key.now (on c.before.before.before) c.loop-i.i c.loop-i.last c.loop-i.place c.loop-i.invariant (omega arith) (sym c.row_sound.ensures ∙ not-true c.row_sound.result c.if-not-row_sound.true-raw)
 
 pub in_order-requires : goal.in_order-requires
 in_order-requires c =
@@ -38,13 +38,13 @@ in_order-requires c =
 pub returns-then-not-in_order : goal.returns-then-not-in_order
 returns-then-not-in_order c =
     let a = c.args in
-    walk_breaks_order peer_layout (peer_sound a.config) 8 a.table.now a.count a.key.now (on c) c.loop-i.i c.loop-i.last c.loop-i.place c.loop-i.invariant (omega arith) (sym c.in_order.ensures ∙ not-true c.in_order.result c.if-not-in_order.true-raw)
+    walk_breaks_order peer_layout (peer_sound a.config) 8 a.table.now a.count a.key.now (on c.before.before.before.before.before.before) c.loop-i.i c.loop-i.last c.loop-i.place c.loop-i.invariant (omega arith) (sym c.in_order.ensures ∙ not-true c.in_order.result c.if-not-in_order.true-raw)
 
 pub loop-i-preserved : goal.loop-i-preserved
 loop-i-preserved c =
     let a = c.args in
     let own = c.front_at-own in
-    walk_goes_on peer_layout (peer_sound a.config) 8 a.table.now a.count a.key.now (on c) c.loop-i.i c.loop-i.last c.loop-i.place c.loop-i.invariant (omega arith)
+    walk_goes_on peer_layout (peer_sound a.config) 8 a.table.now a.count a.key.now (on c.before.before.before.before.before.before.before) c.loop-i.i c.loop-i.last c.loop-i.place c.loop-i.invariant (omega arith)
     (sym c.row_sound.ensures ∙ not-false c.row_sound.result c.if-not-row_sound.false-raw)
     (sym c.in_order.ensures ∙ not-false c.in_order.result c.if-not-in_order.false-raw)
     own.result c.if-own-key_front.place own.ensures
@@ -53,4 +53,4 @@ loop-i-preserved c =
 pub returns : goal.returns
 returns c =
     let a = c.args in
-    walk_ends peer_layout (peer_sound a.config) 8 a.table.now a.count a.key.now (on c) c.loop-i.i c.loop-i.last c.loop-i.place c.loop-i.invariant (omega arith) (place_raw peer_layout a.table.now a.count a.key.now (on c).key_length c.loop-i.place c.loop-i.place c.place_from.ensures)
+    walk_ends peer_layout (peer_sound a.config) 8 a.table.now a.count a.key.now (on c.before.before) c.loop-i.i c.loop-i.last c.loop-i.place c.loop-i.invariant (omega arith) (place_raw peer_layout a.table.now a.count a.key.now (on c.before.before).key_length c.loop-i.place c.loop-i.place c.place_from.ensures)

@@ -20,18 +20,18 @@ loop-i-init c = (omega arith, refl)
 pub returns-then-x-y : goal.returns-then-x-y
 returns-then-x-y c =
     let a = c.args in
-    sym (c.loop-i.invariant.1 ∙ fronts_less 8 a.a.now a.b.now c.loop-i.i (first_bytes c) (second_bytes c) (omega arith) (omega arith) (omega (arith, c.front_at-x.ensures, c.front_at-y.ensures)))
+    sym (c.loop-i.invariant.1 ∙ fronts_less 8 a.a.now a.b.now c.loop-i.i (first_bytes c.before.before.before.before) (second_bytes c.before.before.before.before) (omega arith) (omega arith) (omega (arith, c.front_at-x.ensures, c.front_at-y.ensures)))
 
 pub returns-then-y-x : goal.returns-then-y-x
 returns-then-y-x c =
     let a = c.args in
-    sym (c.loop-i.invariant.1 ∙ fronts_greater 8 a.a.now a.b.now c.loop-i.i (first_bytes c) (second_bytes c) (omega arith) (omega arith) (omega (arith, c.front_at-x.ensures, c.front_at-y.ensures)))
+    sym (c.loop-i.invariant.1 ∙ fronts_greater 8 a.a.now a.b.now c.loop-i.i (first_bytes c.before.before.before.before.before) (second_bytes c.before.before.before.before.before) (omega arith) (omega arith) (omega (arith, c.front_at-x.ensures, c.front_at-y.ensures)))
 
 pub loop-i-preserved : goal.loop-i-preserved
 loop-i-preserved c =
     let a = c.args in (
       omega arith,
-      c.loop-i.invariant.1 ∙ fronts_equal 8 a.a.now a.b.now c.loop-i.i (first_bytes c) (second_bytes c) (omega arith) (omega arith) (omega (arith, c.front_at-x.ensures, c.front_at-y.ensures)),
+      c.loop-i.invariant.1 ∙ fronts_equal 8 a.a.now a.b.now c.loop-i.i (first_bytes c.before.before.before.before.before) (second_bytes c.before.before.before.before.before) (omega arith) (omega arith) (omega (arith, c.front_at-x.ensures, c.front_at-y.ensures)),
     )
 
 pub compare_from-requires : goal.compare_from-requires

@@ -12,24 +12,24 @@ B c = c.args.b.now
 
 pub returns-then-b-i : goal.returns-then-b-i
 returns-then-b-i c =
-    sym (c.loop-i.invariant ∙ second_ended (A c) (B c) c.loop-i.i (omega arith) (omega arith))
+    sym (c.loop-i.invariant ∙ second_ended (A c.before.before) (B c.before.before) c.loop-i.i (omega arith) (omega arith))
 
 pub returns-then-x-y : goal.returns-then-x-y
 returns-then-x-y c =
-    sym (c.loop-i.invariant ∙ less_from (A c) (B c) c.loop-i.i (omega arith) (omega arith) (omega arith))
+    sym (c.loop-i.invariant ∙ less_from (A c.before.before.before.before.before) (B c.before.before.before.before.before) c.loop-i.i (omega arith) (omega arith) (omega arith))
 
 pub returns-then-y-x : goal.returns-then-y-x
 returns-then-y-x c =
-    sym (c.loop-i.invariant ∙ greater_from (A c) (B c) c.loop-i.i (omega arith) (omega arith) (omega arith))
+    sym (c.loop-i.invariant ∙ greater_from (A c.before.before.before.before.before.before) (B c.before.before.before.before.before.before) c.loop-i.i (omega arith) (omega arith) (omega arith))
 
 pub loop-i-preserved : goal.loop-i-preserved
 loop-i-preserved c =
-    c.loop-i.invariant ∙ equal_from (A c) (B c) c.loop-i.i (omega arith) (omega arith) (omega arith)
+    c.loop-i.invariant ∙ equal_from (A c.before.before.before.before.before.before) (B c.before.before.before.before.before.before) c.loop-i.i (omega arith) (omega arith) (omega arith)
 
 pub returns-then-i-b : goal.returns-then-i-b
 returns-then-i-b c =
-    sym (c.loop-i.invariant ∙ first_ended (A c) (B c) c.loop-i.i (omega arith) (omega arith))
+    sym (c.loop-i.invariant ∙ first_ended (A c.before.before) (B c.before.before) c.loop-i.i (omega arith) (omega arith))
 
 pub returns : goal.returns
 returns c =
-    sym (c.loop-i.invariant ∙ both_ended (A c) (B c) c.loop-i.i (omega arith) (omega arith))
+    sym (c.loop-i.invariant ∙ both_ended (A c.before.before) (B c.before.before) c.loop-i.i (omega arith) (omega arith))

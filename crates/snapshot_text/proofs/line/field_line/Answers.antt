@@ -9,7 +9,7 @@ use Rattle.snapshot_text.specs.LineLaws.{field_fits, field_whole, line_ends}
 use Rattle.snapshot_text.proofs.line.field_line.Goals as goal
 
 abbrev begin : goal.After-out-4-1 → goal.Start
-begin c = c
+begin c = c.before.before.before.before.before.before.before
 
 -- the name and its number
 field-written : (c : goal.After-out-4-1)

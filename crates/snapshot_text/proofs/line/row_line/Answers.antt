@@ -12,7 +12,7 @@ use Rattle.snapshot_text.specs.LineLaws.{row_fits, row_whole, line_ends}
 use Rattle.snapshot_text.proofs.line.row_line.Goals as goal
 
 abbrev begin : goal.After-out-4-1 → goal.Start
-begin c = c
+begin c = c.before.before.before.before.before.before.before.before.before.before.before.before
 
 -- the key and the numbers
 row_written : (c : goal.After-out-4-1)

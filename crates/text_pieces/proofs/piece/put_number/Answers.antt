@@ -7,7 +7,7 @@ use Rattle.text_pieces.specs.TextLaws.{wrote_length, wrote_more, wrote_byte}
 use Rattle.text_pieces.proofs.piece.put_number.Goals as goal
 
 abbrev at-put-decimal : goal.After-slice_known-2-1 → goal.After-put_decimal
-at-put-decimal c = c
+at-put-decimal c = c.before.before
 
 abbrev begin : goal.After-slice_known-2-1 → goal.Start
 begin c = (at-put-decimal c).before.before.before

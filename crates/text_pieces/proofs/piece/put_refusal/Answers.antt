@@ -7,7 +7,7 @@ use Rattle.text_pieces.specs.TextLaws.{few_digits, refusal_fits, wrote_length, w
 use Rattle.text_pieces.proofs.piece.put_refusal.Goals as goal
 
 abbrev at-put-number : goal.After-slice_known-3-1 → goal.After-put_number-after_number
-at-put-number c = c
+at-put-number c = c.before.before
 
 abbrev at-put-text : goal.After-slice_known-3-1 → goal.After-put_text-after_word
 at-put-text c = (at-put-number c).before.before.before.before

@@ -24,7 +24,7 @@ put_number-after_rows-requires c =
     room_over line_size two-written (length (number_text a.rows)) (omega (arith, length_two a.word a.messages a.bytes (omega arith) (omega arith), length_digits 19 a.rows (omega arith)))
 
 abbrev begin : goal.After-out-8-1 → goal.Start
-begin c = c
+begin c = c.before.before.before.before.before.before.before.before.before.before.before.before
 
 -- the word and the three numbers stand at the front
 text-written : (c : goal.After-out-8-1)

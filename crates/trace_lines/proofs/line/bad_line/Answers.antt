@@ -12,7 +12,7 @@ abbrev words : List ℕ
 words = ascii "bad line"
 
 abbrev begin : goal.After-out-4-1 → goal.Start
-begin c = c
+begin c = c.before.before.before.before.before.before.before
 
 -- the words and the number stand at the front
 text-written : (c : goal.After-out-4-1)
