@@ -1,5 +1,4 @@
 -- `ChannelUpdateLimiterKey::bytes` meets its contract: three writes over zeros are the key's bytes (`put_three`). Assumes nothing.
-use Rattle.std.proofs.Common.{rules}
 use Rattle.std.proofs.Common.{◌≡◌, length, refl, arith, rules}
 use Rattle.pubkey.specs.Order.{side_byte, limiter_key_bytes}
 use Rattle.pubkey.specs.KeyBytesLaws.{put_three}
