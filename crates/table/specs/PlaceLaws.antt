@@ -75,16 +75,16 @@ module _ {A : Type 0} where
       (λ h. ⊎_elim (λ s. inl (suc s.0, later h s.1)) (λ f. inr (suc f.0, after h f.1)) rest)
 
   -- where a key stands is the place that a search answers, counted from i
-  pub stands_place : (i : ℕ) {k : List ℕ} {j : ℕ} {rs : List (Row A)} → Stands k j rs → place_from i k rs ≡ At (i + j)
-  stands_place i {k} (first {r} {rs} h) = place_first i k r rs h ∙ ap At (omega arith)
-  stands_place i {k} (later {j} {r} {rs} h s) = place_later i k r rs h ∙ stands_place (i + 1) s ∙ ap At (omega arith)
+  pub stands_place : {k : List ℕ} (i : ℕ) {j : ℕ} {rs : List (Row A)} → Stands k j rs → place_from i k rs ≡ At (i + j)
+  stands_place {k} i (first {r} {rs} h) = place_first i k r rs h ∙ ap At (omega arith)
+  stands_place {k} i (later {j} {r} {rs} h s) = place_later i k r rs h ∙ stands_place (i + 1) s ∙ ap At (omega arith)
 
   -- where a key fits is the gap that a search answers, counted from i
-  pub fits_place : (i : ℕ) {k : List ℕ} {j : ℕ} {rs : List (Row A)} → Fits k j rs → place_from i k rs ≡ Gap (i + j)
+  pub fits_place : {k : List ℕ} (i : ℕ) {j : ℕ} {rs : List (Row A)} → Fits k j rs → place_from i k rs ≡ Gap (i + j)
   unfolding place_from
   fits_place i end = ap Gap (omega arith)
-  fits_place i {k} (before {r} {rs} h) = place_before i k r rs h ∙ ap Gap (omega arith)
-  fits_place i {k} (after {j} {r} {rs} h s) = place_later i k r rs h ∙ fits_place (i + 1) s ∙ ap Gap (omega arith)
+  fits_place {k} i (before {r} {rs} h) = place_before i k r rs h ∙ ap Gap (omega arith)
+  fits_place {k} i (after {j} {r} {rs} h s) = place_later i k r rs h ∙ fits_place (i + 1) s ∙ ap Gap (omega arith)
 
   -- the place that a search answers, counted from i, is where the key stands
   pub place_stands : (i : ℕ) (k : List ℕ) (rs : List (Row A)) {j : ℕ} → place_from i k rs ≡ At j → (m : ℕ) × (j ≡ i + m) × Stands k m rs

@@ -202,7 +202,7 @@ module _ {A : Type 0} where
   -- rows taken out of rows taken out
   pub sub_trans : {xs ys zs : List (Row A)} → Sub xs ys → Sub ys zs → Sub xs zs
   sub_trans s done = s
-  sub_trans (keep s) (keep t) = keep (sub_trans s t)
+  sub_trans (keep {r} {xs} s) (keep t) = keep (sub_trans {xs = xs} s t)
   sub_trans (leave s) (keep t) = leave (sub_trans s t)
   sub_trans s (leave t) = leave (sub_trans s t)
 

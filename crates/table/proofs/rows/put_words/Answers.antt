@@ -1,5 +1,5 @@
 -- `table::rows::put_words` meets its contract.
-use Rattle.std.proofs.Common.{refl, sym, ap, ◌∙◌, List, ℕ, ◌+◌, ◌-◌, ◌*◌, arith, get_or}
+use Rattle.std.proofs.Common.{refl, sym, ap, ◌∙◌, List, ℕ, ◌+◌, ◌*◌, arith, get_or}
 use lib.Seq.{take_all}
 use Rattle.lent_bytes.specs.LentBytes.{bytes, put}
 use Rattle.lent_bytes.specs.LentBytesLaws.{put_nil}
@@ -22,7 +22,7 @@ loop-i-preserved c =
       (
         c.put_u64.ensures ∙ ap (λ (l : List ℕ). put l (a.at + 8 * turn.i) (bytes 8 (get_or vs turn.i 0))) turn.invariant.1.0
             ∙ words_more s a.at vs turn.i (omega arith) (omega arith),
-        c.put_u64.auto.0 ∙ turn.invariant.1.1,
+        c.put_u64.auto.s ∙ turn.invariant.1.1,
       ),
     )
 
