@@ -12,9 +12,7 @@ use Rattle.refusal.specs.Refusal.{unsound}
 use Rattle.bucket_terms.specs.declared.answer.Refilled.TheVariants as Refilled
 use Rattle.bucket_terms.specs.declared.answer.Consumed.TheVariants as Consumed
 use Rattle.bucket_terms.specs.declared.answer.Delay.{Delay}
-use Rattle.bucket_terms.specs.declared.answer.Delay.TheVariants as Delay
 use Rattle.bucket_terms.specs.declared.answer.Told.{Told}
-use Rattle.bucket_terms.specs.declared.answer.Told.TheVariants as Told
 use Rattle.bucket_terms.specs.declared.limit.ByteRateLimitConfig.{ByteRateLimitConfig}
 use Rattle.bucket_terms.specs.Answers.{told}
 use Rattle.bucket_terms.specs.Limit.{byte_disabled}

@@ -6,11 +6,8 @@ use Rattle.std.specs.Int.Signed.{lt_z}
 use Rattle.amount.specs.Amount.{value}
 use Rattle.refusal.specs.OneOutcomeLaws.{one_outcome}
 use Rattle.bucket_terms.specs.declared.answer.Refilled.{Refilled}
-use Rattle.bucket_terms.specs.declared.answer.Refilled.TheVariants as Refilled
 use Rattle.bucket_terms.specs.declared.answer.Consumed.{Consumed}
-use Rattle.bucket_terms.specs.declared.answer.Consumed.TheVariants as Consumed
 use Rattle.bucket_terms.specs.declared.answer.Delay.{Delay}
-use Rattle.bucket_terms.specs.declared.answer.Delay.TheVariants as Delay
 use Rattle.bucket_terms.specs.declared.answer.Told.{Told}
 use Rattle.bucket_terms.specs.declared.limit.ByteRateLimitConfig.{ByteRateLimitConfig}
 use Rattle.bucket_terms.specs.Answers.{told}
