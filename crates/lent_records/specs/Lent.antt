@@ -2,8 +2,8 @@
 -- what the laws of this crate ask of the three types. Definitions only.
 --
 -- The record is a declared struct and the answer a declared enum, both of plain data; the pair is a struct of just these two, the
--- record first. A declared type's module has all that is asked (`the_type`, and `the_laws`, `the_plain`, `the_copy` and `lowers` of its `Laws`).
-use Rattle.std.specs.Prelude.{◌≡◌, [], ◌∷◌}
+-- record first. A declared type's module has all that is asked (`the_type`, and `the_laws`, `the_plain`, `the_copy` and `lowers` of its `TheLaws`).
+use Rattle.std.specs.Prelude.{◌≡◌, refl, [], ◌∷◌}
 use mir.Syntax.{Sym, Ty}
 use mir.Val.{Val}
 use denote.Enum.Declared as enums
@@ -62,10 +62,21 @@ module _ (K : Lent) where
   Pair = record {
     name = K.name;
     args = [];
+    types = [];
     parts = structs.field Kept ∷ enums.field Said ∷ [];
     D = K.Both;
     to = λ t. (Kept.to (K.kept t), (Said.to (K.said t), tt));
     to_one = K.one;
+    as_values = λ t. (K.kept t, (K.said t, tt));
+    to_is = λ t. refl;
+    cover = record {
+      Ghost = λ _. Unit {0};
+      ghosts = λ _. tt;
+      make = λ v _. K.both v.0 v.1.0;
+      eta = K.joined;
+      beta = λ v _ i. (K.both_kept v.0 v.1.0 i, (K.both_said v.0 v.1.0 i, tt));
+    };
+    propositions = λ v p q i. tt;
   }
 
   abbrev pub pair_laws : LL.Laws Pair

@@ -4,7 +4,7 @@
 use Rattle.std.specs.Prelude.{◌≡◌, refl, ℕ, List, [], ◌∷◌, T as Holds}
 use Rattle.std.proofs.Common.{sym, subst}
 use seplogic.Ra.Ura.{Ura}
-use seplogic.Ra.TreeShare.{full_share}
+use base.Fraction.{full_share}
 use mir.Val.{Val, WT, has_ty, vstruct, vnil, vcons}
 use base.Logic.{ent, guard}
 use base.Fml.{ftrue, fat, fsep}
@@ -71,7 +71,7 @@ module _ (K : Lent) where
         qed 𝓛 (‵ (fat full_share (record_ty K) b 0 (record_val K d)) ∷ []) ∵
         use1 𝓛 (‵ (cell_at full_share (Record K).mir (record_val K d ∷ []) b 0)) (𝓛.laws.at_raw full_share (record_ty K) b 0 (record_val K d)) $
         owned ! (Record K) (Is (Record K)) (LL.makes (Kept K) K.record_type.plain 𝓛) d _ is $ move ! (1 ∷ 0 ∷ []) $ fjoin ! $
-        fpack ! (List Val) (λ us. fsep (cell_at full_share (Record K).mir us b 0) ((Record K).own d us)) (record_val K d ∷ []) $ done !
+        fpack ! (List Val) (λ us. fsep (cell_at full_share (Record K).mir us b 0) ((Record K).own_val d us)) (record_val K d ∷ []) $ done !
 
     pub lies_out : (d : (Kept K).D) (b : ℕ) → ent 𝓤 (sem 𝓛 ((mem (Record K)).own_at d b 0)) (guard 𝓤 (Is (Record K) d (record_val K d ∷ [])) (sem 𝓛 (fat full_share (record_ty K) b 0 (record_val K d))))
     unfolding part_of

@@ -2,7 +2,7 @@
 -- function that lends. Definitions only.
 use Rattle.std.specs.Prelude.{ℕ, [], ◌∷◌}
 use seplogic.Ra.Ura.{Ura}
-use mir.Syntax.{Fn, Name, named, erased, mut, w64, ty_int, ty_ref, deref, field, place, copy, local, value_local, memory_slot, assign, rv_opd, addr_of, aggregate, call, seq, return}
+use mir.Syntax.{Fn, Callee, named, erased, mut, w64, ty_int, ty_ref, deref, field, place, copy, local, value_local, memory_slot, assign, rv_opd, addr_of, aggregate, call, seq, return}
 use base.Logic.{emp}
 use types.Logic.{Logic}
 use contract.Monad.{fact}
@@ -31,24 +31,29 @@ module _ (K : Lent) where
   }
 
   -- the MIR of the lent form, over the name of the call by value
-  abbrev pub lent_function : Name → Fn
+  abbrev pub lent_function : Callee → Fn
   lent_function core = record {
     lifetimes = 1;
     outlives = [];
+    ty_params = [];
+    givens = 0;
     params = 3;
-    locals = local (answer_ty K) value_local ∷ local (ty_ref (named 0) mut (pointee (Record K).written)) value_local ∷ local (ty_int w64) value_local ∷ local (ty_int w64) value_local ∷ local (pair_ty K) value_local ∷ local (record_ty K) value_local ∷ [];
+    locals = local (answer_ty K) value_local ∷ local (ty_ref (named 0) mut (pointee (Record K).written)) value_local ∷ local (ty_int w64) value_local ∷ local (ty_int w64) value_local ∷ local (pair_ty K) value_local ∷ local (record_ty K) value_local ∷ local (record_ty K) value_local ∷ [];
     body =
         seq (assign (place 5 []) (rv_opd (copy (place 1 (deref (record_ty K) ∷ [])))))
         (seq (call core (copy (place 5 []) ∷ copy (place 2 []) ∷ copy (place 3 []) ∷ []) (place 4 []))
-        (seq (assign (place 1 (deref (record_ty K) ∷ [])) (rv_opd (copy (place 4 (field 0 ∷ [])))))
-        (seq (assign (place 0 []) (rv_opd (copy (place 4 (field 1 ∷ []))))) return)));
+        (seq (assign (place 6 []) (rv_opd (copy (place 4 (field 0 ∷ [])))))
+        (seq (assign (place 1 (deref (record_ty K) ∷ [])) (rv_opd (copy (place 6 []))))
+        (seq (assign (place 0 []) (rv_opd (copy (place 4 (field 1 ∷ []))))) return))));
   }
 
   -- and the function that lends a record of its own and hands both back, over the name of the lent form
-  abbrev pub lending_function : Name → Fn
+  abbrev pub lending_function : Callee → Fn
   lending_function callee = record {
     lifetimes = 0;
     outlives = [];
+    ty_params = [];
+    givens = 0;
     params = 3;
     locals =
         local (pair_ty K) value_local

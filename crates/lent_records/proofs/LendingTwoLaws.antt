@@ -4,8 +4,8 @@
 use Rattle.std.specs.Prelude.{refl, ℕ, ◌<◌, ◌^◌, List, [], ◌∷◌}
 use Rattle.std.proofs.Common.{ap}
 use seplogic.Ra.Ura.{Ura}
-use seplogic.Ra.TreeShare.{full_share}
-use mir.Syntax.{Name, named, w64}
+use base.Fraction.{full_share}
+use mir.Syntax.{Callee as Called, named, w64}
 use mir.Val.{Val, vint, vptr}
 use base.Logic.{SProp, ent, sep, emp, id⊢, via, fst∗}
 use base.Fml.{GName, ftrue, fat, flft, flent}
@@ -25,7 +25,6 @@ use denote.Lend.{lends_ref, ref_back}
 use denote.Plain.{uint_vals, uint_Tells, uint_Makes}
 use Rattle.std.specs.Borrow.{u64}
 use denote.Ref.{MutBor, MutRef}
-use denote.Signature.{plain}
 use denote.Exit.{yes}
 use denote.Steps.{only, owned, peeks, heard, nothing}
 use denote.Struct.Laws as LL
@@ -79,7 +78,7 @@ module _ (K : Lent) where
             nothing ! $ owned ! u64 (Is u64) (uint_Makes 𝓛 w64) m _ (refl, m-fits) $ fjoin ! $ owned ! u64 (Is u64) (uint_Makes 𝓛 w64) n _ (refl, n-fits) $ fjoin ! $ owned ! (Record K) (Is (Record K)) (LL.makes (Kept K) K.record_type.plain 𝓛) h _ h-is $ fjoin ! $
             owned ! (Handed K) (Is (Handed K)) (LL.makes (Pair K) (pair_plain K) 𝓛) (K.both d a) _ is $ move ! (1 ∷ 0 ∷ []) $ nothing ! $ done !
 
-        module _ (C : Calls 𝓤 H) (Λ : Loops 𝓤 H) (fm : FmC 𝓤 H 𝓛.laws C) (callee : Name) (known : Triple 𝓤 (C callee) Callee) where
+        module _ (C : Calls 𝓤 H) (Λ : Loops 𝓤 H) (fm : FmC 𝓤 H 𝓛.laws C) (callee : Called) (known : Triple 𝓤 (C callee) Callee) where
           walk : ent 𝓤 (on_entry 𝓛 (by_value K).signature tt tt x at) (WpFn 𝓤 H C Λ (lending_function K callee) (record_val K h ∷ vint w64 n ∷ vint w64 m ∷ []) Post)
           walk =
               qed 𝓛 (‵ ftrue ∷ ‵ (owns (Record K ∷ u64 ∷ u64 ∷ []) x at) ∷ []) ∵ enter ! C Λ (lending_function K callee) (record_val K h ∷ vint w64 n ∷ vint w64 m ∷ []) _ $
@@ -94,9 +93,9 @@ module _ (K : Lent) where
               move ! (2 ∷ 0 ∷ []) $ use2 𝓛 (raw (Callee.pre (to_callee l₄ α δ))) (goes_callee l₄ α δ) $
               -- [what the callee asks; the lender's part; _7; …; _6; …; _5; …; what dies of _4; _3; …]
               calls_at ! fm Callee known (to_callee l₄ α δ) (and_then ! (load ! (from ! (stop !)) (look ! 4 refl)) (and_then ! (load ! (from ! (stop !)) (look ! 11 refl)) (and_then ! (load ! (from ! (stop !)) (look ! 9 refl)) (no_more !)))) (λ v.
-              use1 𝓛 (later (some (λ (a : (Said K).D). ((‵ (flft (α ∷ []) full_share) ⊛ ‵ ftrue) ⊛ ‵ ((Answer K).own a (v ∷ []))) ⊛ raw (ensured 𝓛 (lent K) (clauses K Q 𝓤) (α ∷ [], tt) (loan l₄ δ, (n, (m, tt))) tt a)))) (id⊢ 𝓤 _) $ await ! tt $ pick ! (λ a.
+              use1 𝓛 (later (some (λ (a : (Said K).D). ((‵ (flft (α ∷ []) full_share) ⊛ ‵ ftrue) ⊛ ‵ ((Answer K).own_val a (v ∷ []))) ⊛ raw (ensured 𝓛 (lent K) (clauses K Q 𝓤) (α ∷ [], tt) (loan l₄ δ, (n, (m, tt))) tt a)))) (id⊢ 𝓤 _) $ await ! tt $ pick ! (λ a.
               split ! $ move ! (1 ∷ []) $ use1 𝓛 (some (λ (ws : (Kept K).D × (Unit {0} × (Unit {0} × Unit {0}))). ‵ (lasts (lent K) (α ∷ [], tt) (loan l₄ δ, (n, (m, tt))) ws) ⊛ raw (fact 𝓤 (Q h n m (K.both ws.0 a))))) (id⊢ 𝓤 _) $ pick ! (λ ws.
-              split ! $ move ! (1 ∷ []) $ heard ! (Q h n m (K.both ws.0 a)) (λ e. fsplit ! $ move ! (2 ∷ []) $ split ! $
+              split ! $ move ! (1 ∷ []) $ heard ! (Q h n m (K.both ws.0 a)) (λ e. fsplit ! $ fsplit ! $ move ! (1 ∷ []) $ drop ! $ move ! (2 ∷ []) $ split ! $
               move ! (1 ∷ []) $ peeks ! (Answer K) (Is (Answer K)) (shows 𝓛 (Answer K)) a (v ∷ []) (λ v-is. drop ! $
               -- [the token; the last value; …; the lender's part; _7; …; _6; …; _5; …; what dies of _4; _3; …; _2; …; _1; …; _0; …]: the answer is stored
               land ! (from ! (stop !)) (init ! 8 refl (answer_typed K 𝓛 a v v-is)) $
@@ -111,13 +110,13 @@ module _ (K : Lent) where
               move ! (16 ∷ 17 ∷ []) $ free1 ! $ move ! (14 ∷ 15 ∷ []) $ free1 ! $ move ! (12 ∷ 13 ∷ []) $ free1 ! $ move ! (10 ∷ 11 ∷ []) $ free1 ! $ move ! (0 ∷ 9 ∷ []) $ free1 ! $ move ! (6 ∷ 7 ∷ []) $ free1 ! $ move ! (4 ∷ 5 ∷ []) $ free1 ! $ move ! (2 ∷ 3 ∷ []) $ free1 ! $ free0 ! $
               keep ! [] $ by ! (exits ws.0 a e (made_is K ws.0 a d-is (answer_is K a v v-is)))))))))))))))))))
 
-    pub walks : (C : Calls 𝓤 H) (Λ : Loops 𝓤 H) (callee : Name) → FmC 𝓤 H 𝓛.laws C → Triple 𝓤 (C callee) Callee
+    pub walks : (C : Calls 𝓤 H) (Λ : Loops 𝓤 H) (callee : Called) → FmC 𝓤 H 𝓛.laws C → Triple 𝓤 (C callee) Callee
         → Walks 𝓛 (by_value K) stayed (WpFn 𝓤 H C Λ (lending_function K callee)) (core_clauses K Q 𝓤)
     walks C Λ callee fm known = walked 𝓛 (by_value K) stayed (core_clauses K Q 𝓤) (WpFn 𝓤 H C Λ (lending_function K callee)) (λ κs. (LL.vals (Kept K) K.record_type.laws, (uint_vals w64, (uint_vals w64, tt)))) (λ κs. (LL.tells (Kept K) K.record_type.laws, (uint_Tells w64, (uint_Tells w64, tt))))
         (λ κs qs bounds a _ are. via 𝓤 _ (fst∗ 𝓤 _ (emp 𝓤)) (walk a.0 a.1.0 a.1.1.0 are.0 are.1.0.1 are.1.1.0.1 C Λ fm callee known))
 
     -- the law: where the lent form meets its contract, the function that lends meets that of the call by value
-    pub meets : (callee : Name) (𝓣 : Tables 𝓤 H) → Triple 𝓤 (𝓣.C callee) Callee
+    pub meets : (callee : Called) (𝓣 : Tables 𝓤 H) → Triple 𝓤 (𝓣.C callee) Callee
         → Meets 𝓛 (by_value K).signature (WpFn 𝓤 H 𝓣.C 𝓣.Λ (lending_function K callee)) (closing 𝓛 (by_value K) (core_clauses K Q 𝓤))
     meets callee 𝓣 known =
         walk_Meets 𝓛 (by_value K) stayed (Goes-none 𝓛 0 (λ _. Record K) yes (λ κs d f. none_said K d f), (Goes-none 𝓛 0 (λ _. u64) yes (λ κs y f. refl), (Goes-none 𝓛 0 (λ _. u64) yes (λ κs y f. refl), tt))) (core_clauses K Q 𝓤)

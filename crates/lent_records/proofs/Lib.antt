@@ -1,0 +1,4 @@
+pub mod AlteringOneLaws
+pub mod AlteringTwoLaws
+pub mod LendingOneLaws
+pub mod LendingTwoLaws
