@@ -1,22 +1,19 @@
 -- `token_bucket::lent::bytes::refill` meets its contract, by the law of records that are lent and altered and the contract of the call by value. Assumes nothing.
 use contract.Running.{tables, tables_of}
 use denote.Triple.Spec.{triple_of}
-use denote.Triple.Table.{entered, cited}
-use Rattle.lent_records.specs.One.{ByValue}
-use Rattle.lent_records.specs.AlteringOneLaws as law
+use denote.Triple.Table.{entered}
+use Rattle.lent_records.proofs.AlteringOneLaws as law
 use Rattle.bucket_bytes.specs.ByteBucket.{ByteRefillMeets}
 use Rattle.bucket_bytes.proofs.bytes.ByteTokenBucket.refill.Symbol as core
 use Rattle.bucket_bytes.proofs.bytes.ByteTokenBucket.refill.Met as core-thm
 use Rattle.token_bucket.proofs.Shapes.{byte_refilled}
 use Rattle.token_bucket.specs.contracts.lent.bytes.refill as lent
-use Rattle.token_bucket.specs.contracts.lent.bytes.refill.Key as key
 use Rattle.token_bucket.proofs.lent.bytes.refill.Code as code
-use Rattle.token_bucket.proofs.lent.bytes.refill.Statement as stated
+use Rattle.token_bucket.proofs.lent.bytes.refill.Statement.{statement}
 
-pub refill-spec : {M : Type 1} → stated.statement M
-unfolding code.routine tables_of
-refill-spec 𝓤 𝓛 𝓜 𝓡 =
-    entered 𝓤 𝓛.H (triple_of 𝓛 lent.signature (lent.spec 𝓛 𝓜.mem 𝓡.run))
-    (tables 𝓤 𝓛.H 𝓜 𝓡 code.env).C (tables 𝓤 𝓛.H 𝓜 𝓡 code.env).Λ key.name code.function (code.unfolded 𝓤 𝓛.H 𝓜 𝓡)
-    (law.meets byte_refilled ByteRefillMeets 𝓤 𝓛 core.name (tables_of 𝓤 𝓛.H 𝓜 (tables 𝓤 𝓛.H 𝓜 𝓡 code.env))
-    (cited 𝓤 𝓛.H (ByValue byte_refilled ByteRefillMeets 𝓤 𝓛) 𝓜 𝓡 code.env core.name core.routine code.calls-bucket-bytes::bytes::ByteTokenBucket::refill (core-thm.met 𝓤 𝓛 𝓜 𝓡)))
+pub refill_spec : {M : Type 1} → statement M
+unfolding tables_of
+refill_spec 𝓤 𝓛 𝓜 𝓡 wired =
+    let 𝓣 = tables 𝓤 𝓛.H 𝓜 𝓡 𝓡.env in
+    entered 𝓤 𝓛.H (triple_of 𝓛 lent.signature (lent.spec 𝓛 𝓜.mem 𝓡.returns)) 𝓣.C 𝓣.Λ lent.Key.name code.function (code.unfolded 𝓤 𝓛.H 𝓜 𝓡 wired)
+    (law.meets byte_refilled ByteRefillMeets 𝓤 𝓛 core.name (tables_of 𝓤 𝓛.H 𝓜 𝓣) (core-thm.met 𝓤 𝓛 𝓜 𝓡 (code.calls-bucket_bytes::bytes::ByteTokenBucket::refill 𝓡.env wired)))
