@@ -6,7 +6,7 @@ use Rattle.peer_message_policy.proofs.carry.drop_known.Goals as goal
 
 pub remove_at-requires : goal.remove_at-requires
 remove_at-requires c = let a = c.args in
-    (known_inside a.p a.table.now a.peer.bytes a.index c.requires, rows_fit a.p a.table.now c.requires.is_sound)
+    record { index_lt_count = known_inside a.p a.table.now a.peer.bytes a.index c.requires; count_in_bounds = rows_fit a.p a.table.now c.requires.is_sound }
 
 pub overflow_sub-p : goal.overflow_sub-p
 overflow_sub-p c = let a = c.args in

@@ -11,7 +11,7 @@ returns-then-same_counts c = let a = c.args in
 
 pub overwrite_at-requires : goal.overwrite_at-requires
 overwrite_at-requires c = let a = c.args in
-    (known_inside a.p a.table.now a.peer.bytes a.index c.requires.known, rows_fit a.p a.table.now c.requires.known.is_sound)
+    record { index_lt_count = known_inside a.p a.table.now a.peer.bytes a.index c.requires.known; count_in_bounds = rows_fit a.p a.table.now c.requires.known.is_sound }
 
 pub returns : goal.returns
 returns c =

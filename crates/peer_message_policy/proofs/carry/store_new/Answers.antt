@@ -8,7 +8,7 @@ use Rattle.peer_message_policy.proofs.carry.store_new.Goals as goal
 
 pub insert_at-requires : goal.insert_at-requires
 insert_at-requires c = let a = c.args in
-    (gap_fits a.p a.table.now a.peer.bytes a.gap c.requires a.now_ms, row_fits a.p a.table.now a.peer.bytes a.gap c.requires a.now_ms (omega (arith, c.if-p-limit.true, c.limit.ensures)))
+    record { index_le_count = gap_fits a.p a.table.now a.peer.bytes a.gap c.requires a.now_ms; count_in_bounds = row_fits a.p a.table.now a.peer.bytes a.gap c.requires a.now_ms (omega (arith, c.if-p-limit.true, c.limit.ensures)) }
 
 pub returns-then-p-limit : goal.returns-then-p-limit
 returns-then-p-limit c =

@@ -4,10 +4,6 @@ use borrow.Author.Tests.{not-true, not-false}
 use Rattle.peer_message_policy.specs.Calls.{InFlightMeets}
 use Rattle.peer_message_policy.proofs.policy.PeerMessagePolicy.in_flight.Goals as goal
 
-  statement,
-}
-use Rattle.peer_message_policy.proofs.policy.PeerMessagePolicy.in_flight.Tie as tie
-
 pub returns-then-not-is_sound : goal.returns-then-not-is_sound
 unfolding InFlightMeets
 returns-then-not-is_sound c = rw (sym c.is_sound.ensures ∙ not-true c.is_sound.result c.if-not-is_sound.true-raw)

@@ -4,10 +4,6 @@ use borrow.Author.Tests.{not-true, not-false}
 use Rattle.peer_message_policy.specs.Calls.{ReleaseIngressMeets}
 use Rattle.peer_message_policy.proofs.policy.PeerMessagePolicy.release_ingress.Goals as goal
 
-  statement,
-}
-use Rattle.peer_message_policy.proofs.policy.PeerMessagePolicy.release_ingress.Tie as tie
-
 pub returns-then-not-is_sound : goal.returns-then-not-is_sound
 unfolding ReleaseIngressMeets
 returns-then-not-is_sound c = rw (sym c.is_sound.ensures ∙ not-true c.is_sound.result c.if-not-is_sound.true-raw)
