@@ -1,6 +1,6 @@
 -- `keyed_rows::change::store` meets its contract: by the key's place (`stored_over`, `stored_into`); a search never says unsound. Assumes
 -- nothing.
-use Rattle.std.proofs.Common.{sym, ◌∙◌, ◌+◌, ◌*◌, arith, length}
+use Rattle.std.proofs.Common.{sym, ◌∙◌, ◌+◌, ◌*◌, arith, rules, length}
 use Rattle.table.specs.Memory.{word_bytes, rows}
 use Rattle.table.specs.MemoryLaws.{length_word_bytes, Bytes_word_bytes}
 use Rattle.table.specs.PlaceLaws.{place_is_sound}
@@ -46,7 +46,7 @@ pub returns-in-At : goal.returns-in-At
 returns-in-At c =
     let a = c.args in
     stored_over a.table.now _ a.width a.count a.key.now (word_bytes a.words.now) c.in-At.index
-    (omega (arith, c.requires)) (omega (arith, c.requires, length_word_bytes a.words.now)) (λ i. (c.slice_known-1.given i).fits) (Bytes_word_bytes a.words.now)
+    (omega (arith, c.requires)) (omega (arith, c.requires, length_word_bytes a.words.now)) (λ k. search rules) (Bytes_word_bytes a.words.now)
     (omega (arith, c.requires, next_row a.width a.count))
     (sym c.place_of.ensures ∙ c.in-At.is) c.put_words.ensures
 
@@ -54,8 +54,8 @@ pub returns-in-Gap : goal.returns-in-Gap
 returns-in-Gap c =
     let a = c.args in
     stored_into a.table.now _ a.width a.count a.key.now (word_bytes a.words.now) c.in-Gap.index
-    (omega (arith, c.requires)) (omega (arith, c.requires, length_word_bytes a.words.now)) (λ i. (c.slice_known-1.given i).fits) (Bytes_word_bytes a.words.now)
-    (omega (arith, c.requires, next_row a.width a.count)) (λ i. (c.shared_slice_known-1.given i).fits)
+    (omega (arith, c.requires)) (omega (arith, c.requires, length_word_bytes a.words.now)) (λ k. search rules) (Bytes_word_bytes a.words.now)
+    (omega (arith, c.requires, next_row a.width a.count)) (λ k. (c.type_inv.key k).fits)
     (sym c.place_of.ensures ∙ c.in-Gap.is) c.insert_row.ensures
 
 pub returns-in-Unsound : goal.returns-in-Unsound

@@ -9,8 +9,8 @@ use Rattle.keyed_rows.proofs.find.in_order.Goals as goal
 pub returns-then-last-own : goal.returns-then-last-own
 returns-then-last-own c = let a = c.args in
     let pre = c.requires in
-    sym (rises_front 8 a.width a.key_width a.table.now a.index pre.0.0 pre.0.1 (λ i. (c.shared_slice_known-1.given i).fits) pre.1.0
-    (λ h. omega (arith, pre.1.1.0, pre.1.1.1 h)))
+    sym (rises_front 8 a.width a.key_width a.table.now a.index pre.le_key_width.0 pre.le_key_width.1 (λ k. (c.type_inv.table k).fits) pre.width_in_bounds
+    (λ h. omega (arith, pre.own_value, pre.last_value h)))
 
 pub overflow_mul-width : goal.overflow_mul-width
 overflow_mul-width c = let a = c.args in

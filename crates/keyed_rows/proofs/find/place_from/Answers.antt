@@ -1,5 +1,5 @@
 -- `keyed_rows::find::place_from` meets its contract.
-use Rattle.std.proofs.Common.{sym, ◌∙◌, ◌-◌, arith, length}
+use Rattle.std.proofs.Common.{sym, ◌∙◌, arith, length}
 use Rattle.table_laws.specs.Raw.{raw_layout}
 use Rattle.table_laws.specs.WalkLaws.{row_in, find_ends, find_before, find_finds, find_goes_on}
 use Rattle.keyed_rows.proofs.find.place_from.Goals as goal
