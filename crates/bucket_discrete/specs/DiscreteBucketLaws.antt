@@ -4,9 +4,7 @@ use Rattle.std.specs.Prelude.{◌≡◌, true, ℕ, eqb}
 use Rattle.std.proofs.Common.{arith}
 use Rattle.refusal.specs.OneOutcomeLaws.{one_outcome}
 use Rattle.bucket_terms.specs.declared.answer.Refilled.{Refilled}
-use Rattle.bucket_terms.specs.declared.answer.Refilled.TheVariants as Refilled
 use Rattle.bucket_terms.specs.declared.answer.Consumed.{Consumed}
-use Rattle.bucket_terms.specs.declared.answer.Consumed.TheVariants as Consumed
 use Rattle.bucket_terms.specs.declared.answer.Told.{Told}
 use Rattle.bucket_terms.specs.Answers.{told}
 use Rattle.bucket_terms.specs.AnswersLaws.{refused_leaves, neither_refuses}

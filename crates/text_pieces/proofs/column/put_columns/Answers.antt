@@ -20,7 +20,7 @@ loop-i-preserved c =
         omega (arith, w.behind, column_fits a.width (get_or a.numbers.now turn.i 0) (omega arith)),
         (
           wrote_as (sym (columns_more a.width a.numbers.now turn.i (omega arith))) (wrote_more turn.invariant.1.1.0 (omega arith) w),
-          c.put_column-place.auto.0 ∙ turn.invariant.1.1.1,
+          c.put_column-place.auto.out ∙ turn.invariant.1.1.1,
         ),
       ),
     )

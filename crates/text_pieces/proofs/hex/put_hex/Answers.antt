@@ -8,9 +8,6 @@ use Rattle.text_pieces.proofs.hex.put_hex.Goals as goal
 pub loop-i-init : goal.loop-i-init
 loop-i-init c = let a = c.args in (omega arith, (omega arith, (wrote_nothing a.out.now a.at, refl)))
 
-pub hex_char-requires : goal.hex_char-requires
-hex_char-requires c = omega (arith, c.shared_slice_known-in-loop-i-1.given c.loop-i.i)
-
 pub bounds-out-place-in-loop-i : goal.bounds-out-place-in-loop-i
 bounds-out-place-in-loop-i c = simp length-set (omega arith)
 
