@@ -11,7 +11,6 @@ use lib.ListN.{length, drop, get_or, drop_of_length-le}
 use Rattle.lent_bytes.specs.LentBytes.{put, bytes}
 use Rattle.lent_bytes.specs.LentBytesLaws.{length_put, put_put_at}
 use Rattle.snapshot_layout.specs.declared.place.Place.{Place}
-use Rattle.snapshot_layout.specs.declared.place.Place.TheVariants as Place
 use Rattle.snapshot_layout.specs.Layout.{count_size, kind_size, number_size, slot_size, contents_size, Slot, slots, bodies_size, slot_bytes, contents_from, contents}
 use Rattle.snapshot_layout.specs.Layout.{slot_says, says_from, place_from}
 use Rattle.snapshot_layout.specs.SlotLaws.{slots_cons, length_slots, length_slot_bytes, past_end}

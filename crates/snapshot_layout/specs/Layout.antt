@@ -5,7 +5,6 @@ use Prim.{Unit}
 use Rattle.std.specs.Prelude.{Bool, ◌&&◌, cond, List, [], ◌∷◌, ◌++◌, ℕ, ◌+◌, ◌*◌, ◌^◌, ◌<◌, ◌≤◌, eqb, length}
 use Rattle.lent_bytes.specs.LentBytes.{part, le, bytes}
 use Rattle.snapshot_layout.specs.declared.place.Place.{Place}
-use Rattle.snapshot_layout.specs.declared.place.Place.TheVariants as Place
 
 -- ════ Sizes, in bytes ════
 

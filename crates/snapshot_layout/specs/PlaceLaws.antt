@@ -5,7 +5,6 @@ use Rattle.std.proofs.Common.{ap, ◌∙◌, arith}
 use Rattle.truths.specs.TruthLaws.{either}
 use Rattle.lent_bytes.specs.LentBytes.{part}
 use Rattle.snapshot_layout.specs.declared.place.Place.{Place}
-use Rattle.snapshot_layout.specs.declared.place.Place.TheVariants as Place
 use Rattle.snapshot_layout.specs.Layout.{contents_size, Part, Slot, slots, slots_of, bodies_size, snapshot_size, snapshot_of, cut_from, cut, body_of}
 use Rattle.snapshot_layout.specs.Layout.{place_from, place_of, Between}
 use Rattle.snapshot_layout.specs.LayoutLaws.{cut_snapshot}

@@ -1,4 +1,4 @@
--- `contents::laid_out_lem` meets its contract. Assumes nothing.
+-- `contents::laid_out` meets its contract. Assumes nothing.
 use Rattle.std.proofs.Common.{sym, ap, ◌∙◌, ℕ, arith}
 use Rattle.snapshot_layout.specs.Layout.{count_size, contents_size, slots, says_from}
 use Rattle.snapshot_layout.specs.SlotLaws.{length_slots}

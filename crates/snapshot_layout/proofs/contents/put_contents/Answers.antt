@@ -1,5 +1,5 @@
 -- `contents::put_contents` meets its contract.
-use Rattle.std.proofs.Common.{◌≡◌, refl, sym, ap, ◌∙◌, List, ℕ, ◌-◌, arith, length}
+use Rattle.std.proofs.Common.{◌≡◌, refl, sym, ap, ◌∙◌, List, ℕ, arith, length}
 use Rattle.lent_bytes.specs.LentBytes.{put}
 use Rattle.lent_bytes.specs.LentBytesLaws.{put_nil}
 use Rattle.snapshot_layout.specs.Layout.{count_size, Slot, slots, contents_size, contents_from}
@@ -36,8 +36,8 @@ loop-i-preserved c =
       (
         omega (arith, sizes_step ks ns turn.i (omega arith) (omega arith)),
         (
-          written.auto.0 ∙ turn.invariant.1.1.0,
-          put_goes_on ks ns turn.i (omega arith) (omega arith) turn.output written.new.0 _ turn.from (omega arith)
+          written.auto.output ∙ turn.invariant.1.1.0,
+          put_goes_on ks ns turn.i (omega arith) (omega arith) turn.output written.new.output _ turn.from (omega arith)
               written.ensures turn.invariant.1.1.1,
         ),
       ),
@@ -55,6 +55,6 @@ returns c =
     sym (put_nil last.output (slot_place last.i))
     ∙ ap (λ (l : List Slot). put last.output (slot_place last.i) (contents_from last.from l)) (sym (none_left ks ns last.i (omega arith)))
     ∙ last.invariant.1.1.1
-    ∙ ap (λ (n : ℕ). put counted.new.0 count_size (contents_from n (slots ks ns))) from.ensures
+    ∙ ap (λ (n : ℕ). put counted.new.s count_size (contents_from n (slots ks ns))) from.ensures
     ∙ ap (λ (l : List ℕ). put l count_size (contents_from (contents_size (length ks)) (slots ks ns))) counted.ensures
     ∙ put_whole a.output.now ks ns (omega arith)

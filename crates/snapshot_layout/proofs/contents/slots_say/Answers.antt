@@ -1,6 +1,5 @@
 -- `contents::slots_say` meets its contract.
-use Rattle.std.proofs.Common.{sym, ap, ◌∙◌, ℕ, ◌-◌, arith}
-use borrow.Author.Tests.{not-true, not-false}
+use Rattle.std.proofs.Common.{sym, ap, ◌∙◌, ℕ, arith}
 use Rattle.snapshot_layout.specs.Layout.{count_size, slots, says_from}
 use Rattle.snapshot_layout.proofs.Walk.{slot_place, none_left, says_not, says_past, says_goes_on}
 use Rattle.snapshot_layout.proofs.contents.slots_say.Goals as goal
@@ -17,7 +16,7 @@ returns-then-not-slot_says c =
     let told = c.slot_says in
     sym
     (says_not a.kinds.now a.lengths.now turn.i (omega arith) (omega arith) a.snapshot.now turn.from _ turn.invariant.1.1
-    told.result told.ensures (not-true told.result c.if-not-slot_says.true-raw))
+    told.result told.ensures c.if-not-slot_says.true)
 
 pub returns-then-snapshot-from : goal.returns-then-snapshot-from
 returns-then-snapshot-from c =
@@ -36,7 +35,7 @@ loop-i-preserved c =
       (
         omega arith,
         says_goes_on a.kinds.now a.lengths.now turn.i (omega arith) (omega arith) a.snapshot.now turn.from _ turn.invariant.1.1
-            told.result told.ensures (not-false told.result c.if-not-slot_says.false-raw),
+            told.result told.ensures c.if-not-slot_says.false,
       ),
     )
 

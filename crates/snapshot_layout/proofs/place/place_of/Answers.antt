@@ -1,8 +1,7 @@
 -- `place::place_of` meets its contract.
-use Rattle.std.proofs.Common.{◌≡◌, sym, ap, ◌∙◌, Bool, cond, ℕ, ◌+◌, ◌-◌, arith, length, get_or}
+use Rattle.std.proofs.Common.{◌≡◌, sym, ap, ◌∙◌, Bool, cond, ℕ, ◌+◌, arith, length, get_or}
 use borrow.Author.Tests.{eq-eqb, ne_eqb}
 use Rattle.snapshot_layout.specs.declared.place.Place.{Place}
-use Rattle.snapshot_layout.specs.declared.place.Place.TheVariants as Place
 use Rattle.snapshot_layout.specs.Layout.{slots, contents_size, place_from, place_of}
 use Rattle.snapshot_layout.specs.SlotLaws.{length_slots}
 use Rattle.snapshot_layout.proofs.Walk.{slots_left, none_left, sizes_step, place_step}
