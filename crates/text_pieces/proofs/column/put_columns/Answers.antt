@@ -1,5 +1,5 @@
 -- `text_pieces::column::put_columns` meets its contract.
-use Rattle.std.proofs.Common.{refl, sym, ap, ◌∙◌, ◌-◌, arith, get_or}
+use Rattle.std.proofs.Common.{refl, sym, ap, ◌∙◌, arith, get_or}
 use lib.Seq.{take_all}
 use Rattle.text_pieces.specs.Text.{columns_text}
 use Rattle.text_pieces.specs.TextLaws.{column_fits, columns_more, wrote_nothing, wrote_more, wrote_as}

@@ -1,5 +1,5 @@
 -- `text_pieces::hex::put_hex` meets its contract.
-use Rattle.std.proofs.Common.{refl, ap, ◌∙◌, ◌+◌, ◌-◌, arith, set, length-set}
+use Rattle.std.proofs.Common.{refl, ap, ◌∙◌, ◌+◌, arith, set, length-set}
 use lib.Seq.{take_all}
 use Rattle.text_pieces.specs.Text.{hex_text}
 use Rattle.text_pieces.specs.TextLaws.{wrote_nothing, wrote_as, hex_written}

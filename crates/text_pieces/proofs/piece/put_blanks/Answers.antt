@@ -1,5 +1,5 @@
 -- `text_pieces::piece::put_blanks` meets its contract.
-use Rattle.std.proofs.Common.{refl, sym, ap, ◌∙◌, List, ℕ, ◌+◌, ◌-◌, le_antisymm, arith, set, length-set}
+use Rattle.std.proofs.Common.{refl, sym, ap, ◌∙◌, List, ℕ, ◌+◌, le_antisymm, arith, set, length-set}
 use lib.ListN.{length-replicate}
 use Rattle.lent_bytes.specs.LentBytes.{put}
 use Rattle.lent_bytes.specs.LentBytesLaws.{put_nil}
