@@ -8,23 +8,23 @@ ghost use Rattle.trace.specs.Scan.{longest_input};
 use standard::Input;
 use trace_output::write_answers;
 
-fn main() {
+fn main(rt: HostRuntime) {
     let mut buffer = [0u8; 65537];
     let mut table = [0u8; 30976];
-    answer_input(&mut buffer, &mut table);
+    answer_input(&rt, &mut buffer, &mut table);
 }
 
 // The buffer holds more than the longest input, so that a longer one is seen to be too long and not cut; the table holds the rows of
 // 256 peers. Of an input that could not be read to its end nothing is answered.
-fn answer_input(buffer: &mut [u8], table: &mut [u8])
+fn answer_input(rt: &HostRuntime, buffer: &mut [u8], table: &mut [u8])
     requires longest_input_in_bounds { longest_input < length buffer.old }
     requires table_len { length table.old ≡ 30976 }
 {
-    let input = standard::read(buffer);
+    let input = standard::read(rt, buffer);
     match input {
         Input::Failed => {}
         Input::Bytes(count) => {
-            write_answers(&buffer[..count], table);
+            write_answers(rt, &buffer[..count], table);
         }
     }
 }

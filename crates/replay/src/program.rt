@@ -12,9 +12,9 @@ pub enum Next {
     End,
 }
 
-pub fn next_record() -> Next {
+pub fn next_record(rt: &HostRuntime) -> Next {
     let mut bytes = [0u8; RECORD_SIZE];
-    let input = standard::read(&mut bytes);
+    let input = standard::read(rt, &mut bytes);
     match input {
         Input::Failed => Next::End,
         Input::Bytes(count) => {
@@ -30,17 +30,17 @@ pub fn next_record() -> Next {
 }
 
 // Writes the line and its end, and answers whether that went well.
-pub fn print(line: Line) -> bool {
+pub fn print(rt: &HostRuntime, line: Line) -> bool {
     let ended = line.byte(b'\n');
     let bytes = ended.bytes;
     let used = ended.used;
     if used > LINE_SIZE {
         return false;
     }
-    standard::write(&bytes[..used])
+    standard::write(rt, &bytes[..used])
 }
 
 // Writes that the input ends within a record.
-pub fn print_cut() {
-    print(Line::empty().text(b"cut record"));
+pub fn print_cut(rt: &HostRuntime) {
+    print(rt, Line::empty().text(b"cut record"));
 }

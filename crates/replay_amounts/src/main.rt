@@ -13,19 +13,19 @@ use replay::{program, record};
 const THOUSAND: u32 = 1_000;
 
 // A proved loop has to end, and nothing says that the input does: so rounds are counted down from a number that no run uses up.
-fn main() {
+fn main(rt: HostRuntime) {
     let mut rounds = u64::MAX;
-    while rounds > 0 && answer_next() {
+    while rounds > 0 && answer_next(&rt) {
         rounds -= 1;
     }
 }
 
 // Answers one record, and says whether to go on.
-fn answer_next() -> bool {
-    match program::next_record() {
-        Next::Whole(r) => program::print(answer(r)),
+fn answer_next(rt: &HostRuntime) -> bool {
+    match program::next_record(rt) {
+        Next::Whole(r) => program::print(rt, answer(r)),
         Next::Cut => {
-            program::print_cut();
+            program::print_cut(rt);
             false
         }
         Next::End => false,

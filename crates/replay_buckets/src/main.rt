@@ -32,14 +32,14 @@ struct Progress {
 }
 
 // A proved loop has to end, and nothing says that the input does: so rounds are counted down from a number that no run uses up.
-fn main() {
+fn main(rt: HostRuntime) {
     let mut buckets = Buckets {
         discrete: DiscreteTokenBucket::new(0, 0),
         bytes: ByteTokenBucket::new(ByteRateLimitConfig::new(0, 0)),
     };
     let mut rounds = u64::MAX;
     while rounds > 0 {
-        let progress = answer_next(buckets);
+        let progress = answer_next(&rt, buckets);
         if !progress.more {
             return;
         }
@@ -48,11 +48,11 @@ fn main() {
     }
 }
 
-fn answer_next(buckets: Buckets) -> Progress {
-    match program::next_record() {
-        Next::Whole(r) => answer(buckets, r),
+fn answer_next(rt: &HostRuntime, buckets: Buckets) -> Progress {
+    match program::next_record(rt) {
+        Next::Whole(r) => answer(rt, buckets, r),
         Next::Cut => {
-            program::print_cut();
+            program::print_cut(rt);
             Progress {
                 buckets,
                 more: false,
@@ -65,7 +65,7 @@ fn answer_next(buckets: Buckets) -> Progress {
     }
 }
 
-fn answer(buckets: Buckets, r: Record) -> Progress {
+fn answer(rt: &HostRuntime, buckets: Buckets, r: Record) -> Progress {
     let operation = r.operation;
     let discrete = buckets.discrete;
     let bytes = buckets.bytes;
@@ -79,7 +79,7 @@ fn answer(buckets: Buckets, r: Record) -> Progress {
                     discrete: after,
                     bytes,
                 },
-                more: program::print(discrete_steps::with_bucket(line, after)),
+                more: program::print(rt, discrete_steps::with_bucket(line, after)),
             }
         }
         4..=12 | 14 => {
@@ -91,12 +91,12 @@ fn answer(buckets: Buckets, r: Record) -> Progress {
                     discrete,
                     bytes: after,
                 },
-                more: program::print(byte_steps::with_bucket(line, after)),
+                more: program::print(rt, byte_steps::with_bucket(line, after)),
             }
         }
         _ => Progress {
             buckets,
-            more: program::print(Line::empty().text(b"unknown operation").then(operation)),
+            more: program::print(rt, Line::empty().text(b"unknown operation").then(operation)),
         },
     }
 }

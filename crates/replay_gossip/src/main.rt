@@ -22,18 +22,18 @@ struct Progress {
     more: bool,
 }
 
-fn main() {
+fn main(rt: HostRuntime) {
     let mut first = [0u8; 96560];
     let mut second = [0u8; 96560];
-    run(&mut first, &mut second);
+    run(&rt, &mut first, &mut second);
 }
 
 // A proved loop has to end, and nothing says that the input does: so rounds are counted down from a number that no run uses up.
-fn run(first: &mut [u8], second: &mut [u8]) {
+fn run(rt: &HostRuntime, first: &mut [u8], second: &mut [u8]) {
     let mut held = Held::lending(0, 0);
     let mut rounds = u64::MAX;
     while rounds > 0 {
-        let progress = answer_next(held, first, second);
+        let progress = answer_next(rt, held, first, second);
         if !progress.more {
             return;
         }
@@ -42,23 +42,23 @@ fn run(first: &mut [u8], second: &mut [u8]) {
     }
 }
 
-fn answer_next(held: Held, first: &mut [u8], second: &mut [u8]) -> Progress {
-    match program::next_record() {
-        Next::Whole(r) => printed(stepped(held, first, second, r)),
+fn answer_next(rt: &HostRuntime, held: Held, first: &mut [u8], second: &mut [u8]) -> Progress {
+    match program::next_record(rt) {
+        Next::Whole(r) => printed(rt, stepped(held, first, second, r)),
         Next::Cut => {
-            program::print_cut();
+            program::print_cut(rt);
             Progress { held, more: false }
         }
         Next::End => Progress { held, more: false },
     }
 }
 
-fn printed(answer: Answer) -> Progress {
+fn printed(rt: &HostRuntime, answer: Answer) -> Progress {
     let held = answer.held;
     let line = answer.line;
     Progress {
         held,
-        more: program::print(line),
+        more: program::print(rt, line),
     }
 }
 

@@ -21,17 +21,17 @@ struct Progress {
     more: bool,
 }
 
-fn main() {
+fn main(rt: HostRuntime) {
     let mut table = [0u8; 2304];
-    run(&mut table);
+    run(&rt, &mut table);
 }
 
 // A proved loop has to end, and nothing says that the input does: so rounds are counted down from a number that no run uses up.
-fn run(table: &mut [u8]) {
+fn run(rt: &HostRuntime, table: &mut [u8]) {
     let mut held = Held::nothing();
     let mut rounds = u64::MAX;
     while rounds > 0 {
-        let progress = answer_next(held, table);
+        let progress = answer_next(rt, held, table);
         if !progress.more {
             return;
         }
@@ -40,11 +40,11 @@ fn run(table: &mut [u8]) {
     }
 }
 
-fn answer_next(held: Held, table: &mut [u8]) -> Progress {
-    match program::next_record() {
-        Next::Whole(r) => finished(stepped(held, table, r), table),
+fn answer_next(rt: &HostRuntime, held: Held, table: &mut [u8]) -> Progress {
+    match program::next_record(rt) {
+        Next::Whole(r) => finished(rt, stepped(held, table, r), table),
         Next::Cut => {
-            program::print_cut();
+            program::print_cut(rt);
             Progress { held, more: false }
         }
         Next::End => Progress { held, more: false },
@@ -67,7 +67,7 @@ fn stepped(held: Held, table: &mut [u8], r: Record) -> Answer {
 }
 
 // Prints the line with what is held behind it.
-fn finished(answer: Answer, table: &[u8]) -> Progress {
+fn finished(rt: &HostRuntime, answer: Answer, table: &[u8]) -> Progress {
     let held = answer.held;
     let line = answer.line;
     let policy = held.policy;
@@ -83,6 +83,6 @@ fn finished(answer: Answer, table: &[u8]) -> Progress {
         .then(checksum::of(policy, &table[..lent]));
     Progress {
         held,
-        more: program::print(whole),
+        more: program::print(rt, whole),
     }
 }

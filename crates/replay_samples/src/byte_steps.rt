@@ -5,29 +5,44 @@ use token_bucket::answer::{Delay, Told};
 use token_bucket::bytes::ByteTokenBucket;
 
 // Asks for bytes, and answers the bucket after it.
-pub(crate) fn take(letter: u8, b: ByteTokenBucket, bytes: u64, now_ms: u64) -> ByteTokenBucket {
+pub(crate) fn take(
+    rt: &HostRuntime,
+    letter: u8,
+    b: ByteTokenBucket,
+    bytes: u64,
+    now_ms: u64,
+) -> ByteTokenBucket {
     let done = b.try_consume(bytes, now_ms);
     let bucket = done.bucket;
     let answer = done.answer;
     let line = begun(letter, bucket).text(b"take").then(bytes);
-    program::print(crate::consumed(line.text(b" at").then(now_ms).byte(b' '), answer));
+    program::print(
+        rt,
+        crate::consumed(line.text(b" at").then(now_ms).byte(b' '), answer),
+    );
     bucket
 }
 
 // Takes bytes in any case, and answers the bucket after it.
-pub(crate) fn reserve(letter: u8, b: ByteTokenBucket, bytes: u64, now_ms: u64) -> ByteTokenBucket {
+pub(crate) fn reserve(
+    rt: &HostRuntime,
+    letter: u8,
+    b: ByteTokenBucket,
+    bytes: u64,
+    now_ms: u64,
+) -> ByteTokenBucket {
     let done = b.reserve(bytes, now_ms);
     let bucket = done.bucket;
     let answer = done.answer;
     let line = begun(letter, bucket).text(b"reserve").then(bytes);
-    program::print(delay(line.text(b" at").then(now_ms).byte(b' '), answer));
+    program::print(rt, delay(line.text(b" at").then(now_ms).byte(b' '), answer));
     bucket
 }
 
 // Asks for debt, which changes nothing.
-pub(crate) fn ask_debt(letter: u8, b: ByteTokenBucket, now_ms: u64) {
+pub(crate) fn ask_debt(rt: &HostRuntime, letter: u8, b: ByteTokenBucket, now_ms: u64) {
     let line = begun(letter, b).text(b"debt at").then(now_ms).byte(b' ');
-    program::print(told(line, b.has_debt(now_ms)));
+    program::print(rt, told(line, b.has_debt(now_ms)));
 }
 
 fn delay(line: Line, answer: Delay) -> Line {

@@ -4,12 +4,17 @@ use replay::program;
 use token_bucket::discrete::DiscreteTokenBucket;
 
 // Asks for one token, and answers the bucket after it.
-pub(crate) fn take(letter: u8, b: DiscreteTokenBucket, now_ms: u64) -> DiscreteTokenBucket {
+pub(crate) fn take(
+    rt: &HostRuntime,
+    letter: u8,
+    b: DiscreteTokenBucket,
+    now_ms: u64,
+) -> DiscreteTokenBucket {
     let done = b.try_consume(now_ms);
     let bucket = done.bucket;
     let answer = done.answer;
     let line = begun(letter, bucket).text(b"at").then(now_ms).byte(b' ');
-    program::print(crate::consumed(line, answer));
+    program::print(rt, crate::consumed(line, answer));
     bucket
 }
 

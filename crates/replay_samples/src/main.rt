@@ -16,39 +16,39 @@ use token_bucket::bytes::{ByteRateLimitConfig, ByteTokenBucket};
 use token_bucket::discrete::DiscreteTokenBucket;
 
 // A proved loop has to end, and nothing says that the input does: so rounds are counted down from a number that no run uses up.
-fn main() {
+fn main(rt: HostRuntime) {
     let mut rounds = u64::MAX;
-    while rounds > 0 && run_next() {
+    while rounds > 0 && run_next(&rt) {
         rounds -= 1;
     }
 }
 
 // Runs one sample, and says whether to go on.
-fn run_next() -> bool {
-    match program::next_record() {
+fn run_next(rt: &HostRuntime) -> bool {
+    match program::next_record(rt) {
         Next::Whole(r) => {
-            run(r);
+            run(rt, r);
             true
         }
         Next::Cut => {
-            program::print_cut();
+            program::print_cut(rt);
             false
         }
         Next::End => false,
     }
 }
 
-fn run(r: Record) {
+fn run(rt: &HostRuntime, r: Record) {
     let letter = (r.operation % 256) as u8;
     match letter {
-        b'A' | b'B' => one_token_each_time(letter, r),
-        b'C' => same_bytes_three_times(letter, r),
+        b'A' | b'B' => one_token_each_time(rt, letter, r),
+        b'C' => same_bytes_three_times(rt, letter, r),
         b'D' | b'E' => {
-            byte_steps::reserve(letter, byte_bucket(r), r.third, r.fourth);
+            byte_steps::reserve(rt, letter, byte_bucket(r), r.third, r.fourth);
         }
-        b'F' => debt_after_reserve(letter, r),
+        b'F' => debt_after_reserve(rt, letter, r),
         _ => {
-            program::print(Line::empty().text(b"unknown sample").then(r.operation));
+            program::print(rt, Line::empty().text(b"unknown sample").then(r.operation));
         }
     }
 }
@@ -58,35 +58,35 @@ fn byte_bucket(r: Record) -> ByteTokenBucket {
 }
 
 // Interval, burst, and the times: five in sample A, four in sample B.
-fn one_token_each_time(letter: u8, r: Record) {
+fn one_token_each_time(rt: &HostRuntime, letter: u8, r: Record) {
     let burst = r.second;
     if burst > 0xffff_ffff {
-        program::print(Line::empty().byte(letter).text(b" more than 32 bits"));
+        program::print(rt, Line::empty().byte(letter).text(b" more than 32 bits"));
         return;
     }
     let mut bucket = DiscreteTokenBucket::new(r.first, burst as u32);
-    bucket = discrete_steps::take(letter, bucket, r.third);
-    bucket = discrete_steps::take(letter, bucket, r.fourth);
-    bucket = discrete_steps::take(letter, bucket, r.fifth);
-    bucket = discrete_steps::take(letter, bucket, r.sixth);
+    bucket = discrete_steps::take(rt, letter, bucket, r.third);
+    bucket = discrete_steps::take(rt, letter, bucket, r.fourth);
+    bucket = discrete_steps::take(rt, letter, bucket, r.fifth);
+    bucket = discrete_steps::take(rt, letter, bucket, r.sixth);
     if letter == b'A' {
-        discrete_steps::take(letter, bucket, r.seventh);
+        discrete_steps::take(rt, letter, bucket, r.seventh);
     }
 }
 
 // Rate, burst, bytes, and three times.
-fn same_bytes_three_times(letter: u8, r: Record) {
+fn same_bytes_three_times(rt: &HostRuntime, letter: u8, r: Record) {
     let mut bucket = byte_bucket(r);
-    bucket = byte_steps::take(letter, bucket, r.third, r.fourth);
-    bucket = byte_steps::take(letter, bucket, r.third, r.fifth);
-    byte_steps::take(letter, bucket, r.third, r.sixth);
+    bucket = byte_steps::take(rt, letter, bucket, r.third, r.fourth);
+    bucket = byte_steps::take(rt, letter, bucket, r.third, r.fifth);
+    byte_steps::take(rt, letter, bucket, r.third, r.sixth);
 }
 
 // Rate, burst, bytes, a time, and two times at which debt is asked for.
-fn debt_after_reserve(letter: u8, r: Record) {
-    let bucket = byte_steps::reserve(letter, byte_bucket(r), r.third, r.fourth);
-    byte_steps::ask_debt(letter, bucket, r.fifth);
-    byte_steps::ask_debt(letter, bucket, r.sixth);
+fn debt_after_reserve(rt: &HostRuntime, letter: u8, r: Record) {
+    let bucket = byte_steps::reserve(rt, letter, byte_bucket(r), r.third, r.fourth);
+    byte_steps::ask_debt(rt, letter, bucket, r.fifth);
+    byte_steps::ask_debt(rt, letter, bucket, r.sixth);
 }
 
 // Whether what was asked for was there, and taken.

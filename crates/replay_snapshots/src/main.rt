@@ -12,18 +12,18 @@ use replay::program::Next;
 use replay::record::Record;
 use standard::Input;
 
-fn main() {
+fn main(rt: HostRuntime) {
     let mut snapshot = [0u8; 2304];
     let mut table = [0u8; 2304];
     let mut output = [0u8; 2304];
-    run(&mut snapshot, &mut table, &mut output);
+    run(&rt, &mut snapshot, &mut table, &mut output);
 }
 
 // A proved loop has to end, and nothing says that the input does: so rounds are counted down from a number that no run uses up.
-fn run(snapshot: &mut [u8], table: &mut [u8], output: &mut [u8]) {
+fn run(rt: &HostRuntime, snapshot: &mut [u8], table: &mut [u8], output: &mut [u8]) {
     let mut rounds = u64::MAX;
     while rounds > 0 {
-        if !answer_next(snapshot, table, output) {
+        if !answer_next(rt, snapshot, table, output) {
             return;
         }
         rounds -= 1;
@@ -31,35 +31,41 @@ fn run(snapshot: &mut [u8], table: &mut [u8], output: &mut [u8]) {
 }
 
 // Answers the next record, and whether to go on.
-fn answer_next(snapshot: &mut [u8], table: &mut [u8], output: &mut [u8]) -> bool {
-    match program::next_record() {
-        Next::Whole(r) => answer(r, snapshot, table, output),
-        Next::Cut => cut(),
+fn answer_next(rt: &HostRuntime, snapshot: &mut [u8], table: &mut [u8], output: &mut [u8]) -> bool {
+    match program::next_record(rt) {
+        Next::Whole(r) => answer(rt, r, snapshot, table, output),
+        Next::Cut => cut(rt),
         Next::End => false,
     }
 }
 
-fn cut() -> bool {
-    program::print_cut();
+fn cut(rt: &HostRuntime) -> bool {
+    program::print_cut(rt);
     false
 }
 
 // A record that asks for more memory than there is counts as cut.
-fn answer(r: Record, snapshot: &mut [u8], table: &mut [u8], output: &mut [u8]) -> bool {
+fn answer(
+    rt: &HostRuntime,
+    r: Record,
+    snapshot: &mut [u8],
+    table: &mut [u8],
+    output: &mut [u8],
+) -> bool {
     let length = r.first as usize;
     let table_lent = r.second as usize;
     let output_lent = r.third as usize;
     if length > snapshot.len() {
-        return cut();
+        return cut(rt);
     }
     if table_lent > table.len() {
-        return cut();
+        return cut(rt);
     }
     if output_lent > output.len() {
-        return cut();
+        return cut(rt);
     }
-    if !is_read(&mut snapshot[..length]) {
-        return cut();
+    if !is_read(rt, &mut snapshot[..length]) {
+        return cut(rt);
     }
     let line = calls::answered(
         r,
@@ -67,12 +73,12 @@ fn answer(r: Record, snapshot: &mut [u8], table: &mut [u8], output: &mut [u8]) -
         &mut table[..table_lent],
         &mut output[..output_lent],
     );
-    program::print(line)
+    program::print(rt, line)
 }
 
 // Reads the snapshot behind a record, and answers whether all of it was there.
-fn is_read(snapshot: &mut [u8]) -> bool {
-    let input = standard::read(snapshot);
+fn is_read(rt: &HostRuntime, snapshot: &mut [u8]) -> bool {
+    let input = standard::read(rt, snapshot);
     match input {
         Input::Failed => false,
         Input::Bytes(count) => count == snapshot.len(),

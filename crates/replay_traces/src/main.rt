@@ -8,19 +8,21 @@
 mod parts;
 
 use parts::Part;
+use replay::line::Line;
+use replay::program;
 use trace_output::write_answers;
 
-fn main() {
+fn main(rt: HostRuntime) {
     let mut buffer = [0u8; 65537];
     let mut table = [0u8; 30976];
-    replay(&mut buffer, &mut table);
+    replay(&rt, &mut buffer, &mut table);
 }
 
 // A proved loop has to end, and nothing says that the input does: so the traces are counted up to a number that no run reaches.
-fn replay(buffer: &mut [u8], table: &mut [u8]) {
+fn replay(rt: &HostRuntime, buffer: &mut [u8], table: &mut [u8]) {
     let mut number: u64 = 1;
     while number < u64::MAX {
-        if !replay_next(number, buffer, table) {
+        if !replay_next(rt, number, buffer, table) {
             return;
         }
         number += 1;
@@ -28,37 +30,35 @@ fn replay(buffer: &mut [u8], table: &mut [u8]) {
 }
 
 // Answers the next trace, and whether to go on.
-fn replay_next(number: u64, buffer: &mut [u8], table: &mut [u8]) -> bool {
-    let part = parts::next(buffer);
+fn replay_next(rt: &HostRuntime, number: u64, buffer: &mut [u8], table: &mut [u8]) -> bool {
+    let part = parts::next(rt, buffer);
     match part {
-        Part::Whole(length) => answer_part(number, buffer, length, table),
+        Part::Whole(length) => answer_part(rt, number, buffer, length, table),
         Part::Cut => {
-            standard::write(b"cut record\n");
+            program::print_cut(rt);
             false
         }
         Part::End => false,
     }
 }
 
-fn answer_part(number: u64, buffer: &[u8], length: usize, table: &mut [u8]) -> bool {
+fn answer_part(
+    rt: &HostRuntime,
+    number: u64,
+    buffer: &[u8],
+    length: usize,
+    table: &mut [u8],
+) -> bool {
     if length > buffer.len() {
         return false;
     }
-    if !write_title(number) {
+    if !write_title(rt, number) {
         return false;
     }
-    write_answers(&buffer[..length], table)
+    write_answers(rt, &buffer[..length], table)
 }
 
 // Writes `trace K`.
-fn write_title(number: u64) -> bool {
-    if !standard::write(b"trace ") {
-        return false;
-    }
-    let mut digits = [0u8; 20];
-    let count = io::decimal(number, &mut digits);
-    if !standard::write(&digits[..count]) {
-        return false;
-    }
-    standard::write(b"\n")
+fn write_title(rt: &HostRuntime, number: u64) -> bool {
+    program::print(rt, Line::empty().text(b"trace").then(number))
 }

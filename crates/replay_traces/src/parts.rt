@@ -11,9 +11,9 @@ pub enum Part {
 }
 
 // Reads the next trace into the buffer.
-pub(crate) fn next(buffer: &mut [u8]) -> Part {
+pub(crate) fn next(rt: &HostRuntime, buffer: &mut [u8]) -> Part {
     let mut header = [0u8; 8];
-    let input = standard::read(&mut header);
+    let input = standard::read(rt, &mut header);
     match input {
         Input::Failed => Part::End,
         Input::Bytes(count) => {
@@ -23,16 +23,16 @@ pub(crate) fn next(buffer: &mut [u8]) -> Part {
             if count < 8 {
                 return Part::Cut;
             }
-            read_body(buffer, get_u64(&header, 0) as usize)
+            read_body(rt, buffer, get_u64(&header, 0) as usize)
         }
     }
 }
 
-fn read_body(buffer: &mut [u8], length: usize) -> Part {
+fn read_body(rt: &HostRuntime, buffer: &mut [u8], length: usize) -> Part {
     if length > buffer.len() {
         return Part::Cut;
     }
-    let input = standard::read(&mut buffer[..length]);
+    let input = standard::read(rt, &mut buffer[..length]);
     match input {
         Input::Failed => Part::End,
         Input::Bytes(count) => {

@@ -9,7 +9,7 @@ use trace_lines::line::{LINE_SIZE, TraceLine};
 //
 // A proved loop has to end: rounds are counted down from a number that no run uses up, since a scan hands out at most one line for
 // each of the input's.
-pub fn write_answers(input: &[u8], table: &mut [u8]) -> bool {
+pub fn write_answers(rt: &HostRuntime, input: &[u8], table: &mut [u8]) -> bool {
     let mut scan = open(input);
     let mut rounds = u64::MAX;
     while rounds > 0 {
@@ -18,7 +18,7 @@ pub fn write_answers(input: &[u8], table: &mut [u8]) -> bool {
             return true;
         }
         let line = handed.line;
-        if !write_line(line) {
+        if !write_line(rt, line) {
             return false;
         }
         scan = handed.scan;
@@ -28,11 +28,11 @@ pub fn write_answers(input: &[u8], table: &mut [u8]) -> bool {
 }
 
 // A line that a scan hands out is never longer than its bytes.
-fn write_line(line: TraceLine) -> bool {
+fn write_line(rt: &HostRuntime, line: TraceLine) -> bool {
     let bytes = line.bytes;
     let length = line.length;
     if length > LINE_SIZE {
-        return standard::write(&bytes);
+        return standard::write(rt, &bytes);
     }
-    standard::write(&bytes[..length])
+    standard::write(rt, &bytes[..length])
 }
