@@ -3,19 +3,15 @@
 use mathlib.Core.Path.{◌≡◌, refl, sym, ap, ◌∙◌}
 use mathlib.Core.Bool.{true, false}
 use mathlib.Core.List.{List, [], ◌∷◌}
-use mathlib.Core.Logic.{⊎_elim}
 use mathlib.Core.Option.{none, some}
 use Prim.Native.Nat.{ℕ, ◌+◌, ◌*◌, ◌≤◌, ◌<◌}
 use native.Mathlib.Omega.{arith}
 use borrow.Author.Tests.{leb-true}
 use lib.Dec.{leb}
 use lib.ListN.{length}
-use types.Run.{OneOf}
-use denote.Enum.Declared.{tag_of}
 use Rattle.truths.specs.TruthLaws.{both_parts, chosen}
 use Rattle.table.specs.declared.seek.Seek.{Seek}
 use Rattle.table.specs.declared.seek.Seek.TheVariants.{Unsound, At, Gap}
-use Rattle.table.specs.contracts.seek.Seek.{the_type as seek-type}
 use Rattle.table.specs.Table.{ascending, look}
 use Rattle.table.specs.PlaceLaws.{gap_look}
 use Rattle.table.specs.MemoryLaws.{length_rows}
@@ -72,11 +68,11 @@ module _ (p : PeerMessagePolicy) (s k : List ℕ) where
       let j = laws.sought_unknown peer_layout (peer_sound p.config) (policy_sound p) (limit p.config) s p.rows k h in
       record { is_sound = sound_lent p s ∙ j.is_sound; place = j.place }
 
-  -- any answer but Unsound, which has the tag 0: the peer's row is there, or would stand there
-  pub sought_found : (f : Seek) → sought_in p s k ≡ f → OneOf (1 ∷ 2 ∷ []) (tag_of seek-type f) → Found p s k f
+  -- any answer but Unsound: the peer's row is there, or would stand there
+  pub sought_found : (f : Seek) → sought_in p s k ≡ f → (f ≡ Unsound → ⊥) → Found p s k f
   sought_found (At i) h t = sought_known h
   sought_found (Gap i) h t = sought_unknown h
-  sought_found Unsound h t = absurd (⊎_elim (λ (e : 0 ≡ 1). omega arith) (λ (e : 0 ≡ 2). omega arith) t)
+  sought_found Unsound h t = absurd (t refl)
 
 -- ════ What soundness says ════
 

@@ -12,4 +12,4 @@ returns-in-Unsound c =
 pub admit_found-requires : goal.admit_found-requires
 admit_found-requires c =
     let a = c.args in
-    sought_found a.self a.table.now a.peer.bytes c.sought-found.result (sym c.sought-found.ensures) c.in_default-own.keys2
+    sought_found a.self a.table.now a.peer.bytes c.sought-found.result (sym c.sought-found.ensures) c.in_default.not-Unsound

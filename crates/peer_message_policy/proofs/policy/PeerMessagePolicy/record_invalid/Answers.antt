@@ -12,4 +12,4 @@ returns-in-Unsound c =
 pub invalid_found-requires : goal.invalid_found-requires
 invalid_found-requires c =
     let a = c.args in
-    sought_found a.self a.table.now a.peer.bytes c.sought-found.result (sym c.sought-found.ensures) c.in_default-own.keys2
+    sought_found a.self a.table.now a.peer.bytes c.sought-found.result (sym c.sought-found.ensures) c.in_default.not-Unsound
