@@ -1,6 +1,5 @@
 -- `walk::rows_sound` meets its contract: the walk says Unsound just where the rows are. Assumes nothing.
 use Rattle.std.proofs.Common.{sym, ◌∙◌}
-use Rattle.std.proofs.Common.{rules}
 use Rattle.truths.specs.TruthLaws.{both}
 use Rattle.table.specs.PlaceLaws.{seek_unsound, seek_at, seek_gap}
 use Rattle.peer_rows.proofs.walk.rows_sound.Goals as goal
