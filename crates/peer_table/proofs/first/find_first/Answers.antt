@@ -1,5 +1,5 @@
 -- `peer_table::first::find_first` meets its contract.
-use Rattle.std.proofs.Common.{refl, ◌-◌, arith}
+use Rattle.std.proofs.Common.{refl, arith}
 use Rattle.peer_rows.specs.Rows.{peer_layout}
 use Rattle.peer_table.specs.Private.{best_of, measure_of, measure_by}
 use Rattle.table_laws.specs.MinimumRowsLaws.{first_ends, first_goes_on}

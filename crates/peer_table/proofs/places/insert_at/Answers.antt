@@ -1,6 +1,5 @@
 -- `peer_table::places::insert_at` meets its contract: the write leaves memory with the row (`inserted`). Assumes nothing.
-use Rattle.std.proofs.Common.{◌≡◌, ap, ◌-◌, arith, length, get_or}
-use Rattle.std.proofs.Common.{rules}
+use Rattle.std.proofs.Common.{◌≡◌, ap, arith, length, get_or, rules}
 use mir.Syntax.{w8}
 use mir.Val.{Fits}
 use Rattle.lent_bytes.specs.LentBytes.{Bytes}
@@ -20,5 +19,5 @@ returns c =
     let s = a.table.now in
     let k : length a.key.bytes ≡ 33 = search rules in
     let b : Bytes a.key.bytes = λ i. let h : Fits w8 (get_or a.key.bytes i 0) = search rules in h.fits in
-    inserted peer_faithful s _ a.count (λ i. (c.slice_known-1.given i).fits) (omega arith) a.index a.key.bytes a.e
+    inserted peer_faithful s _ a.count (λ k. search rules) (omega arith) a.index a.key.bytes a.e
     (word_bytes c.words_of-words.result) (omega arith) k b (omega (arith, c.well_formed)) (ap word_bytes c.words_of-words.ensures) c.insert_row.ensures

@@ -1,5 +1,5 @@
 -- `peer_table::room::evict` meets its contract: what the searches found decides which row goes. Assumes nothing.
-use Rattle.std.proofs.Common.{true, false, sym, ap, ◌∙◌, arith}
+use Rattle.std.proofs.Common.{true, false, sym, ap, ◌∙◌, arith, rules}
 use Rattle.table.specs.Memory.{rows}
 use Rattle.peer_rows.specs.Rows.{peer_layout}
 use Rattle.peer_table.specs.Private.{best_of, measure_by}
@@ -46,6 +46,6 @@ returns-in-At-find_first c =
 pub returns : goal.returns
 returns c =
     let a = c.args in
-    left_alone peer_faithful a.table.now a.count (λ i. (c.slice_known-1.given i).fits) (omega (arith, c.requires))
+    left_alone peer_faithful a.table.now a.count (λ k. search rules) (omega (arith, c.requires))
     (evict_nobody (rows peer_layout a.table.now a.count) (sym c.find_first.ensures ∙ ap best_of c.in_default.is)
     (sym c.find_first-2.ensures ∙ ap best_of c.in_default-find_first.is))

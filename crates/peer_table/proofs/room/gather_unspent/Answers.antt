@@ -1,5 +1,5 @@
 -- `peer_table::room::gather_unspent` meets its contract.
-use Rattle.std.proofs.Common.{refl, ◌∙◌, ◌-◌, arith}
+use Rattle.std.proofs.Common.{refl, ◌∙◌, arith, rules}
 use Rattle.table.specs.Memory.{rows}
 use Rattle.table_laws.specs.KeepLaws.{kept_begins, kept_most, plain_step, plain_ends}
 use Rattle.peer_rows.specs.Rows.{peer_layout}
@@ -21,9 +21,9 @@ loop-i-preserved c = let a = c.args in
     let step = c.keep_unspent-kept in (
       omega arith,
       (
-        plain_step peer_faithful (unspent a.now_ms) a.table.now a.count (λ i. (c.slice_known-1.given i).fits) (omega arith)
+        plain_step peer_faithful (unspent a.now_ms) a.table.now a.count (λ k. search rules) (omega arith)
             (omega arith) turn.invariant.1.0 _ step.result step.ensures.0 step.ensures.1,
-        step.auto.0 ∙ turn.invariant.1.1,
+        step.auto.table ∙ turn.invariant.1.1,
       ),
     )
 
@@ -33,4 +33,4 @@ shape_of-table c = c.loop-i.invariant.1.1
 pub returns : goal.returns
 returns c = let a = c.args in
     let last = c.loop-i in
-    plain_ends peer_faithful (unspent a.now_ms) a.table.now a.count (λ i. (c.slice_known-1.given i).fits) (omega arith) (omega arith) last.invariant.1.0
+    plain_ends peer_faithful (unspent a.now_ms) a.table.now a.count (λ k. search rules) (omega arith) (omega arith) last.invariant.1.0

@@ -1,5 +1,5 @@
 -- `peer_table::room::make_room` meets its contract: by the two tests, and two calls are one. Assumes nothing.
-use Rattle.std.proofs.Common.{arith}
+use Rattle.std.proofs.Common.{arith, rules}
 use Rattle.table.specs.Memory.{rows}
 use Rattle.table.specs.MemoryLaws.{length_rows}
 use Rattle.peer_rows.specs.Rows.{peer_layout}
@@ -13,13 +13,13 @@ use Rattle.peer_table.proofs.room.make_room.Goals as goal
 pub returns-then-count-limit : goal.returns-then-count-limit
 unfolding make_room
 returns-then-count-limit c = let a = c.args in
-    made_free peer_faithful a.table.now a.count (λ i. (c.slice_known-1.given i).fits) (omega (arith, c.requires)) (limit a.config) (unspent a.now_ms) evict (omega arith)
+    made_free peer_faithful a.table.now a.count (λ k. search rules) (omega (arith, c.requires)) (limit a.config) (unspent a.now_ms) evict (omega arith)
 
 pub returns-then-left-limit : goal.returns-then-left-limit
 unfolding make_room
 returns-then-left-limit c =
     let a = c.args in
-    made_pruned peer_faithful a.table.now a.count (λ i. (c.slice_known-1.given i).fits) (omega (arith, c.requires))
+    made_pruned peer_faithful a.table.now a.count (λ k. search rules) (omega (arith, c.requires))
     (limit a.config) (unspent a.now_ms) evict (omega arith) _ c.remove_spent-left.result c.remove_spent-left.ensures (omega arith)
 
 pub evict-requires : goal.evict-requires
@@ -31,5 +31,5 @@ pub returns : goal.returns
 unfolding make_room
 returns c =
     let a = c.args in
-    made_evicted peer_faithful a.table.now a.count (λ i. (c.slice_known-1.given i).fits) (omega (arith, c.requires))
+    made_evicted peer_faithful a.table.now a.count (λ k. search rules) (omega (arith, c.requires))
     (limit a.config) (unspent a.now_ms) evict (omega arith) _ c.remove_spent-left.result c.remove_spent-left.ensures (omega arith) _ c.evict.result c.evict.ensures

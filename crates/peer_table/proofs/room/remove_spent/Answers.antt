@@ -1,5 +1,5 @@
 -- `peer_table::room::remove_spent` meets its contract: the rows gathered, and zeros behind them (`plain_removed`). Assumes nothing.
-use Rattle.std.proofs.Common.{arith}
+use Rattle.std.proofs.Common.{arith, rules}
 use Rattle.table.specs.Memory.{rows}
 use Rattle.table.specs.MemoryLaws.{length_rows}
 use Rattle.peer_rows.specs.Rows.{peer_layout}
@@ -20,7 +20,7 @@ zero_rows-requires c = let a = c.args in
 pub returns : goal.returns
 returns c =
     let a = c.args in (
-      plain_removed peer_faithful (unspent a.now_ms) a.table.now a.count (λ i. (c.slice_known-1.given i).fits) (omega (arith, c.requires))
+      plain_removed peer_faithful (unspent a.now_ms) a.table.now a.count (λ k. search rules) (omega (arith, c.requires))
           _ _ c.gather_unspent-kept.result c.gather_unspent-kept.ensures.0 c.gather_unspent-kept.ensures.1 c.zero_rows.ensures,
       c.gather_unspent-kept.ensures.1,
     )
