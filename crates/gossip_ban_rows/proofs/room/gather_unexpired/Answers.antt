@@ -18,7 +18,7 @@ pub loop-i-preserved : goal.loop-i-preserved
 loop-i-preserved c = let a = c.args in
     let turn = c.loop-i in
     let step = c.keep_unexpired-kept in
-    (omega arith, (plain_step ban_faithful (unexpired a.duration_ms a.now_ms) a.table.now a.count (λ i. (c.slice_known-1.given i).fits) (omega (arith, c.requires)) (omega arith) turn.invariant.1.0 _ step.result step.ensures.0 step.ensures.1, step.auto.0 ∙ turn.invariant.1.1))
+    (omega arith, (plain_step ban_faithful (unexpired a.duration_ms a.now_ms) a.table.now a.count (λ i. (c.slice_known-1.given i).fits) (omega (arith, c.requires)) (omega arith) turn.invariant.1.0 _ step.result step.ensures.0 step.ensures.1, step.auto.table ∙ turn.invariant.1.1))
 
 pub shape_of-table : goal.shape_of-table
 shape_of-table c = c.loop-i.invariant.1.1

@@ -6,7 +6,10 @@ use Rattle.gossip_bans.proofs.carry.drop_known.Goals as goal
 
 pub remove_at-requires : goal.remove_at-requires
 remove_at-requires c = let a = c.args in
-    (known_inside a.t a.table.now a.peer.bytes a.index c.requires, rows_fit a.t a.table.now c.requires.is_sound)
+    record {
+      index_lt_count = known_inside a.t a.table.now a.peer.bytes a.index c.requires;
+      count_in_bounds = rows_fit a.t a.table.now c.requires.is_sound;
+    }
 
 pub overflow_sub-t : goal.overflow_sub-t
 overflow_sub-t c = let a = c.args in

@@ -5,7 +5,10 @@ use Rattle.gossip_bans.proofs.carry.store_known.Goals as goal
 
 pub overwrite_at-requires : goal.overwrite_at-requires
 overwrite_at-requires c = let a = c.args in
-    (known_inside a.t a.table.now a.peer.bytes a.index c.requires, rows_fit a.t a.table.now c.requires.is_sound)
+    record {
+      index_lt_count = known_inside a.t a.table.now a.peer.bytes a.index c.requires;
+      count_in_bounds = rows_fit a.t a.table.now c.requires.is_sound;
+    }
 
 pub returns : goal.returns
 returns c = let a = c.args in

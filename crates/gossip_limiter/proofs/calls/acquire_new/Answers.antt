@@ -12,7 +12,10 @@ returns-then-is_disabled c = let a = c.args in
 
 pub make_room-left-requires : goal.make_room-left-requires
 make_room-left-requires c = let a = c.args in
-    (rows_inside a.l a.table.now c.requires.is_sound, rules_kept limiter_layout (limiter_sound a.l.config) (limiter_record_sound a.l) (limit_of a.l.max_entries) a.table.now a.l.rows c.requires.is_sound)
+    record {
+      count_in_bounds = rows_inside a.l a.table.now c.requires.is_sound;
+      count_value = rules_kept limiter_layout (limiter_sound a.l.config) (limiter_record_sound a.l) (limit_of a.l.max_entries) a.table.now a.l.rows c.requires.is_sound;
+    }
 
 pub returns-then-limit-left : goal.returns-then-limit-left
 returns-then-limit-left c =
@@ -25,7 +28,7 @@ ask-asked-requires c = rw c.new-bucket.ensures (omega arith)
 pub store-rows-requires : goal.store-rows-requires
 store-rows-requires c =
     let a = c.args in
-    omega (arith, limit_inside a.l a.table.now c.requires.is_sound, c.if-limit-left.false, c.limit_of-limit.ensures, c.make_room-left.auto.0)
+    omega (arith, limit_inside a.l a.table.now c.requires.is_sound, c.if-limit-left.false, c.limit_of-limit.ensures, c.make_room-left.auto.table)
 
 pub returns : goal.returns
 returns c =

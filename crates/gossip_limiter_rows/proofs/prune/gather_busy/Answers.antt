@@ -17,13 +17,17 @@ loop-i-init c = let a = c.args in
 pub keep_busy-kept-requires : goal.keep_busy-kept-requires
 keep_busy-kept-requires c = let a = c.args in
     let so = c.loop-i.invariant.1.0 in
-    (kept_most so, (omega (arith, c.loop-i.invariant.1.1, c.requires.count_in_bounds), kept_rule limiter_faithful (not_full a.config) (refilled a.config a.now_ms) a.table.now a.count (refilled_fit a.config a.now_ms a.table.now a.count (omega (arith, c.well_formed)) (omega (arith, c.well_formed)) (λ i. (c.slice_known-1.given i).fits) (omega (arith, c.requires))) (omega arith) so (limiter_sound a.config) c.requires.count_value))
+    record {
+      to_le_from = kept_most so;
+      from_in_bounds = omega (arith, c.loop-i.invariant.1.1, c.requires.count_in_bounds);
+      from_value = kept_rule limiter_faithful (not_full a.config) (refilled a.config a.now_ms) a.table.now a.count (refilled_fit a.config a.now_ms a.table.now a.count (omega (arith, c.well_formed)) (omega (arith, c.well_formed)) (λ i. (c.slice_known-1.given i).fits) (omega (arith, c.requires))) (omega arith) so (limiter_sound a.config) c.requires.count_value;
+    }
 
 pub loop-i-preserved : goal.loop-i-preserved
 loop-i-preserved c = let a = c.args in
     let turn = c.loop-i in
     let step = c.keep_busy-kept in
-    (omega arith, (keep_step limiter_faithful (not_full a.config) (refilled a.config a.now_ms) a.table.now a.count (refilled_fit a.config a.now_ms a.table.now a.count (omega (arith, c.well_formed)) (omega (arith, c.well_formed)) (λ i. (c.slice_known-1.given i).fits) (omega (arith, c.requires))) (omega arith) turn.invariant.1.0 _ step.result step.ensures.0 step.ensures.1, step.auto.0 ∙ turn.invariant.1.1))
+    (omega arith, (keep_step limiter_faithful (not_full a.config) (refilled a.config a.now_ms) a.table.now a.count (refilled_fit a.config a.now_ms a.table.now a.count (omega (arith, c.well_formed)) (omega (arith, c.well_formed)) (λ i. (c.slice_known-1.given i).fits) (omega (arith, c.requires))) (omega arith) turn.invariant.1.0 _ step.result step.ensures.0 step.ensures.1, step.auto.table ∙ turn.invariant.1.1))
 
 pub shape_of-table : goal.shape_of-table
 shape_of-table c = c.loop-i.invariant.1.1

@@ -10,10 +10,6 @@ pub returns-then-is_unsound : goal.returns-then-is_unsound
 returns-then-is_unsound c = let a = c.args in
     bypass_unsound a.o a.table.now a.peer a.bytes a.now_ms (found_unsound a.o a.table.now a.peer.bytes c.sought-found.result c.sought-found.ensures (sym c.is_unsound.ensures ∙ c.if-is_unsound.true))
 
-outbound_message_exceeds_single_message_capacity_requires :
-    tie.Need-outbound-message-exceeds-single-message-capacity-requires
-outbound_message_exceeds_single_message_capacity_requires c κs = search rules
-
 pub returns-then-not-outbound_message_exceeds_single_message_capacity : goal.returns-then-not-outbound_message_exceeds_single_message_capacity
 returns-then-not-outbound_message_exceeds_single_message_capacity c = let a = c.args in
     let p = found_placed a.o a.table.now a.peer.bytes c.sought-found.result c.sought-found.ensures (sym c.is_unsound.ensures ∙ c.if-is_unsound.false) in
