@@ -5,7 +5,6 @@ use Rattle.gossip_settings.specs.declared.ban.GossipBanConfig.{GossipBanConfig}
 use Rattle.gossip_settings.specs.declared.channel_update.ChannelUpdateRateLimitConfig.{ChannelUpdateRateLimitConfig}
 use Rattle.gossip_settings.specs.declared.policy.GossipPolicyConfig.{GossipPolicyConfig}
 use Rattle.gossip_settings.specs.declared.violation.GossipViolation.{GossipViolation}
-use Rattle.gossip_settings.specs.declared.violation.GossipViolation.TheVariants as GossipViolation
 
 -- GossipBanConfig::default
 abbrev pub ban_default : GossipBanConfig

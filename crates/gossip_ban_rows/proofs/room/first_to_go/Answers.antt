@@ -1,5 +1,5 @@
 -- `gossip_ban_rows::room::first_to_go` meets its contract.
-use Rattle.std.proofs.Common.{Bool, true, false, cond, ℕ, ◌≡◌, ◌-◌, ◌<◌, arith, ltb}
+use Rattle.std.proofs.Common.{Bool, true, false, cond, ℕ, ◌≡◌, ◌<◌, arith, ltb}
 use Rattle.table.specs.Table.{Row}
 use Rattle.table_laws.specs.MinimumRowsLaws.{measured_at, search_begins, search_goes_on, search_ends}
 use Rattle.gossip_ban_rows.specs.declared.entry.GossipBanEntry.{GossipBanEntry}

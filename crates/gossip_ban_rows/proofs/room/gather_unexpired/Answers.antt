@@ -1,5 +1,5 @@
 -- `gossip_ban_rows::room::gather_unexpired` meets its contract.
-use Rattle.std.proofs.Common.{refl, ◌∙◌, ◌-◌, arith}
+use Rattle.std.proofs.Common.{refl, ◌∙◌, arith}
 use Rattle.table.specs.Memory.{rows}
 use Rattle.table_laws.specs.KeepLaws.{kept_begins, kept_most, plain_step, plain_ends}
 use Rattle.gossip_ban_rows.specs.Rows.{ban_layout}
