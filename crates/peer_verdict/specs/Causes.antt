@@ -3,11 +3,8 @@ use Rattle.std.specs.Prelude.{[], ◌∷◌}
 use Rattle.std.proofs.Math.Option.{Option, none, some}
 use Rattle.refusal.specs.Refusal.{Said, gives, refused}
 use Rattle.peer_verdict.specs.declared.verdict.Shortage.{Shortage}
-use Rattle.peer_verdict.specs.declared.verdict.Shortage.TheVariants as Shortage
 use Rattle.peer_verdict.specs.declared.verdict.Cause.{Cause}
-use Rattle.peer_verdict.specs.declared.verdict.Cause.TheVariants as Cause
 use Rattle.peer_verdict.specs.declared.verdict.InvalidCause.{InvalidCause}
-use Rattle.peer_verdict.specs.declared.verdict.InvalidCause.TheVariants as InvalidCause
 
 -- of a message: the Rust's answer (0 Allow, 1 Disconnect, 2 Ban), the cause (0 to 6), and by how much its limit ran short: one message,
 -- bytes, one slot, bytes under the ceiling; 0 where none did
