@@ -5,7 +5,6 @@ use Rattle.table.specs.Memory.{word_bytes, word_of}
 use Rattle.peer_state.specs.declared.ingress.FiberIngressBudget.{FiberIngressBudget}
 use Rattle.peer_state.specs.Ingress.{in_flight}
 use Rattle.snapshot_settings.specs.declared.load.ReadLoad.{ReadLoad}
-use Rattle.snapshot_settings.specs.declared.load.ReadLoad.TheVariants as ReadLoad
 use Rattle.snapshot_settings.specs.Settings.{narrow}
 
 -- the size of the load, in bytes

@@ -8,7 +8,6 @@ use Rattle.table.specs.MemoryLaws.{length_word_bytes, Bytes_word_bytes, word_of_
 use Rattle.peer_state.specs.declared.ingress.FiberIngressBudget.{FiberIngressBudget}
 use Rattle.peer_state.specs.Ingress.{in_flight}
 use Rattle.snapshot_settings.specs.declared.load.ReadLoad.{ReadLoad}
-use Rattle.snapshot_settings.specs.declared.load.ReadLoad.TheVariants as ReadLoad
 use Rattle.snapshot_settings.specs.Settings.{narrow}
 use Rattle.snapshot_settings.specs.Load.{load_size, load_words, load_bytes, load_from, load_of}
 use Rattle.table_laws.specs.WordsLaws.{each_fits}

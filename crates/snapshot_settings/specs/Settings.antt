@@ -4,7 +4,6 @@ use Rattle.std.specs.Prelude.{Bool, ◌&&◌, cond, List, [], ◌∷◌, ℕ, le
 use Rattle.table.specs.Memory.{word_bytes, word_of}
 use Rattle.peer_settings.specs.declared.config.PeerMessagePolicyConfig.{PeerMessagePolicyConfig}
 use Rattle.snapshot_settings.specs.declared.settings.ReadSettings.{ReadSettings}
-use Rattle.snapshot_settings.specs.declared.settings.ReadSettings.TheVariants as ReadSettings
 
 -- the size of the settings, in bytes
 abbrev pub settings_size : ℕ

@@ -8,7 +8,6 @@ use Rattle.table.specs.MemoryLaws.{Words, length_word_bytes, Bytes_word_bytes, w
 use Rattle.peer_settings.specs.declared.config.PeerMessagePolicyConfig.{PeerMessagePolicyConfig}
 use Rattle.peer_settings.specs.Fits.{ConfigFits}
 use Rattle.snapshot_settings.specs.declared.settings.ReadSettings.{ReadSettings}
-use Rattle.snapshot_settings.specs.declared.settings.ReadSettings.TheVariants as ReadSettings
 use Rattle.snapshot_settings.specs.Settings.{settings_size, narrow, settings_words, settings_bytes, config_of, settings_narrow, settings_from, settings_of}
 use Rattle.table_laws.specs.WordsLaws.{each_fits}
 use Rattle.snapshot_settings.specs.WordLaws.{word_at, word_place}
