@@ -1,9 +1,7 @@
 -- Laws of the byte bucket: at most one outcome for each call, a sound bucket is never refused, and a refusal leaves the bucket.
 -- Assumes nothing.
-use Rattle.std.specs.Prelude.{◌≡◌, Bool, true, ℕ, pos}
+use Rattle.std.specs.Prelude.{◌≡◌, Bool, true, ℕ, min}
 use Rattle.std.proofs.Common.{arith}
-use Rattle.std.specs.Int.Signed.{lt_z}
-use Rattle.amount.specs.Amount.{value}
 use Rattle.refusal.specs.OneOutcomeLaws.{one_outcome}
 use Rattle.bucket_terms.specs.declared.answer.Refilled.{Refilled}
 use Rattle.bucket_terms.specs.declared.answer.Consumed.{Consumed}
@@ -18,7 +16,7 @@ use Rattle.bucket_bytes.specs.declared.bytes.ByteTokenBucket.{ByteTokenBucket}
 use Rattle.bucket_bytes.specs.declared.bytes.ByteRefilled.{ByteRefilled}
 use Rattle.bucket_bytes.specs.declared.bytes.ByteConsumed.{ByteConsumed}
 use Rattle.bucket_bytes.specs.declared.bytes.ByteReserved.{ByteReserved}
-use Rattle.bucket_bytes.specs.ByteBucket.{byte_sound, byte_new, byte_refill, byte_take, byte_try_consume, byte_reserve, byte_peek_delay_after_refill, byte_refund, byte_has_debt}
+use Rattle.bucket_bytes.specs.ByteBucket.{byte_sound, byte_new, byte_refill, byte_deficit, byte_taken, byte_take, byte_try_consume, byte_reserve, byte_peek_delay_after_refill, byte_refund, byte_has_debt}
 use Rattle.bucket_bytes.specs.ByteBucket.{ByteRefillMeets, ByteTryConsumeMeets, ByteReserveMeets, BytePeekDelayMeets, ByteRefundMeets, ByteHasDebtMeets}
 
 -- ════ At most one outcome ════
@@ -99,7 +97,9 @@ byte_refund_refused b bytes now e k =
 take_refuses_none : (b : ByteTokenBucket) (bytes : ℕ) {n : ℕ} → (byte_take b bytes).answer ≡ Consumed.Refused n → ⊥
 unfolding byte_take
 take_refuses_none b bytes =
-    neither_refuses (λ (t : ByteConsumed). t.answer) (lt_z (value b.available_bytes) (pos bytes)) _ _
+    neither_refuses (λ (t : ByteConsumed). t.answer) _
+    (record { bucket = b; answer = Consumed.No (min (byte_deficit b bytes) 18446744073709551615) })
+    (record { bucket = byte_taken b bytes; answer = Consumed.Yes })
     (λ e. let z : ◌≡◌ {A = ℕ} 0 1 = cc in omega arith)
     (λ e. let z : ◌≡◌ {A = ℕ} 0 1 = cc in omega arith)
 

@@ -14,6 +14,7 @@ use Rattle.amount.specs.AmountOfLaws.{magnitude, amount_of_is}
 use Rattle.bucket_terms.specs.declared.limit.ByteRateLimitConfig.{ByteRateLimitConfig}
 use Rattle.bucket_terms.specs.Limit.{byte_disabled}
 use Rattle.bucket_bytes.specs.declared.bytes.ByteTokenBucket.{ByteTokenBucket}
+use Rattle.bucket_bytes.specs.declared.bytes.ByteConsumed.{ByteConsumed}
 use Rattle.bucket_bytes.specs.ByteBucket.{ms_per_sec, byte_sound, byte_level, byte_new, byte_refill, byte_taken, byte_take, byte_try_consume, byte_reserve, byte_given_back, byte_refund}
 
 by_cases : {B : Type 0} (t : Bool) → (t ≡ true → B) → (t ≡ false → B) → B
@@ -106,6 +107,11 @@ left_left (as_it_was e) (level z last f s) = level z last (f ∙ ap (λ (x : Byt
 left_left (level z last e s) (as_it_was f) = level z last (f ∙ e) (rw f s)
 left_left (level y first e s) (level z last f t) = level z last (f ∙ ap (λ (x : ByteTokenBucket). byte_level x.config z last) e) t
 
+-- one of two, whichever it is
+either_left : {b : ByteTokenBucket} (t : Bool) (x y : ByteConsumed) → Left b x.bucket → Left b y.bucket → Left b (cond t x y).bucket
+either_left true x y h k = h
+either_left false x y h k = k
+
 -- ════ The operations ════
 
 -- a fresh bucket is sound
@@ -146,8 +152,7 @@ module _ (b : ByteTokenBucket) (sound : byte_sound b ≡ true) where
 
   take_left : (bytes : ℕ) → Left b (byte_take b bytes).bucket
   unfolding byte_take
-  take_left bytes =
-      by_cases (lt_z (value b.available_bytes) (pos bytes)) (λ t. as_it_was (rw t)) (λ t. rw t (taken_left bytes))
+  take_left bytes = either_left _ _ _ (as_it_was refl) (taken_left bytes)
 
 module _ (b : ByteTokenBucket) (fits : b.config.burst_bytes < 2 ^ 64) (sound : byte_sound b ≡ true) where
   refilled_sound : (now : ℕ) → byte_sound (byte_refill b now) ≡ true

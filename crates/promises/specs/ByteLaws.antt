@@ -12,7 +12,8 @@ use Rattle.bucket_terms.specs.declared.answer.Consumed.TheVariants as Consumed
 use Rattle.bucket_terms.specs.Limit.{byte_disabled}
 use Rattle.bucket_bytes.specs.ByteBucket.{byte_try_consume}
 use Rattle.bucket_bytes.specs.Natural.{refilled_to, refilled_at, natural_take}
-use Rattle.bucket_bytes.specs.NaturalLaws.{value_of, try_consume_natural}
+use Rattle.bucket_bytes.specs.NaturalLaws.{value_of}
+use Rattle.bucket_bytes.proofs.NaturalLaws.{try_consume_natural}
 use Rattle.peer_settings.specs.declared.config.PeerMessagePolicyConfig.{PeerMessagePolicyConfig}
 use Rattle.peer_state.specs.declared.entry.Level.{Level}
 use Rattle.peer_settings.specs.Config.{bytes_of}
