@@ -22,11 +22,8 @@ use Rattle.peer_verdict.specs.Verdict.{decision, invalid_decision, refuses}
 use Rattle.peer_rows.specs.Rows.{Peers}
 use Rattle.peer_message_policy.specs.declared.policy.PeerMessagePolicy.{PeerMessagePolicy}
 use Rattle.peer_message_policy.specs.declared.answer.Standing.{Standing}
-use Rattle.peer_message_policy.specs.declared.answer.Standing.TheVariants as Standing
 use Rattle.peer_message_policy.specs.declared.answer.Changed.{Changed}
-use Rattle.peer_message_policy.specs.declared.answer.Changed.TheVariants as Changed
 use Rattle.peer_message_policy.specs.declared.answer.HeldTime.{HeldTime}
-use Rattle.peer_message_policy.specs.declared.answer.HeldTime.TheVariants as HeldTime
 use Rattle.peer_message_policy.specs.Policy.{rows_of, sound, carried_out, update, entry_for_update, admit, record_invalid, is_banned_change, disconnected_change}
 use Rattle.peer_message_policy.specs.Calls.{admission_of, invalid_of, admit_outcome, AdmitMeets, record_invalid_outcome, RecordInvalidMeets}
 use Rattle.peer_message_policy.specs.Calls.{is_banned_outcome, IsBannedMeets, on_disconnected_outcome, OnDisconnectedMeets, HeldTimeMeets}

@@ -11,22 +11,15 @@ use Rattle.peer_state.specs.declared.entry.PeerMessagePolicyEntry.{PeerMessagePo
 use Rattle.peer_state.specs.declared.ingress.FiberIngressBudget.{FiberIngressBudget}
 use Rattle.peer_message_policy.specs.declared.policy.PeerMessagePolicy.{PeerMessagePolicy}
 use Rattle.peer_verdict.specs.declared.verdict.Cause.{Cause}
-use Rattle.peer_verdict.specs.declared.verdict.Cause.TheVariants as Cause
 use Rattle.peer_verdict.specs.declared.verdict.InvalidCause.{InvalidCause}
-use Rattle.peer_verdict.specs.declared.verdict.InvalidCause.TheVariants as InvalidCause
 use Rattle.peer_verdict.specs.Causes.{cause_says, invalid_cause_says}
 use Rattle.peer_message_policy.specs.declared.answer.Made.{Made}
-use Rattle.peer_message_policy.specs.declared.answer.Made.TheVariants as Made
 use Rattle.peer_message_policy.specs.declared.answer.Admission.{Admission}
 use Rattle.peer_message_policy.specs.declared.answer.Invalid.{Invalid}
 use Rattle.peer_message_policy.specs.declared.answer.Standing.{Standing}
-use Rattle.peer_message_policy.specs.declared.answer.Standing.TheVariants as Standing
 use Rattle.peer_message_policy.specs.declared.answer.Changed.{Changed}
-use Rattle.peer_message_policy.specs.declared.answer.Changed.TheVariants as Changed
 use Rattle.peer_message_policy.specs.declared.answer.InFlight.{InFlight}
-use Rattle.peer_message_policy.specs.declared.answer.InFlight.TheVariants as InFlight
 use Rattle.peer_message_policy.specs.declared.answer.HeldTime.{HeldTime}
-use Rattle.peer_message_policy.specs.declared.answer.HeldTime.TheVariants as HeldTime
 use Rattle.peer_settings.specs.Config.{limit}
 use Rattle.peer_state.specs.Ingress.{in_flight, ingress_released}
 use Rattle.peer_rows.specs.Rows.{peer_layout}

@@ -16,5 +16,4 @@ returns-in-2 c = let e : 2 ≡ c.args.n = omega arith in ap phase_of e
 pub returns-in_default : goal.returns-in_default
 returns-in_default c =
     let n = c.args.n in
-    let rest = c.in_default-own.rest in
-    rw (ne_eqb n 0 rest.0.0.1, ne_eqb n 1 rest.0.1, ne_eqb n 2 rest.1)
+    rw (ne_eqb n 0 (λ q. omega arith), ne_eqb n 1 (λ q. omega arith), ne_eqb n 2 (λ q. omega arith))
