@@ -31,7 +31,10 @@ ask-asked-requires c = let a = c.args in
 pub overwrite_at-requires : goal.overwrite_at-requires
 overwrite_at-requires c =
     let a = c.args in
-    (known_inside limiter_layout (limiter_sound a.l.config) (limiter_record_sound a.l) (limit_of a.l.max_entries) a.table.now a.l.rows (limiter_key_bytes a.key) a.index c.requires, rows_inside a.l a.table.now c.requires.is_sound)
+    record {
+      index_lt_count = known_inside limiter_layout (limiter_sound a.l.config) (limiter_record_sound a.l) (limit_of a.l.max_entries) a.table.now a.l.rows (limiter_key_bytes a.key) a.index c.requires;
+      count_in_bounds = rows_inside a.l a.table.now c.requires.is_sound;
+    }
 
 pub returns : goal.returns
 returns c =
