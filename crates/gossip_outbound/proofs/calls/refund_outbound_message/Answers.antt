@@ -38,7 +38,7 @@ pub write_row-rows-requires : goal.write_row-rows-requires
 write_row-rows-requires c =
     let a = c.args in
     let p = found_placed a.o a.table.now a.peer.bytes c.sought-found.result c.sought-found.ensures (sym c.is_unsound.ensures ∙ c.if-is_unsound.false) in
-    (p, sym c.is_full.ensures ∙ c.if-is_full.false)
+    record { placed = p; found_value = sym c.is_full.ensures ∙ c.if-is_full.false }
 
 pub returns : goal.returns
 returns c =

@@ -23,13 +23,13 @@ pub promise_both-both-requires : goal.promise_both-both-requires
 promise_both-both-requires c =
     let a = c.args in
     let p = found_placed a.o a.table.now a.peer.bytes c.sought-found.result c.sought-found.ensures (sym c.is_unsound.ensures ∙ c.if-is_unsound.false) in
-    (placed_global a.o a.table.now a.peer.bytes p, c.peer_bucket-bucket.ensures.is_sound)
+    record { global_value = placed_global a.o a.table.now a.peer.bytes p; peer_value = c.peer_bucket-bucket.ensures.is_sound }
 
 pub write_row-rows-requires : goal.write_row-rows-requires
 write_row-rows-requires c =
     let a = c.args in
     let p = found_placed a.o a.table.now a.peer.bytes c.sought-found.result c.sought-found.ensures (sym c.is_unsound.ensures ∙ c.if-is_unsound.false) in
-    (p, sym c.is_full.ensures ∙ c.if-is_full.false)
+    record { placed = p; found_value = sym c.is_full.ensures ∙ c.if-is_full.false }
 
 pub returns : goal.returns
 returns c =
