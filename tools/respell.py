@@ -30,7 +30,10 @@ def snake(name):
         return TAKEN_OTHERWISE[name]
     for old, new in SPECIAL:
         name = name.replace(old, new)
-    return re.sub(r"(?<=[a-z0-9])[A-Z]", lambda m: "_" + m[0].lower(), name).replace("-", "_").replace("′", "'")
+    before = ""
+    while before != name:  # a word of one letter, as in oneASecond, takes a second turn
+        before, name = name, re.sub(r"(?<=[a-z0-9])[A-Z]", lambda m: "_" + m[0].lower(), name)
+    return name.replace("-", "_").replace("′", "'")
 
 
 def antt_files():
