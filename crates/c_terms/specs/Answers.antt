@@ -1,13 +1,9 @@
 -- The number of each answer and the value that goes with it. Definitions only.
 use Rattle.std.specs.Prelude.{Bool, true, false, cond, ℕ, ltb}
 use Rattle.bucket_terms.specs.declared.answer.Refilled.{Refilled}
-use Rattle.bucket_terms.specs.declared.answer.Refilled.TheVariants as Refilled
 use Rattle.bucket_terms.specs.declared.answer.Consumed.{Consumed}
-use Rattle.bucket_terms.specs.declared.answer.Consumed.TheVariants as Consumed
 use Rattle.bucket_terms.specs.declared.answer.Delay.{Delay}
-use Rattle.bucket_terms.specs.declared.answer.Delay.TheVariants as Delay
 use Rattle.bucket_terms.specs.declared.answer.Told.{Told}
-use Rattle.bucket_terms.specs.declared.answer.Told.TheVariants as Told
 use Rattle.c_terms.specs.declared.reply.Reply.{Reply}
 
 abbrev pub reply : ℕ → ℕ → Reply
