@@ -3,11 +3,8 @@
 use Rattle.std.specs.Prelude.{◌≡◌, refl, ℕ}
 use Rattle.std.proofs.Common.{ap}
 use Rattle.bucket_terms.specs.declared.answer.Refilled.{Refilled}
-use Rattle.bucket_terms.specs.declared.answer.Refilled.TheVariants as Refilled
 use Rattle.bucket_terms.specs.declared.answer.Consumed.{Consumed}
-use Rattle.bucket_terms.specs.declared.answer.Consumed.TheVariants as Consumed
 use Rattle.bucket_terms.specs.declared.answer.Delay.{Delay}
-use Rattle.bucket_terms.specs.declared.answer.Delay.TheVariants as Delay
 use Rattle.bucket_discrete.specs.declared.discrete.DiscreteTokenBucket.{DiscreteTokenBucket}
 use Rattle.bucket_discrete.specs.declared.discrete.DiscreteRefilled.{DiscreteRefilled}
 use Rattle.bucket_discrete.specs.declared.discrete.DiscreteConsumed.{DiscreteConsumed}
