@@ -1,6 +1,5 @@
 -- `amounts::operation_of` meets its contract: number by number. Assumes nothing.
 use Rattle.std.proofs.Common.{◌≡◌, ap, arith}
-use borrow.Author.Tests.{ne_eqb}
 use Rattle.c_buckets.specs.Amounts.{amount_operation}
 use Rattle.c_buckets.proofs.amounts.operation_of.Goals as goal
 
@@ -42,22 +41,3 @@ returns-in-11 c = let e : 11 ≡ c.args.n = omega arith in ap amount_operation e
 
 pub returns-in-12 : goal.returns-in-12
 returns-in-12 c = let e : 12 ≡ c.args.n = omega arith in ap amount_operation e
-
-pub returns-in_default : goal.returns-in_default
-returns-in_default c = let n = c.args.n in
-    let rest = c.in_default-own.rest in
-    rw (
-      ne_eqb n 0 rest.0.0.0.0.0.0.0.0.0.0.0.0.1,
-      ne_eqb n 1 rest.0.0.0.0.0.0.0.0.0.0.0.1,
-      ne_eqb n 2 rest.0.0.0.0.0.0.0.0.0.0.1,
-      ne_eqb n 3 rest.0.0.0.0.0.0.0.0.0.1,
-      ne_eqb n 4 rest.0.0.0.0.0.0.0.0.1,
-      ne_eqb n 5 rest.0.0.0.0.0.0.0.1,
-      ne_eqb n 6 rest.0.0.0.0.0.0.1,
-      ne_eqb n 7 rest.0.0.0.0.0.1,
-      ne_eqb n 8 rest.0.0.0.0.1,
-      ne_eqb n 9 rest.0.0.0.1,
-      ne_eqb n 10 rest.0.0.1,
-      ne_eqb n 11 rest.0.1,
-      ne_eqb n 12 rest.1,
-    )

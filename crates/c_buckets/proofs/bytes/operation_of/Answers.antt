@@ -1,6 +1,5 @@
 -- `bytes::operation_of` meets its contract: number by number. Assumes nothing.
 use Rattle.std.proofs.Common.{◌≡◌, ap, arith}
-use borrow.Author.Tests.{ne_eqb}
 use Rattle.c_buckets.specs.Bytes.{byte_operation}
 use Rattle.c_buckets.proofs.bytes.operation_of.Goals as goal
 
@@ -30,18 +29,3 @@ returns-in-11 c = let e : 11 ≡ c.args.n = omega arith in ap byte_operation e
 
 pub returns-in-12 : goal.returns-in-12
 returns-in-12 c = let e : 12 ≡ c.args.n = omega arith in ap byte_operation e
-
-pub returns-in_default : goal.returns-in_default
-returns-in_default c = let n = c.args.n in
-    let rest = c.in_default-own.rest in
-    rw (
-      ne_eqb n 4 rest.0.0.0.0.0.0.0.0.1,
-      ne_eqb n 5 rest.0.0.0.0.0.0.0.1,
-      ne_eqb n 6 rest.0.0.0.0.0.0.1,
-      ne_eqb n 7 rest.0.0.0.0.0.1,
-      ne_eqb n 8 rest.0.0.0.0.1,
-      ne_eqb n 9 rest.0.0.0.1,
-      ne_eqb n 10 rest.0.0.1,
-      ne_eqb n 11 rest.0.1,
-      ne_eqb n 12 rest.1,
-    )

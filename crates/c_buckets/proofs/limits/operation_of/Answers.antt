@@ -1,6 +1,5 @@
 -- `limits::operation_of` meets its contract: number by number. Assumes nothing.
 use Rattle.std.proofs.Common.{◌≡◌, ap, arith}
-use borrow.Author.Tests.{ne_eqb}
 use Rattle.c_buckets.specs.Limits.{limit_operation}
 use Rattle.c_buckets.proofs.limits.operation_of.Goals as goal
 
@@ -12,12 +11,3 @@ returns-in-1 c = let e : 1 ≡ c.args.n = omega arith in ap limit_operation e
 
 pub returns-in-2 : goal.returns-in-2
 returns-in-2 c = let e : 2 ≡ c.args.n = omega arith in ap limit_operation e
-
-pub returns-in_default : goal.returns-in_default
-returns-in_default c = let n = c.args.n in
-    let rest = c.in_default-own.rest in
-    rw (
-      ne_eqb n 0 rest.0.0.1,
-      ne_eqb n 1 rest.0.1,
-      ne_eqb n 2 rest.1,
-    )

