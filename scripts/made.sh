@@ -3,7 +3,7 @@
 # A result is made of a crate, every crate below it, the kit and the scripts that build it. Beside it stands RESULT.made-of, with the
 # checksum of all that and the result's own. Times play no part.
 
-# The crate's line of crates.txt and those of the crates below it; a library of the kit has none.
+# The crate's line of crates.txt and those of the crates below it, each as `NAME WORDS:NEEDS`; a library of the kit has none.
 lines_below() {
     awk -v name="$1" '
         function visit(n,    list, i, count) {
@@ -11,25 +11,34 @@ lines_below() {
             seen[n] = 1
             count = split(needs[n], list, " ")
             for (i = 1; i <= count; i++) visit(list[i])
-            print n ":" needs[n]
+            print heads[n] ":" needs[n]
         }
         { sub(/#.*/, "") }
-        /:/ { at = index($0, ":"); n = substr($0, 1, at - 1); gsub(/[ \t]/, "", n); needs[n] = substr($0, at + 1) }
+        /:/ {
+            at = index($0, ":"); head = substr($0, 1, at - 1); needed = substr($0, at + 1)
+            count = split(head, words, " ")
+            head = words[1]
+            for (i = 2; i <= count; i++) head = head " " words[i]
+            heads[words[1]] = head; needs[words[1]] = needed
+        }
         END { visit(name) }' crates.txt
 }
 
+# The crate and the crates below it.
+names_below() { lines_below "$1" | sed 's/[ :].*//'; }
+
 # The crates that a crate names.
-needs_of() { lines_below "$1" | sed -n "s/^$1://p"; }
+needs_of() { lines_below "$1" | sed -n "s/^$1\( [^:]*\)\{0,1\}://p"; }
 
 # One checksum of what a crate's results are made of; further files may be named, as the script that builds.
 made_of() {
     lines=$(lines_below "$1")
     [ -n "$lines" ] || { echo "crates.txt lists no crate $1" >&2 && return 1; }
-    folders=$(printf '%s\n' "$lines" | sed 's,^\([^:]*\):.*,crates/\1,')
+    folders=$(names_below "$1" | sed 's,^,crates/,')
     kit=$(rt version) || { echo "rt version fails: is the Rattle kit's command rt on the PATH?" >&2 && return 1; }
     shift
     # shellcheck disable=SC2086
-    sums=$(find -L $folders scripts/made.sh "$@" -type f ! -path '*/must-fail/*' -exec sha256sum {} +) || return 1
+    sums=$(find -L $folders scripts/made.sh "$@" -path 'crates/*/out' ! -path 'crates/*/*/out' -prune -o -type f ! -path '*/must-fail/*' -exec sha256sum {} +) || return 1
     printf '%s\n' "$kit" "$(uname -m)" "$lines" "$(printf '%s\n' "$sums" | LC_ALL=C sort)" | sum_of_input
 }
 

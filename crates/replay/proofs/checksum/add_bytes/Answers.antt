@@ -1,5 +1,5 @@
 -- `checksum::add_bytes` adds every byte. The invariant: the first `i` are added. The measure is what is left. Assumes nothing.
-use Rattle.std.proofs.Common.{refl, ◌∙◌, ap, ◌-◌, arith}
+use Rattle.std.proofs.Common.{refl, ◌∙◌, ap, arith}
 use lib.Seq.{take_all}
 use Rattle.replay.specs.Checksum.{added, all_added}
 use Rattle.replay.specs.ChecksumLaws.{added_next}

@@ -1,5 +1,5 @@
 -- `checksum::fill` fills the memory with made-up bytes. The invariant: the first `i` are filled, and the sum is the seed after them. The
-use Rattle.std.proofs.Common.{◌≡◌, refl, sym, ◌∙◌, ap, ◌+◌, ◌-◌, arith, length, length-set}
+use Rattle.std.proofs.Common.{◌≡◌, refl, sym, ◌∙◌, ap, ◌+◌, arith, length, length-set}
 use lib.Seq.{take_all}
 use Rattle.replay.specs.Checksum.{seed_after, made_up}
 use Rattle.replay.specs.ChecksumLaws.{seed_next, made_up_next}

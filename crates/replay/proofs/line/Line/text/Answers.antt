@@ -1,5 +1,5 @@
 -- `Line::text` adds a text byte by byte. The invariant: the text's first `i` bytes are added. The measure is what is left of it. Assumes nothing.
-use Rattle.std.proofs.Common.{◌∙◌, ap, get_or, List, [], ◌∷◌, ℕ, ◌-◌, arith}
+use Rattle.std.proofs.Common.{◌∙◌, ap, get_or, List, [], ◌∷◌, ℕ, arith}
 use Rattle.std.proofs.Common.{rules}
 use lib.Seq.{take_all}
 use Rattle.replay.specs.LineLaws.{text_step, extended_nil, written_short}
