@@ -35,7 +35,7 @@ made_of() {
     lines=$(lines_below "$1")
     [ -n "$lines" ] || { echo "crates.txt lists no crate $1" >&2 && return 1; }
     folders=$(names_below "$1" | sed 's,^,crates/,')
-    kit=$(rt version) || { echo "rt version fails: is the Rattle kit's command rt on the PATH?" >&2 && return 1; }
+    kit=$(rt version </dev/null) || { echo "rt version fails: is the Rattle kit's command rt on the PATH?" >&2 && return 1; }
     shift
     # shellcheck disable=SC2086
     sums=$(find -L $folders scripts/made.sh "$@" -path 'crates/*/out' ! -path 'crates/*/*/out' -prune -o -type f ! -path '*/must-fail/*' -exec sha256sum {} +) || return 1
