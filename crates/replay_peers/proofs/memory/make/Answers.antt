@@ -7,5 +7,5 @@ use Rattle.replay_peers.proofs.memory.make.Goals as goal
 pub slice_bounds-new-end-2 : goal.slice_bounds-new-end-2
 slice_bounds-new-end-2 c =
     let lent = c.args.r.third in
-    let table = c.fill.new.0 in
+    let table = c.fill.new.memory in
     let h : lent ≤ length table = search rules in sym (length-take-le lent table h)
