@@ -11,14 +11,11 @@ use Rattle.peer_settings.specs.declared.config.PeerMessagePolicyConfig.{PeerMess
 use Rattle.peer_state.specs.declared.ingress.FiberIngressBudget.{FiberIngressBudget}
 use Rattle.peer_message_policy.specs.declared.policy.PeerMessagePolicy.{PeerMessagePolicy}
 use Rattle.peer_message_policy.specs.declared.answer.Made.{Made}
-use Rattle.peer_message_policy.specs.declared.answer.Made.TheVariants as Made
 use Rattle.peer_message_policy.specs.Policy.{policy_sound, rows_sound}
 use Rattle.snapshot_layout.specs.Layout.{slots, laid_out}
 use Rattle.snapshot_layout.specs.LayoutLaws.{length_laid}
 use Rattle.snapshot_settings.specs.declared.settings.ReadSettings.{ReadSettings}
-use Rattle.snapshot_settings.specs.declared.settings.ReadSettings.TheVariants as ReadSettings
 use Rattle.snapshot_settings.specs.declared.load.ReadLoad.{ReadLoad}
-use Rattle.snapshot_settings.specs.declared.load.ReadLoad.TheVariants as ReadLoad
 use Rattle.snapshot_settings.specs.Settings.{settings_size, settings_of}
 use Rattle.snapshot_settings.specs.Load.{load_size, load_of}
 use Rattle.peer_rows.specs.Rows.{row_width}

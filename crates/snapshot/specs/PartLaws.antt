@@ -5,14 +5,11 @@ use mathlib.Core.List.{List}
 use Rattle.std.proofs.Common.{arith}
 use Rattle.refusal.specs.OneOutcomeLaws.{one_outcome}
 use Rattle.snapshot_layout.specs.declared.place.Place.{Place}
-use Rattle.snapshot_layout.specs.declared.place.Place.TheVariants as Place
 use Rattle.snapshot_layout.specs.Layout.{Slot, laid_out, place_of}
 use Rattle.snapshot_layout.specs.LayoutLaws.{length_laid}
 use Rattle.snapshot_layout.specs.PlaceLaws.{place_within}
 use Rattle.snapshot_settings.specs.declared.settings.ReadSettings.{ReadSettings}
-use Rattle.snapshot_settings.specs.declared.settings.ReadSettings.TheVariants as ReadSettings
 use Rattle.snapshot.specs.declared.answer.PartPlace.{PartPlace}
-use Rattle.snapshot.specs.declared.answer.PartPlace.TheVariants as PartPlace
 use Rattle.snapshot.specs.Form.{Form, form_slots, rows_in}
 use Rattle.snapshot.specs.Snapshot.{settings_in, placed, part_of}
 use Rattle.snapshot.specs.Snapshot.{kind_place, part_place}

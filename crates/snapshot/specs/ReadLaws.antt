@@ -14,7 +14,6 @@ use Rattle.peer_rows.specs.Rows.{row_width, peer_layout}
 use Rattle.peer_rows.specs.RowsLaws.{peer_faithful}
 use Rattle.peer_message_policy.specs.declared.policy.PeerMessagePolicy.{PeerMessagePolicy}
 use Rattle.peer_message_policy.specs.declared.answer.Made.{Made}
-use Rattle.peer_message_policy.specs.declared.answer.Made.TheVariants as Made
 use Rattle.peer_message_policy.specs.Policy.{rows_of}
 use Rattle.snapshot.specs.Form.{Form, rows_place}
 use Rattle.snapshot.specs.Snapshot.{policy_in, read_outcome, ReadMeets}

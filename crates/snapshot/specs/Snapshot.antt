@@ -7,22 +7,16 @@ use Rattle.peer_settings.specs.declared.config.PeerMessagePolicyConfig.{PeerMess
 use Rattle.peer_settings.specs.Config.{limit}
 use Rattle.peer_message_policy.specs.declared.policy.PeerMessagePolicy.{PeerMessagePolicy}
 use Rattle.peer_message_policy.specs.declared.answer.Made.{Made}
-use Rattle.peer_message_policy.specs.declared.answer.Made.TheVariants as Made
 use Rattle.peer_message_policy.specs.Policy.{rows_of, policy_sound, long_enough, rows_sound, sound, become}
 use Rattle.peer_message_policy.specs.Calls.{Outcome, Meets, refuse}
 use Rattle.snapshot_layout.specs.declared.place.Place.{Place}
-use Rattle.snapshot_layout.specs.declared.place.Place.TheVariants as Place
 use Rattle.snapshot_layout.specs.Layout.{Part, snapshot_size, snapshot_of, laid_out, place_of}
 use Rattle.snapshot_settings.specs.declared.settings.ReadSettings.{ReadSettings}
-use Rattle.snapshot_settings.specs.declared.settings.ReadSettings.TheVariants as ReadSettings
 use Rattle.snapshot_settings.specs.declared.load.ReadLoad.{ReadLoad}
-use Rattle.snapshot_settings.specs.declared.load.ReadLoad.TheVariants as ReadLoad
 use Rattle.snapshot_settings.specs.Settings.{settings_size, settings_bytes, settings_of}
 use Rattle.snapshot_settings.specs.Load.{load_size, load_bytes, load_of}
 use Rattle.snapshot.specs.declared.answer.Written.{Written}
-use Rattle.snapshot.specs.declared.answer.Written.TheVariants as Written
 use Rattle.snapshot.specs.declared.answer.PartPlace.{PartPlace}
-use Rattle.snapshot.specs.declared.answer.PartPlace.TheVariants as PartPlace
 use Rattle.peer_rows.specs.Rows.{row_width}
 use Rattle.snapshot.specs.Form.{Form, first, parts, form_slots, settings_place, load_place, rows_place, rows_in}
 

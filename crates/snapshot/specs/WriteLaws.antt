@@ -18,7 +18,6 @@ use Rattle.snapshot_settings.specs.SettingsLaws.{length_settings_bytes}
 use Rattle.snapshot_settings.specs.Load.{load_size, load_bytes}
 use Rattle.snapshot_settings.specs.LoadLaws.{length_load_bytes}
 use Rattle.snapshot.specs.declared.answer.Written.{Written}
-use Rattle.snapshot.specs.declared.answer.Written.TheVariants as Written
 use Rattle.peer_rows.specs.Rows.{row_width}
 use Rattle.snapshot.specs.Form.{Form, first, sizes, form_slots, settings_place, load_place, rows_place, FormFits}
 use Rattle.snapshot.specs.FormLaws.{form_count, slots_of_parts}

@@ -1,6 +1,5 @@
 -- `copy::restore` meets its contract. Assumes nothing.
-use Rattle.std.proofs.Common.{◌≡◌, ◌+◌, ◌*◌, ◌≤◌, arith, length}
-use Rattle.std.proofs.Common.{rules}
+use Rattle.std.proofs.Common.{◌≡◌, ◌+◌, ◌*◌, ◌≤◌, arith, length, rules}
 use Rattle.peer_settings.specs.Config.{limit}
 use Rattle.peer_laws.specs.SoundLaws.{record_holds}
 use Rattle.snapshot.specs.Form.{first}

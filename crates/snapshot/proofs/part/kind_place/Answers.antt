@@ -1,6 +1,5 @@
 -- `part::kind_place` meets its contract. Assumes nothing.
-use Rattle.std.proofs.Common.{sym, ap, ◌∙◌}
-use Rattle.std.proofs.Common.{rules}
+use Rattle.std.proofs.Common.{sym, ap, ◌∙◌, rules}
 use Rattle.snapshot_layout.specs.Layout.{place_of}
 use Rattle.snapshot.specs.Form.{first, rows_in}
 use Rattle.snapshot.specs.Snapshot.{placed}

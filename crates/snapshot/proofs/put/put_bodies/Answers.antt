@@ -1,6 +1,5 @@
 -- `put::put_bodies` meets its contract. Assumes nothing.
-use Rattle.std.proofs.Common.{◌≡◌, sym, ap, ◌∙◌, List, ℕ, ◌*◌, arith, length, take}
-use Rattle.std.proofs.Common.{rules}
+use Rattle.std.proofs.Common.{◌≡◌, sym, ap, ◌∙◌, List, ℕ, ◌*◌, arith, length, take, rules}
 use Rattle.lent_bytes.specs.LentBytes.{put}
 use Rattle.snapshot_settings.specs.Load.{load_bytes}
 use Rattle.snapshot.specs.WriteLaws.{rows_length, put_parts}

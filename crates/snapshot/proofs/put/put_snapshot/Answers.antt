@@ -1,6 +1,5 @@
 -- `put::put_snapshot` meets its contract. Assumes nothing.
-use Rattle.std.proofs.Common.{refl, ap, ◌∙◌, List, [], ℕ, arith}
-use Rattle.std.proofs.Common.{rules}
+use Rattle.std.proofs.Common.{refl, ap, ◌∙◌, List, [], ℕ, arith, rules}
 use Rattle.lent_bytes.specs.LentBytes.{put}
 use Rattle.snapshot_layout.specs.Layout.{Slot, contents, bodies}
 use Rattle.snapshot.specs.Form.{first}
