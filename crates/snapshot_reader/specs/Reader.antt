@@ -1,5 +1,5 @@
 -- The rows of a snapshot, walked: the step at a place, and a reader that is advanced from step to step. Definitions only; their laws are
--- in `ReaderLaws` and `WalkLaws`.
+-- in `ReaderLaws` and in `WalkLaws` of proofs/.
 use Rattle.std.specs.Prelude.{◌≡◌, Bool, ◌&&◌, cond, List, [], ◌++◌, ℕ, suc, ◌+◌, ◌-◌, ◌%◌, leb, eqb, length}
 use Rattle.lent_bytes.specs.LentBytes.{part, zeros}
 use Rattle.refusal.specs.Refusal.{Said, gives, refused, wrong_layout}

@@ -16,9 +16,7 @@ use Rattle.peer_rows.specs.Rows.{row_width, peer_layout, row_from}
 use Rattle.peer_rows.specs.RowsLaws.{peer_faithful}
 use Rattle.snapshot_layout.specs.Layout.{place_from, place_of}
 use Rattle.snapshot_settings.specs.declared.settings.ReadSettings.{ReadSettings}
-use Rattle.snapshot_settings.specs.declared.settings.ReadSettings.TheVariants as ReadSettings
 use Rattle.snapshot.specs.declared.answer.PartPlace.{PartPlace}
-use Rattle.snapshot.specs.declared.answer.PartPlace.TheVariants as PartPlace
 use Rattle.snapshot.specs.Form.{first, rows_place, rows_in}
 use Rattle.snapshot.specs.Snapshot.{was_read, settings_in, layout_right, kind_place, part_place}
 use Rattle.snapshot.specs.FormLaws.{first_fits}

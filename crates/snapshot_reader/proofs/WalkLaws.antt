@@ -1,7 +1,6 @@
 -- Laws of walking a snapshot with `advance`, from what `opened` made on: the call behind k others gives the k-th row, so that each row is
 -- given once and in its order; and every call behind the last row says that all were given. Assumes nothing.
-use Rattle.std.specs.Prelude.{◌≡◌, refl, Bool, true, false, List, ℕ, suc, ◌+◌, ◌≤◌, ◌<◌, leb}
-use Rattle.std.proofs.Common.{ap, ◌∙◌, arith, leb-true, leb-false}
+use Rattle.std.proofs.Common.{◌≡◌, refl, Bool, true, false, List, ℕ, suc, ◌+◌, ◌≤◌, ◌<◌, leb, ap, ◌∙◌, arith, leb-true, leb-false}
 use Rattle.snapshot.specs.Form.{first, rows_in}
 use Rattle.snapshot.specs.Snapshot.{layout_right}
 use Rattle.snapshot_reader.specs.declared.row.RowStep.{RowStep}
