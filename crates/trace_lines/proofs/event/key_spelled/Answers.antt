@@ -1,5 +1,5 @@
 -- `trace_lines::event::key_spelled` meets its contract.
-use Rattle.std.proofs.Common.{mul-le-mul_right, ◌≡◌, sym, ap, ◌∙◌, ℕ, ◌-◌, arith, length-set}
+use Rattle.std.proofs.Common.{mul-le-mul_right, ◌≡◌, sym, ap, ◌∙◌, ℕ, arith, length-set}
 use lib.ListN.{length-replicate}
 use Rattle.lent_bytes.specs.LentBytes.{put}
 use Rattle.trace_lines.specs.Lines.{key_size, all_spelled}

@@ -1,6 +1,5 @@
 -- `trace_lines::event::parse_admit` meets its contract: by whether the line ends behind the last field. Assumes nothing.
 use Rattle.std.proofs.Common.{true, false, ◌≡◌, ap, ◌∙◌}
-use borrow.Author.Tests.{not-true, not-false}
 use Rattle.trace_lines.specs.declared.event.KeyField.{KeyField}
 use Rattle.trace_lines.specs.Lines.{key_of, field_of, ends_line, largest64, admit_of}
 use Rattle.trace_lines.specs.LinesLaws.{next_field, ends_told}
@@ -12,7 +11,7 @@ returns-then-not-ends c = let line = c.args.line.now in
     let e : c.key_of-read.result.end ≡ (key_of line).end = ap (λ (k : KeyField). k.end) c.key_of-read.ensures in
     let f : c.field-bytes.result ≡ field_of line (key_of line).end largest64 = next_field line largest64 e c.field-bytes.ensures in
     let g : c.field-now.result ≡ field_of line (field_of line (key_of line).end largest64) largest64 = next_field line largest64 f c.field-now.ensures in
-    let t : ends_line line (field_of line (field_of line (key_of line).end largest64) largest64) ≡ false = ends_told line g c.ends.ensures (not-true c.ends.result c.if-not-ends.true-raw) in
+    let t : ends_line line (field_of line (field_of line (key_of line).end largest64) largest64) ≡ false = ends_told line g c.ends.ensures c.if-not-ends.true in
     c.bad_event.ensures ∙ rw t
 
 pub returns : goal.returns
@@ -22,5 +21,5 @@ returns c =
     let e : c.key_of-read.result.end ≡ (key_of line).end = ap (λ (k : KeyField). k.end) c.key_of-read.ensures in
     let f : c.field-bytes.result ≡ field_of line (key_of line).end largest64 = next_field line largest64 e c.field-bytes.ensures in
     let g : c.field-now.result ≡ field_of line (field_of line (key_of line).end largest64) largest64 = next_field line largest64 f c.field-now.ensures in
-    let t : ends_line line (field_of line (field_of line (key_of line).end largest64) largest64) ≡ true = ends_told line g c.ends.ensures (not-false c.ends.result c.if-not-ends.false-raw) in
+    let t : ends_line line (field_of line (field_of line (key_of line).end largest64) largest64) ≡ true = ends_told line g c.ends.ensures c.if-not-ends.false in
     rw (c.value.ensures, c.value-2.ensures, f, g, c.key_of-read.ensures, t)

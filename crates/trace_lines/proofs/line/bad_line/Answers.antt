@@ -1,8 +1,6 @@
 -- `trace_lines::line::bad_line` meets its contract: words, a number and a newline, each behind what stands there. Assumes nothing.
 use Rattle.std.proofs.Common.{ap, ◌∙◌, List, [], ◌∷◌, ◌++◌, append_assoc, ℕ, ◌≤◌, arith, length, length-append}
-use Rattle.lent_bytes.specs.LentBytes.{zeros}
 use Rattle.decimal.specs.Ascii.{ascii, newline}
-use Rattle.text_pieces.specs.Private.{Wrote}
 use Rattle.text_pieces.specs.TextLaws.{few_digits, room_over, more_over}
 use Rattle.trace_lines.specs.Lines.{number_text, bad_line_text, line_size, line_of}
 use Rattle.trace_lines.proofs.Written.{line_ends}
@@ -11,15 +9,7 @@ use Rattle.trace_lines.proofs.line.bad_line.Goals as goal
 abbrev words : List ℕ
 words = ascii "bad line"
 
-abbrev begin : goal.After-out-4-1 → goal.Start
-begin c = c.before.before.before.before.before.before.before
-
--- the words and the number stand at the front
-text-written : (c : goal.After-out-4-1)
-    → Wrote (zeros line_size) 0 (words ++ number_text (begin c).args.number) c.put_number-after_number.result c.put_number-after_number.new.0
-text-written c = more_over line_size c.put_text-after_words.ensures c.put_number-after_number.ensures
-
--- and leave room for a newline
+-- they leave room for a newline
 text_fits : (n : ℕ) → length (words ++ number_text n) ≤ 29
 text_fits n = omega (arith, length-append words (number_text n), few_digits n)
 
@@ -28,12 +18,18 @@ put_number-after_number-requires c = let n = c.args.number in
     room_over line_size c.put_text-after_words.ensures (length (number_text n)) (omega (arith, few_digits n))
 
 pub bounds-out-after_number : goal.bounds-out-after_number
-bounds-out-after_number c = omega (arith, (text-written c).behind, text_fits (begin c).args.number)
+bounds-out-after_number c =
+    let w = more_over line_size c.put_text-after_words.ensures c.put_number-after_number.ensures in
+    omega (arith, w.behind, text_fits c.args.number)
 
 pub overflow_add-result : goal.overflow_add-result
-overflow_add-result c = omega (arith, (text-written c).behind, text_fits (begin c).args.number)
+overflow_add-result c =
+    let w = more_over line_size c.put_text-after_words.ensures c.put_number-after_number.ensures in
+    omega (arith, w.behind, text_fits c.args.number)
 
 pub returns : goal.returns
 unfolding bad_line_text
-returns c = let n = (begin c).args.number in
-    line_ends (text-written c) (omega (arith, text_fits n)) ∙ ap line_of (append_assoc words (number_text n) (newline ∷ []))
+returns c =
+    let n = c.args.number in
+    let w = more_over line_size c.put_text-after_words.ensures c.put_number-after_number.ensures in
+    line_ends w (omega (arith, text_fits n)) ∙ ap line_of (append_assoc words (number_text n) (newline ∷ []))

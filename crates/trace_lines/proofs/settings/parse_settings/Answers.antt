@@ -1,6 +1,5 @@
 -- `trace_lines::settings::parse_settings` meets its contract: by whether the line ends behind the ninth field. Assumes nothing.
 use Rattle.std.proofs.Common.{true, false, ◌≡◌, ◌≤◌, arith}
-use borrow.Author.Tests.{not-true, not-false}
 use Rattle.trace_lines.specs.Lines.{ends_line, largest32, largest64, settings_of, interval, burst, rate, burst_bytes, threshold, ban_duration, max_tracked, max_messages, max_bytes}
 use Rattle.trace_lines.specs.LinesLaws.{field_bound, next_field, ends_told}
 use Rattle.trace_lines.proofs.settings.parse_settings.Goals as goal
@@ -18,7 +17,7 @@ returns-then-not-ends c =
     let e6 : c.field-max_tracked.result ≡ max_tracked line = next_field line largest64 e5 c.field-max_tracked.ensures in
     let e7 : c.field-max_messages.result ≡ max_messages line = next_field line largest32 e6 c.field-max_messages.ensures in
     let e8 : c.field-max_bytes.result ≡ max_bytes line = next_field line largest64 e7 c.field-max_bytes.ensures in
-    let t : ends_line line (max_bytes line) ≡ false = ends_told line e8 c.ends.ensures (not-true c.ends.result c.if-not-ends.true-raw) in
+    let t : ends_line line (max_bytes line) ≡ false = ends_told line e8 c.ends.ensures c.if-not-ends.true in
     rw t
 
 pub overflow_cast-result : goal.overflow_cast-result
@@ -52,5 +51,5 @@ returns c =
     let e6 : c.field-max_tracked.result ≡ max_tracked line = next_field line largest64 e5 c.field-max_tracked.ensures in
     let e7 : c.field-max_messages.result ≡ max_messages line = next_field line largest32 e6 c.field-max_messages.ensures in
     let e8 : c.field-max_bytes.result ≡ max_bytes line = next_field line largest64 e7 c.field-max_bytes.ensures in
-    let t : ends_line line (max_bytes line) ≡ true = ends_told line e8 c.ends.ensures (not-false c.ends.result c.if-not-ends.false-raw) in
+    let t : ends_line line (max_bytes line) ≡ true = ends_told line e8 c.ends.ensures c.if-not-ends.false in
     rw (c.value.ensures, c.value-2.ensures, c.value-3.ensures, c.value-4.ensures, c.value-5.ensures, c.value-6.ensures, c.value-7.ensures, c.value-8.ensures, c.value-9.ensures, e0, e1, e2, e3, e4, e5, e6, e7, e8, t)
