@@ -4,9 +4,7 @@ use Rattle.std.specs.Prelude.{◌≡◌, List, [], ◌∷◌, ℕ}
 use Rattle.refusal.specs.Some.{Some}
 use Rattle.pubkey.specs.declared.Pubkey.{Pubkey}
 use Rattle.peer_message_policy.specs.declared.answer.InFlight.{InFlight}
-use Rattle.peer_message_policy.specs.declared.answer.InFlight.TheVariants as InFlight
 use Rattle.peer_message_policy.specs.declared.answer.HeldTime.{HeldTime}
-use Rattle.peer_message_policy.specs.declared.answer.HeldTime.TheVariants as HeldTime
 use Rattle.peer_message_policy.specs.Calls.{NewMeets, AdmitMeets, RecordInvalidMeets, IsBannedMeets, OnDisconnectedMeets, ReleaseIngressMeets, InFlightMeets, HeldTimeMeets}
 use Rattle.peer_message_policy.specs.Merged.{merge}
 use Rattle.c_words.specs.Words.{config_of, policy_of, Leaves}

@@ -3,9 +3,7 @@
 use Rattle.std.specs.Prelude.{◌≡◌, List, ℕ}
 use Rattle.refusal.specs.OneOutcomeLaws.{one_outcome}
 use Rattle.peer_message_policy.specs.declared.answer.InFlight.{InFlight}
-use Rattle.peer_message_policy.specs.declared.answer.InFlight.TheVariants as InFlight
 use Rattle.peer_message_policy.specs.declared.answer.HeldTime.{HeldTime}
-use Rattle.peer_message_policy.specs.declared.answer.HeldTime.TheVariants as HeldTime
 use Rattle.peer_laws.specs.OneOutcomeLaws as Calls
 use Rattle.c_terms.specs.SomeLaws.{some_one, some_alone}
 use Rattle.peer_message_policy.specs.Merged.{merge}

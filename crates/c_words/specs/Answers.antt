@@ -1,16 +1,12 @@
 -- The number of each answer, with the policy that it carries. Definitions only.
 use Rattle.peer_verdict.specs.declared.verdict.InvalidCause.{InvalidCause}
-use Rattle.peer_verdict.specs.declared.verdict.InvalidCause.TheVariants as InvalidCause
 use Rattle.peer_message_policy.specs.declared.policy.PeerMessagePolicy.{PeerMessagePolicy}
 use Rattle.peer_message_policy.specs.declared.answer.Made.{Made}
-use Rattle.peer_message_policy.specs.declared.answer.Made.TheVariants as Made
 use Rattle.peer_message_policy.specs.declared.answer.PeerMessageAdmission.{PeerMessageAdmission}
 use Rattle.peer_message_policy.specs.declared.answer.PeerMessageAdmission.TheVariants as Admission
 use Rattle.peer_message_policy.specs.declared.answer.Invalid.{Invalid}
 use Rattle.peer_message_policy.specs.declared.answer.Standing.{Standing}
-use Rattle.peer_message_policy.specs.declared.answer.Standing.TheVariants as Standing
 use Rattle.peer_message_policy.specs.declared.answer.Changed.{Changed}
-use Rattle.peer_message_policy.specs.declared.answer.Changed.TheVariants as Changed
 use Rattle.c_words.specs.declared.answers.Numbered.{Numbered}
 use Rattle.c_words.specs.declared.answers.Numbered.TheVariants.{Answered, Refused}
 

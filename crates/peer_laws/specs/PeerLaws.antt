@@ -15,10 +15,8 @@ use Rattle.peer_settings.specs.declared.config.PeerMessagePolicyConfig.{PeerMess
 use Rattle.peer_state.specs.declared.entry.PeerMessagePolicyEntry.{PeerMessagePolicyEntry}
 use Rattle.peer_state.specs.declared.ingress.FiberIngressBudget.{FiberIngressBudget}
 use Rattle.peer_verdict.specs.declared.verdict.Cause.{Cause}
-use Rattle.peer_verdict.specs.declared.verdict.Cause.TheVariants as Cause
 use Rattle.peer_verdict.specs.declared.verdict.Decision.{Decision}
 use Rattle.peer_verdict.specs.declared.verdict.InvalidCause.{InvalidCause}
-use Rattle.peer_verdict.specs.declared.verdict.InvalidCause.TheVariants as InvalidCause
 use Rattle.peer_state.specs.Entry.{entry_new, entry_is_banned, entry_is_spent, entry_expire_windows}
 use Rattle.peer_rows.specs.Rows.{Peers}
 use Rattle.peer_table.specs.Room.{make_room}

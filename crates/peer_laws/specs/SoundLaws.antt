@@ -18,7 +18,6 @@ use Rattle.peer_settings.specs.declared.config.PeerMessagePolicyConfig.{PeerMess
 use Rattle.peer_state.specs.declared.entry.PeerMessagePolicyEntry.{PeerMessagePolicyEntry}
 use Rattle.peer_state.specs.declared.ingress.FiberIngressBudget.{FiberIngressBudget}
 use Rattle.peer_verdict.specs.declared.verdict.Cause.{Cause}
-use Rattle.peer_verdict.specs.declared.verdict.Cause.TheVariants as Cause
 use Rattle.peer_verdict.specs.declared.verdict.Decision.{Decision}
 use Rattle.peer_verdict.specs.declared.verdict.InvalidCause.TheVariants as InvalidCause
 use Rattle.peer_settings.specs.Config.{limit}
@@ -33,26 +32,7 @@ use Rattle.peer_rows.specs.RowsLaws.{peer_numbers_lem}
 use Rattle.peer_table.specs.Room.{make_room}
 use Rattle.peer_table.specs.RoomLaws.{sub_make_room, room_for_one, look_make_room_none}
 use Rattle.peer_message_policy.specs.declared.policy.PeerMessagePolicy.{PeerMessagePolicy}
-use Rattle.peer_message_policy.specs.Policy.{
-  rows_of,
-  policy_sound,
-  sound,
-  Change,
-  same,
-  become,
-  Turn,
-  carried_out,
-  Update,
-  banned,
-  update,
-  entry_for_update,
-  turn_of,
-  admit,
-  noted_down,
-  record_invalid,
-  is_banned_change,
-  disconnected_change,
-}
+use Rattle.peer_message_policy.specs.Policy.{rows_of, policy_sound, sound, Change, same, Turn, carried_out, Update, banned, update, entry_for_update, turn_of, admit, noted_down, record_invalid, is_banned_change, disconnected_change}
 use Rattle.peer_message_policy.specs.Calls.{Memory, changed_rows, policy_after}
 use Rattle.peer_message_policy.specs.UpdateLaws.{spent_in_place}
 
