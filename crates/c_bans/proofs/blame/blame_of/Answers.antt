@@ -15,7 +15,7 @@ returns-in-2 c = let e : 2 ≡ c.args.n = omega arith in ap blame_of e
 
 pub returns-in_default : goal.returns-in_default
 returns-in_default c = let n = c.args.n in
-    let rest = c.in_default-own.rest in
+    let rest = c.in_default.in_default-own.rest in
     rw (
       ne_eqb n 0 rest.0.0.1,
       ne_eqb n 1 rest.0.1,

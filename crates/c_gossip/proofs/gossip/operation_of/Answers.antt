@@ -51,7 +51,7 @@ returns-in-15 c = let e : 15 ≡ c.args.n = omega arith in ap gossip_operation e
 
 pub returns-in_default : goal.returns-in_default
 returns-in_default c = let n = c.args.n in
-    let rest = c.in_default-own.rest in
+    let rest = c.in_default.in_default-own.rest in
     rw (
       ne_eqb n 1 rest.0.0.0.0.0.0.0.0.0.0.0.0.0.0.1,
       ne_eqb n 2 rest.0.0.0.0.0.0.0.0.0.0.0.0.0.1,

@@ -18,7 +18,7 @@ returns-in-4 c = let e : 4 ≡ c.args.n = omega arith in ap limiter_operation e
 
 pub returns-in_default : goal.returns-in_default
 returns-in_default c = let n = c.args.n in
-    let rest = c.in_default-own.rest in
+    let rest = c.in_default.in_default-own.rest in
     rw (
       ne_eqb n 1 rest.0.0.0.1,
       ne_eqb n 2 rest.0.0.1,
