@@ -3,7 +3,6 @@ use Rattle.std.specs.Prelude.{◌≡◌, Bool, true, false, cond, List, [], ◌�
 use Rattle.refusal.specs.Refusal.{Said, gives, wrong_layout}
 use Rattle.peer_message_policy.specs.declared.policy.PeerMessagePolicy.{PeerMessagePolicy}
 use Rattle.peer_message_policy.specs.declared.answer.Made.{Made}
-use Rattle.peer_message_policy.specs.declared.answer.Made.TheVariants as Made
 use Rattle.snapshot.specs.Form.{first, rows_place}
 use Rattle.snapshot.specs.Snapshot.{ReadMeets}
 use Rattle.snapshot_reader.specs.declared.row.RowStep.{RowStep}

@@ -10,7 +10,6 @@ use Rattle.peer_state.specs.declared.entry.PeerMessagePolicyEntry.{PeerMessagePo
 use Rattle.peer_rows.specs.Rows.{entry_words, Peers}
 use Rattle.peer_message_policy.specs.declared.policy.PeerMessagePolicy.{PeerMessagePolicy}
 use Rattle.peer_message_policy.specs.declared.answer.Made.{Made}
-use Rattle.peer_message_policy.specs.declared.answer.Made.TheVariants as Made
 use Rattle.peer_message_policy.specs.Policy.{rows_of}
 use Rattle.snapshot.specs.Form.{first, rows_place}
 use Rattle.snapshot.specs.Snapshot.{policy_in}

@@ -19,7 +19,6 @@ use Rattle.peer_rows.specs.Rows.{key_width, row_width, peer_layout, row_from}
 use Rattle.peer_rows.specs.RowsLaws.{peer_faithful}
 use Rattle.peer_message_policy.specs.declared.policy.PeerMessagePolicy.{PeerMessagePolicy}
 use Rattle.peer_message_policy.specs.declared.answer.Made.{Made}
-use Rattle.peer_message_policy.specs.declared.answer.Made.TheVariants as Made
 use Rattle.peer_message_policy.specs.Policy.{rows_of}
 use Rattle.snapshot.specs.Form.{first, rows_place, rows_in}
 use Rattle.snapshot.specs.Snapshot.{was_read, layout_right, policy_in, restored, read_outcome, ReadMeets}
@@ -29,22 +28,7 @@ use Rattle.snapshot_reader.specs.ReaderLaws.{place_of_row, walk_row, walk_done}
 use Rattle.text_pieces.specs.Text.{refusal_text}
 use Rattle.snapshot_text.specs.declared.scan.Scan.{Scan}
 use Rattle.snapshot_text.specs.declared.scan.Handed.{Handed}
-use Rattle.snapshot_text.specs.Shown.{
-  field_text_of,
-  fields_of,
-  field_line,
-  head_text,
-  row_text,
-  row_line,
-  rows_shown,
-  policy_shown,
-  made_shown,
-  longest_snapshot,
-  made_of,
-  shown_lines,
-  shown_text,
-  line_of,
-}
+use Rattle.snapshot_text.specs.Shown.{field_text_of, fields_of, field_line, row_text, row_line, rows_shown, policy_shown, made_shown, longest_snapshot, made_of, shown_lines, shown_text, line_of}
 use Rattle.snapshot_text.specs.Scan.{
   begun,
   OpenBy,

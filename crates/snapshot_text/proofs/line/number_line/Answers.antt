@@ -1,12 +1,7 @@
 -- `snapshot_text::line::number_line` meets its contract. Each arm writes its name and its number. Assumes nothing.
-use Rattle.std.proofs.Common.{◌≡◌, ap, ◌∙◌, ℕ, ◌≤◌, ◌<◌, arith}
-use Rattle.snapshot_text.specs.LineLaws.{above}
+use Rattle.std.proofs.Common.{◌≡◌, ap, ◌∙◌, ℕ, arith}
 use Rattle.snapshot_text.specs.Shown.{fields_of, field_line, line_of}
 use Rattle.snapshot_text.proofs.line.number_line.Goals as goal
-
--- from 11 on and below 12
-last_index : (i : ℕ) → i < 12 → 11 ≤ i → 11 ≡ i
-last_index i h l = omega arith
 
 pub returns-in-0 : goal.returns-in-0
 unfolding fields_of
@@ -77,6 +72,5 @@ returns-in-10 c = let a = c.args in
 pub returns-in_default : goal.returns-in_default
 unfolding fields_of
 returns-in_default c = let a = c.args in
-    let i : ℕ = a.index in
-    let e : 11 ≡ i = last_index i c.requires (above 10 i (above 9 i (above 8 i (above 7 i (above 6 i (above 5 i (above 4 i (above 3 i (above 2 i (above 1 i (above 0 i (omega arith) c.in_default-own.rest.0.0.0.0.0.0.0.0.0.0.1) c.in_default-own.rest.0.0.0.0.0.0.0.0.0.1) c.in_default-own.rest.0.0.0.0.0.0.0.0.1) c.in_default-own.rest.0.0.0.0.0.0.0.1) c.in_default-own.rest.0.0.0.0.0.0.1) c.in_default-own.rest.0.0.0.0.0.1) c.in_default-own.rest.0.0.0.0.1) c.in_default-own.rest.0.0.0.1) c.in_default-own.rest.0.0.1) c.in_default-own.rest.0.1) c.in_default-own.rest.1) in
+    let e : 11 ≡ a.index = omega arith in
     c.field_line-in_default.ensures ∙ ap (λ (n : ℕ). line_of (field_line a.policy n)) e
