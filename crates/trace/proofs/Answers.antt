@@ -15,9 +15,7 @@ use Rattle.peer_message_policy.specs.declared.answer.Made.{Made}
 use Rattle.peer_message_policy.specs.declared.answer.Admission.{Admission}
 use Rattle.peer_message_policy.specs.declared.answer.Invalid.{Invalid}
 use Rattle.peer_message_policy.specs.declared.answer.Standing.{Standing}
-use Rattle.peer_message_policy.specs.declared.answer.Standing.TheVariants as Standing
 use Rattle.peer_message_policy.specs.declared.answer.Changed.{Changed}
-use Rattle.peer_message_policy.specs.declared.answer.Changed.TheVariants as Changed
 use Rattle.peer_message_policy.specs.Policy.{rows_of, policy_sound, sound, same, admit, record_invalid, is_banned, is_banned_change, disconnected_change}
 use Rattle.peer_message_policy.specs.Calls.{Outcome, Meets, refuse, policy_after, admission_turn, invalid_turn, standing_changed, changed_by}
 use Rattle.peer_message_policy.specs.Calls.{admission_of, admit_outcome, AdmitMeets, invalid_of, record_invalid_outcome, RecordInvalidMeets, is_banned_outcome, IsBannedMeets}
@@ -27,7 +25,6 @@ use Rattle.trace_lines.specs.declared.event.EventKind.TheVariants as kind
 use Rattle.trace_lines.specs.declared.settings.Settings.TheVariants as Settings
 use Rattle.trace_lines.specs.Lines.{settings_of}
 use Rattle.trace.specs.declared.settle.Settled.{Settled}
-use Rattle.trace.specs.declared.settle.Settled.TheVariants as Settled
 use Rattle.trace.specs.declared.step.Answer.TheVariants as Answer
 use Rattle.trace.specs.declared.step.Answered.{Answered}
 use Rattle.trace.specs.declared.step.Stepped.{Stepped}

@@ -9,9 +9,7 @@ use Rattle.trace_lines.specs.declared.event.Event.{Event}
 use Rattle.trace_lines.specs.Lines.{event_of}
 use Rattle.trace.specs.declared.newline.LineEnd.TheVariants.{At, Missing}
 use Rattle.trace.specs.declared.settle.Settled.{Settled}
-use Rattle.trace.specs.declared.settle.Settled.TheVariants as Settled
 use Rattle.trace.specs.declared.scan.Phase.{Phase}
-use Rattle.trace.specs.declared.scan.Phase.TheVariants as Phase
 use Rattle.trace.specs.declared.scan.Scan.{Scan}
 use Rattle.trace.specs.declared.scan.Handed.{Handed}
 use Rattle.trace.specs.declared.step.Answer.TheVariants as Answer

@@ -4,7 +4,6 @@ use Rattle.std.proofs.Math.Option.{Option, none, some}
 use Rattle.peer_message_policy.specs.declared.policy.PeerMessagePolicy.{PeerMessagePolicy}
 use Rattle.peer_message_policy.specs.Calls.{Meets}
 use Rattle.trace.specs.declared.newline.LineEnd.{LineEnd}
-use Rattle.trace.specs.declared.newline.LineEnd.TheVariants as LineEnd
 use Rattle.trace.specs.Scan.{first_line}
 use Rattle.trace_lines.specs.declared.event.Event.{Event}
 use Rattle.trace.specs.declared.step.Answered.{Answered}

@@ -6,23 +6,17 @@ use Rattle.refusal.specs.Refusal.{Said, gives, refused}
 use Rattle.peer_settings.specs.Config.{config_default, limit}
 use Rattle.peer_message_policy.specs.declared.policy.PeerMessagePolicy.{PeerMessagePolicy}
 use Rattle.peer_message_policy.specs.declared.answer.Made.{Made}
-use Rattle.peer_message_policy.specs.declared.answer.Made.TheVariants as Made
 use Rattle.peer_message_policy.specs.Calls.{Outcome, Meets, refuse, fresh, new_outcome}
 use Rattle.trace_lines.specs.declared.line.TraceLine.{TraceLine}
 use Rattle.trace_lines.specs.declared.settings.Settings.{Settings}
-use Rattle.trace_lines.specs.declared.settings.Settings.TheVariants as Settings
 use Rattle.trace_lines.specs.declared.event.Event.{Event}
 use Rattle.trace_lines.specs.Lines.{largest64, settings_of, event_of, bad_event, line_of}
 use Rattle.trace.specs.declared.newline.LineEnd.{LineEnd}
-use Rattle.trace.specs.declared.newline.LineEnd.TheVariants as LineEnd
 use Rattle.trace.specs.declared.settle.Settled.{Settled}
-use Rattle.trace.specs.declared.settle.Settled.TheVariants as Settled
 use Rattle.trace.specs.declared.scan.Phase.{Phase}
-use Rattle.trace.specs.declared.scan.Phase.TheVariants as Phase
 use Rattle.trace.specs.declared.scan.Scan.{Scan}
 use Rattle.trace.specs.declared.scan.Handed.{Handed}
 use Rattle.trace.specs.declared.step.Answer.{Answer}
-use Rattle.trace.specs.declared.step.Answer.TheVariants as Answer
 use Rattle.trace.specs.declared.step.Stepped.{Stepped}
 use Rattle.trace.specs.Step.{mapped, spoken, spoken_text, step_outcome}
 

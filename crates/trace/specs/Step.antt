@@ -4,9 +4,7 @@ use Rattle.refusal.specs.Refusal.{Said, gives, refused, unsound}
 use Rattle.table.specs.Table.{look}
 use Rattle.peer_state.specs.Ingress.{ingress_released}
 use Rattle.peer_verdict.specs.declared.verdict.Cause.{Cause}
-use Rattle.peer_verdict.specs.declared.verdict.Cause.TheVariants as Cause
 use Rattle.peer_verdict.specs.declared.verdict.InvalidCause.{InvalidCause}
-use Rattle.peer_verdict.specs.declared.verdict.InvalidCause.TheVariants as InvalidCause
 use Rattle.peer_verdict.specs.Causes.{Limit, limit_of}
 use Rattle.peer_verdict.specs.Causes as limit
 use Rattle.peer_rows.specs.Rows.{Peers}
@@ -14,9 +12,7 @@ use Rattle.peer_message_policy.specs.declared.policy.PeerMessagePolicy.{PeerMess
 use Rattle.peer_message_policy.specs.declared.answer.Admission.{Admission}
 use Rattle.peer_message_policy.specs.declared.answer.Invalid.{Invalid}
 use Rattle.peer_message_policy.specs.declared.answer.Standing.{Standing}
-use Rattle.peer_message_policy.specs.declared.answer.Standing.TheVariants as Standing
 use Rattle.peer_message_policy.specs.declared.answer.Changed.{Changed}
-use Rattle.peer_message_policy.specs.declared.answer.Changed.TheVariants as Changed
 use Rattle.peer_message_policy.specs.Policy.{rows_of, policy_sound, sound, same, admit, record_invalid, is_banned, is_banned_change, disconnected_change}
 use Rattle.peer_message_policy.specs.Calls.{Outcome, Meets, refuse, policy_after, admission_turn, invalid_turn, standing_changed, changed_by}
 use Rattle.trace_lines.specs.declared.event.Event.{Event}
@@ -26,10 +22,8 @@ use Rattle.trace_lines.specs.declared.line.Word.{Word}
 use Rattle.trace_lines.specs.declared.line.Word.TheVariants.{Allow, DisconnectMessages, DisconnectBytes, DisconnectCeiling, Ban, Banned, Noted, Free, Closed, Released}
 use Rattle.trace_lines.specs.Lines.{line_of, answer_text, bad_line_text, refusal_text}
 use Rattle.trace.specs.declared.step.Answer.{Answer}
-use Rattle.trace.specs.declared.step.Answer.TheVariants as Answer
 use Rattle.trace.specs.declared.step.Answered.{Answered}
 use Rattle.trace.specs.declared.step.Spoken.{Spoken}
-use Rattle.trace.specs.declared.step.Spoken.TheVariants as Spoken
 use Rattle.trace.specs.declared.step.Stepped.{Stepped}
 
 -- ════ The calls' answers ════

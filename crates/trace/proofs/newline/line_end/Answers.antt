@@ -1,5 +1,5 @@
 -- `trace::newline::line_end` meets its contract.
-use Rattle.std.proofs.Common.{sym, ◌∙◌, ◌-◌, arith}
+use Rattle.std.proofs.Common.{sym, ◌∙◌, arith}
 use Rattle.trace.specs.ScanLaws.{end_further, end_here, end_missing}
 use Rattle.trace.proofs.newline.line_end.Goals as goal
 
