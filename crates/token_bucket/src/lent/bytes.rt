@@ -6,7 +6,7 @@ use bucket_terms::answer::{Consumed, Delay, Refilled};
 
 // Brings the bucket up to a time.
 pub fn refill(bucket: &mut ByteTokenBucket, now_ms: u64) -> Refilled
-    ensures { ByteRefillMeets bucket.entry.now now_ms (record { bucket = bucket.exit.now; answer = result }) }
+    ensures { ByteRefillMeets bucket.old now_ms (record { bucket = bucket.new; answer = result }) }
 {
     let after = bucket.refill(now_ms);
     *bucket = after.bucket;
@@ -15,7 +15,7 @@ pub fn refill(bucket: &mut ByteTokenBucket, now_ms: u64) -> Refilled
 
 // Takes the bytes if they are there. A no keeps the refill and says how many were missing, at most 2^64 - 1.
 pub fn try_consume(bucket: &mut ByteTokenBucket, bytes: u64, now_ms: u64) -> Consumed
-    ensures { ByteTryConsumeMeets bucket.entry.now bytes now_ms (record { bucket = bucket.exit.now; answer = result }) }
+    ensures { ByteTryConsumeMeets bucket.old bytes now_ms (record { bucket = bucket.new; answer = result }) }
 {
     let after = bucket.try_consume(bytes, now_ms);
     *bucket = after.bucket;
@@ -24,7 +24,7 @@ pub fn try_consume(bucket: &mut ByteTokenBucket, bytes: u64, now_ms: u64) -> Con
 
 // Takes the bytes in any case, into debt where need be, and says how long the sender must wait.
 pub fn reserve(bucket: &mut ByteTokenBucket, bytes: u64, now_ms: u64) -> Delay
-    ensures { ByteReserveMeets bucket.entry.now bytes now_ms (record { bucket = bucket.exit.now; answer = result }) }
+    ensures { ByteReserveMeets bucket.old bytes now_ms (record { bucket = bucket.new; answer = result }) }
 {
     let after = bucket.reserve(bytes, now_ms);
     *bucket = after.bucket;
@@ -33,7 +33,7 @@ pub fn reserve(bucket: &mut ByteTokenBucket, bytes: u64, now_ms: u64) -> Delay
 
 // Gives bytes back that were not sent after all.
 pub fn refund(bucket: &mut ByteTokenBucket, bytes: u64, now_ms: u64) -> Refilled
-    ensures { ByteRefundMeets bucket.entry.now bytes now_ms (record { bucket = bucket.exit.now; answer = result }) }
+    ensures { ByteRefundMeets bucket.old bytes now_ms (record { bucket = bucket.new; answer = result }) }
 {
     let after = bucket.refund(bytes, now_ms);
     *bucket = after.bucket;

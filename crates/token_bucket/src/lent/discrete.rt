@@ -6,7 +6,7 @@ use bucket_terms::answer::{Consumed, Refilled};
 
 // Brings the bucket up to a time.
 pub fn refill(bucket: &mut DiscreteTokenBucket, now_ms: u64) -> Refilled
-    ensures { DiscreteRefillMeets bucket.entry.now now_ms (record { bucket = bucket.exit.now; answer = result }) }
+    ensures { DiscreteRefillMeets bucket.old now_ms (record { bucket = bucket.new; answer = result }) }
 {
     let after = bucket.refill(now_ms);
     *bucket = after.bucket;
@@ -15,7 +15,7 @@ pub fn refill(bucket: &mut DiscreteTokenBucket, now_ms: u64) -> Refilled
 
 // Takes one token if there is one. A no keeps the refill.
 pub fn try_consume(bucket: &mut DiscreteTokenBucket, now_ms: u64) -> Consumed
-    ensures { DiscreteTryConsumeMeets bucket.entry.now now_ms (record { bucket = bucket.exit.now; answer = result }) }
+    ensures { DiscreteTryConsumeMeets bucket.old now_ms (record { bucket = bucket.new; answer = result }) }
 {
     let after = bucket.try_consume(now_ms);
     *bucket = after.bucket;
