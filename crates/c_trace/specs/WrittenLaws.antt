@@ -12,16 +12,12 @@ use Rattle.peer_message_policy.specs.Calls.{refuse}
 use Rattle.trace_lines.specs.declared.line.TraceLine.{TraceLine}
 use Rattle.trace_lines.specs.Lines.{line_size, line_of, event_of, word_text, number_text, answer_text, bad_line_text, refusal_text}
 use Rattle.trace.specs.declared.settle.Settled.{Settled}
-use Rattle.trace.specs.declared.settle.Settled.TheVariants as Settled
 use Rattle.trace.specs.declared.scan.Phase.{Phase}
-use Rattle.trace.specs.declared.scan.Phase.TheVariants as Phase
 use Rattle.trace.specs.declared.scan.Scan.{Scan}
 use Rattle.trace.specs.declared.scan.Handed.{Handed}
 use Rattle.trace.specs.declared.step.Answer.{Answer}
-use Rattle.trace.specs.declared.step.Answer.TheVariants as Answer
 use Rattle.trace.specs.declared.step.Answered.{Answered}
 use Rattle.trace.specs.declared.step.Spoken.{Spoken}
-use Rattle.trace.specs.declared.step.Spoken.TheVariants as Spoken
 use Rattle.trace.specs.Step.{spoken, spoken_text, step_outcome, answered_outcome}
 use Rattle.trace.specs.Scan.{first_line, last, ended, line_outcome, events_outcome, EventsMeets, settled_scan, SettledMeets, SettingsBy, SettingsMeets, NextIn, NextMeets}
 use Rattle.c_trace.specs.Private.{Written}

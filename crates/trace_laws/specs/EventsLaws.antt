@@ -17,7 +17,6 @@ use Rattle.peer_laws.specs.SoundLaws.{RecordHolds, policy_holds, Kept}
 use Rattle.trace_lines.specs.declared.event.Event.{Event}
 use Rattle.trace_lines.specs.Lines.{largest64, event_of, bad_event, line_size, line_of}
 use Rattle.trace.specs.declared.step.Answer.{Answer}
-use Rattle.trace.specs.declared.step.Answer.TheVariants as Answer
 use Rattle.trace.specs.declared.step.Answered.{Answered}
 use Rattle.trace.specs.declared.step.Stepped.{Stepped}
 use Rattle.trace.specs.declared.scan.Scan.{Scan}

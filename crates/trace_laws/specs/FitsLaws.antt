@@ -10,12 +10,9 @@ use Rattle.peer_settings.specs.declared.config.PeerMessagePolicyConfig.{PeerMess
 use Rattle.peer_state.specs.declared.entry.PeerMessagePolicyEntry.{PeerMessagePolicyEntry}
 use Rattle.peer_state.specs.declared.ingress.FiberIngressBudget.{FiberIngressBudget}
 use Rattle.peer_state.specs.declared.ingress.Reservation.{Reservation}
-use Rattle.peer_state.specs.declared.ingress.Reservation.TheVariants as Reservation
 use Rattle.peer_verdict.specs.declared.verdict.Shortage.TheVariants as Shortage
 use Rattle.peer_verdict.specs.declared.verdict.Cause.{Cause}
-use Rattle.peer_verdict.specs.declared.verdict.Cause.TheVariants as Cause
 use Rattle.peer_verdict.specs.declared.verdict.InvalidCause.{InvalidCause}
-use Rattle.peer_verdict.specs.declared.verdict.InvalidCause.TheVariants as InvalidCause
 use Rattle.peer_verdict.specs.declared.verdict.Decision.{Decision}
 use Rattle.peer_settings.specs.Config.{unlimited}
 use Rattle.peer_settings.specs.Fits.{ConfigFits}
@@ -29,7 +26,6 @@ use Rattle.peer_message_policy.specs.Policy.{Change, Update, banned, update, tur
 use Rattle.peer_message_policy.specs.Calls.{policy_after, standing_changed}
 use Rattle.peer_laws.specs.CallLaws.{of_standing}
 use Rattle.trace_lines.specs.declared.settings.Settings.{Settings}
-use Rattle.trace_lines.specs.declared.settings.Settings.TheVariants as Settings
 use Rattle.trace_lines.specs.declared.event.Event.{Event}
 use Rattle.trace_lines.specs.declared.event.EventKind.{EventKind}
 use Rattle.trace_lines.specs.declared.event.EventKind.TheVariants as kind

@@ -4,7 +4,6 @@ use Rattle.std.specs.Prelude.{◌≡◌, true, false, List, [], ◌∷◌, ℕ, 
 use Rattle.lent_bytes.specs.LentBytes.{Bytes}
 use Rattle.peer_message_policy.specs.Policy.{rows_of, sound}
 use Rattle.trace.specs.declared.scan.Phase.{Phase}
-use Rattle.trace.specs.declared.scan.Phase.TheVariants as Phase
 use Rattle.trace.specs.declared.scan.Scan.{Scan}
 use Rattle.trace.specs.declared.scan.Handed.{Handed}
 use Rattle.trace.specs.declared.step.Answer.TheVariants as Answer

@@ -13,19 +13,15 @@ use Rattle.peer_settings.specs.declared.config.PeerMessagePolicyConfig.{PeerMess
 use Rattle.peer_settings.specs.Config.{limit}
 use Rattle.peer_settings.specs.Fits.{ConfigFits}
 use Rattle.peer_message_policy.specs.declared.answer.Made.{Made}
-use Rattle.peer_message_policy.specs.declared.answer.Made.TheVariants as Made
 use Rattle.peer_message_policy.specs.Policy.{rows_of, long_enough, become}
 use Rattle.peer_message_policy.specs.Calls.{Memory, Meets, refuse, fresh, new_outcome, NewMeets}
 use Rattle.peer_laws.specs.CallLaws.{Fresh, new_fresh}
 use Rattle.trace_lines.specs.declared.settings.Settings.{Settings}
-use Rattle.trace_lines.specs.declared.settings.Settings.TheVariants as Settings
 use Rattle.trace_lines.specs.Lines.{settings_of, bad_event}
 use Rattle.trace.specs.declared.settle.Settled.{Settled}
-use Rattle.trace.specs.declared.settle.Settled.TheVariants as Settled
 use Rattle.trace.specs.declared.scan.Scan.{Scan}
 use Rattle.trace.specs.declared.scan.Handed.{Handed}
 use Rattle.trace.specs.declared.step.Answer.{Answer}
-use Rattle.trace.specs.declared.step.Answer.TheVariants as Answer
 use Rattle.trace.specs.Step.{mapped}
 use Rattle.trace.specs.Scan.{
   first_line,

@@ -10,7 +10,6 @@ use Rattle.peer_state.specs.Ingress.{ingress_released}
 use Rattle.peer_state.specs.IngressLaws.{released_sound}
 use Rattle.peer_message_policy.specs.declared.policy.PeerMessagePolicy.{PeerMessagePolicy}
 use Rattle.peer_message_policy.specs.declared.answer.Standing.{Standing}
-use Rattle.peer_message_policy.specs.declared.answer.Standing.TheVariants as Standing
 use Rattle.peer_message_policy.specs.Policy.{rows_of, sound, same, admit, record_invalid, is_banned, is_banned_change, disconnected_change}
 use Rattle.peer_message_policy.specs.Calls.{
   Memory,

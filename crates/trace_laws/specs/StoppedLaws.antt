@@ -6,9 +6,7 @@ use Rattle.std.proofs.Math.Path.{subst}
 use Rattle.truths.specs.TruthLaws.{chosen, true_is_not_false}
 use Rattle.table.specs.Table.{look}
 use Rattle.peer_verdict.specs.declared.verdict.Cause.{Cause}
-use Rattle.peer_verdict.specs.declared.verdict.Cause.TheVariants as Cause
 use Rattle.peer_verdict.specs.declared.verdict.InvalidCause.{InvalidCause}
-use Rattle.peer_verdict.specs.declared.verdict.InvalidCause.TheVariants as InvalidCause
 use Rattle.peer_verdict.specs.Verdict.{refuses}
 use Rattle.peer_rows.specs.Rows.{Peers}
 use Rattle.peer_message_policy.specs.declared.policy.PeerMessagePolicy.{PeerMessagePolicy}

@@ -12,7 +12,6 @@ use Rattle.lent_bytes.specs.LentBytes.{Bytes}
 use Rattle.lent_bytes.specs.LentBytesLaws.{length_zeros, Bytes_zeros}
 use Rattle.trace_lines.specs.Lines.{bad_event}
 use Rattle.trace.specs.declared.scan.Phase.{Phase}
-use Rattle.trace.specs.declared.scan.Phase.TheVariants as Phase
 use Rattle.trace.specs.declared.scan.Scan.{Scan}
 use Rattle.trace.specs.declared.scan.Handed.{Handed}
 use Rattle.trace.specs.declared.step.Answer.TheVariants as Answer
