@@ -35,7 +35,7 @@ use Rattle.promises.specs.Lives.{Allow, allow, kept_log, log_for, log_in, FromEv
 use Rattle.peer_runs.specs.Runs.{admit, State, rows_in, Step, KeyFits, CallFits, Run, made, then}
 use Rattle.promises.specs.RunLives.{latest, Ordered, entry_in, trail, log_of, Entitled}
 use Rattle.promises.specs.Example.{one_a_second, peer, lent, first, second, Example}
-use Rattle.promises.specs.Promises as Promises
+use Rattle.promises.proofs.Promises as Promises
 
 -- ════ What the machine gives ════
 

@@ -16,8 +16,8 @@ use Rattle.peer_message_policy.specs.Calls.{changed_rows}
 use Rattle.promises.specs.Core.{change_in, says_in, after, core_latest, Timely, SizeFits, Sized, trail_of}
 use Rattle.promises.specs.Trails.{CoreCall, admit, Event, seen, seen_if, rows_at, calls_of}
 use Rattle.promises.specs.Lives.{log_for, log_in, last_used, ShieldedIn, AtMost, Within, ceiling_says}
-use Rattle.promises.specs.CoreRowLaws.{refused_leaves, seen_rows, trail_rows}
-use Rattle.promises.specs.CoreLaws as CoreLaws
+use Rattle.promises.proofs.CoreRowLaws.{refused_leaves, seen_rows, trail_rows}
+use Rattle.promises.proofs.CoreLaws as CoreLaws
 
 -- ════ One call more ════
 

@@ -13,9 +13,9 @@ use Rattle.peer_settings.specs.Fits.{ConfigFits}
 use Rattle.peer_state.specs.Entry.{level}
 use Rattle.peer_verdict.specs.Verdict.{passes, messages_left, bytes_left, take_message, take_bytes}
 use Rattle.promises.specs.Lives.{Allow, AtMost, Allowance, Within}
-use Rattle.promises.specs.BucketLaws.{newest, InOrder, within_parts}
-use Rattle.promises.specs.MessageLaws.{FairMessages, message_terms, messages_new, messages_next, messages_enough, messages_most, message_off}
-use Rattle.promises.specs.ByteLaws.{FairBytes, byte_terms, bytes_new, bytes_next, bytes_enough, bytes_most, bytes_off}
+use Rattle.promises.proofs.BucketLaws.{newest, InOrder, within_parts}
+use Rattle.promises.proofs.MessageLaws.{FairMessages, message_terms, messages_new, messages_next, messages_enough, messages_most, message_off}
+use Rattle.promises.proofs.ByteLaws.{FairBytes, byte_terms, bytes_new, bytes_next, bytes_enough, bytes_most, bytes_off}
 
 -- the newest Allow of a log lies at or before this time
 abbrev pub NotAfter : List Allow → ℕ → Type 0

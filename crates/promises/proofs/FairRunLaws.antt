@@ -19,8 +19,8 @@ use Rattle.promises.specs.Lives.{last_used, AtMost, ceiling_says, ceiling_merged
 use Rattle.peer_runs.specs.Runs.{Call, admit, record_invalid, is_banned, on_disconnected, release_ingress, in_flight, held_time, State, rows_in, Step, CallFits, Run, made, then}
 use Rattle.promises.specs.RunLives.{entry_in, core_of, trail, core_calls, log_of, Shielded, time_of, latest_of, latest, not_before, Ordered, Entitled, Shield}
 use Rattle.peer_runs.specs.SoundRunLaws.{run_holds}
-use Rattle.promises.specs.CoreRunLaws.{step_core, runs_core, run_rows}
-use Rattle.promises.specs.MirrorLaws.{SizeFitsIf, seen_sized, trail_most, trail_least, timely_trail, timely_last}
+use Rattle.promises.proofs.CoreRunLaws.{step_core, runs_core, run_rows}
+use Rattle.promises.proofs.MirrorLaws.{SizeFitsIf, seen_sized, trail_most, trail_least, timely_trail, timely_last}
 
 -- ════ Sizes ════
 

@@ -16,7 +16,7 @@ use Rattle.peer_settings.specs.Config.{message_limit_disabled}
 use Rattle.peer_state.specs.Entry.{level}
 use Rattle.peer_verdict.specs.Verdict.{passes, message_bucket, messages_left, take_message}
 use Rattle.promises.specs.Lives.{Allow, Near, allows}
-use Rattle.promises.specs.BucketLaws.{newest, InOrder, charged, Terms, Bounded, bounded_new, bounded_next, NotMore, NotLess, WithinParts, Backed, backed_next, backed_enough}
+use Rattle.promises.proofs.BucketLaws.{newest, InOrder, charged, Terms, Bounded, bounded_new, bounded_next, NotMore, NotLess, WithinParts, Backed, backed_next, backed_enough}
 
 -- ════ What a take gives, where the limit is on ════
 

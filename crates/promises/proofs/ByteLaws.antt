@@ -21,7 +21,7 @@ use Rattle.peer_settings.specs.Fits.{ConfigFits}
 use Rattle.peer_state.specs.Entry.{level}
 use Rattle.peer_verdict.specs.Verdict.{passes, byte_bucket, bytes_left, take_bytes}
 use Rattle.promises.specs.Lives.{Allow, bytes_allowed}
-use Rattle.promises.specs.BucketLaws.{newest, InOrder, charged, Terms, Bounded, bounded_new, bounded_next, NotMore, NotLess, WithinParts, Backed, backed_next, backed_enough}
+use Rattle.promises.proofs.BucketLaws.{newest, InOrder, charged, Terms, Bounded, bounded_new, bounded_next, NotMore, NotLess, WithinParts, Backed, backed_next, backed_enough}
 
 -- ════ What a take gives, where the limit is on ════
 

@@ -21,8 +21,8 @@ use Rattle.peer_runs.specs.Runs.{Call, admit, State, rows_in, Step, Run, made, t
 use Rattle.promises.specs.RunLives.{entry_in, core_of, trail, Shielded, Entitled}
 use Rattle.promises.specs.Held.{Answered, held_own, Held, HeldShield}
 use Rattle.peer_runs.specs.SoundRunLaws.{run_sound}
-use Rattle.promises.specs.CoreRunLaws.{run_rows}
-use Rattle.promises.specs.FairRunLaws.{shielded_most, shielded_least}
+use Rattle.promises.proofs.CoreRunLaws.{run_rows}
+use Rattle.promises.proofs.FairRunLaws.{shielded_most, shielded_least}
 
 -- ════ The held time ════
 

@@ -31,8 +31,8 @@ use Rattle.peer_laws.specs.PeerLaws.{Fate, stayed, gone, expired, Lands, kept, a
 use Rattle.promises.specs.Core.{idle, admits, message_turn, invalid_turn, change_in, says_in, SizeFits}
 use Rattle.promises.specs.Trails.{CoreCall, admit, record_invalid, is_banned, on_disconnected}
 use Rattle.promises.specs.Lives.{Allow, same_key, own_of, OwnTime, log_for, logged, kept_log, log_after, last_used, Within, ceiling_says}
-use Rattle.promises.specs.FairLaws.{NotAfter, Fair, fair_new, fair_allow, fair_least}
-use Rattle.promises.specs.DecisionLaws.{decided, invalid_decision_noted}
+use Rattle.promises.proofs.FairLaws.{NotAfter, Fair, fair_new, fair_allow, fair_least}
+use Rattle.promises.proofs.DecisionLaws.{decided, invalid_decision_noted}
 
 -- ════ The invariant ════
 

@@ -28,8 +28,8 @@ use Rattle.peer_laws.specs.PeerLaws.{Fate, stayed, gone, expired, Own, live, und
 use Rattle.promises.specs.Core.{idle, admits, message_turn, invalid_turn, change_in, says_in, after, core_time, trail_of}
 use Rattle.promises.specs.Trails.{CoreCall, admit, record_invalid, is_banned, on_disconnected, Event, seen, rows_at}
 use Rattle.promises.specs.Lives.{same_key, last_used}
-use Rattle.promises.specs.DecisionLaws.{decided, invalid_decision_noted}
-use Rattle.promises.specs.CoreStepLaws.{gives_is_not_refused, refused_either, same_key_lem, left_in, own_here, own_invalid_here, other_here, other_invalid_here, is_banned_here, disconnected_here}
+use Rattle.promises.proofs.DecisionLaws.{decided, invalid_decision_noted}
+use Rattle.promises.proofs.CoreStepLaws.{gives_is_not_refused, refused_either, same_key_lem, left_in, own_here, own_invalid_here, other_here, other_invalid_here, is_banned_here, disconnected_here}
 
 -- ════ Keys ascend ════
 

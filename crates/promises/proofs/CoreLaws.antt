@@ -22,9 +22,9 @@ use Rattle.peer_message_policy.specs.Calls.{changed_rows}
 use Rattle.promises.specs.Core.{change_in, says_in, after, core_time, core_latest, Timely, SizeFits, Sized, trail_of}
 use Rattle.promises.specs.Trails.{CoreCall, admit, record_invalid, is_banned, on_disconnected, Event, seen, rows_at}
 use Rattle.promises.specs.Lives.{Allow, same_key, own_of, OwnTime, log_for, log_after, log_in, last_used, ShieldedIn, AtMost, Within, ceiling_says}
-use Rattle.promises.specs.FairLaws.{fair_new, fair_most}
-use Rattle.promises.specs.CoreStepLaws.{EntryFair, least_here, left_in, step_fair}
-use Rattle.promises.specs.CoreRowLaws.{after_ascends, refused_leaves, trail_rows, step_used}
+use Rattle.promises.proofs.FairLaws.{fair_new, fair_most}
+use Rattle.promises.proofs.CoreStepLaws.{EntryFair, least_here, left_in, step_fair}
+use Rattle.promises.proofs.CoreRowLaws.{after_ascends, refused_leaves, trail_rows, step_used}
 
 module _ {c : PeerMessagePolicyConfig} (fits : ConfigFits c) (k : Pubkey) where
   -- one call more, on rows that a trail leads to

@@ -34,10 +34,10 @@ use Rattle.promises.specs.Held.{Held, HeldShield}
 use Rattle.promises.specs.Named.{NamedWhere, blames, InTime}
 use Rattle.promises.specs.Samples.{Agree, samples_run}
 use Rattle.peer_runs.specs.SoundRunLaws as SoundRunLaws
-use Rattle.promises.specs.FairRunLaws as FairRunLaws
-use Rattle.promises.specs.HeldRunLaws as HeldRunLaws
-use Rattle.promises.specs.NamedLaws as NamedLaws
-use Rattle.promises.specs.SamplesLaws as SamplesLaws
+use Rattle.promises.proofs.FairRunLaws as FairRunLaws
+use Rattle.promises.proofs.HeldRunLaws as HeldRunLaws
+use Rattle.promises.proofs.NamedLaws as NamedLaws
+use Rattle.promises.proofs.SamplesLaws as SamplesLaws
 
 -- The upper bound: over calls whose times never go back, the Allows of any life from one time to another number at most
 -- burst + (to - from) / interval, rounded up, and carry at most burst + rate * (to - from) / 1000 bytes, rounded down.

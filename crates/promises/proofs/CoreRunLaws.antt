@@ -33,9 +33,9 @@ use Rattle.promises.specs.Trails.{rows_at, calls_of}
 use Rattle.promises.specs.Lives.{log_in}
 use Rattle.peer_runs.specs.Runs.{Call, admit, record_invalid, is_banned, on_disconnected, release_ingress, in_flight, held_time, State, rows_in, Step, KeyFits, CallFits, Run, made, then}
 use Rattle.promises.specs.RunLives.{core_of, trail, core_calls, log_of}
-use Rattle.promises.specs.DecisionLaws.{Alike, decision_alike}
-use Rattle.promises.specs.CoreRowLaws.{trail_rows}
-use Rattle.promises.specs.MirrorLaws.{Mirrors, MirrorsIf, mirrored_rows, mirrored_trail}
+use Rattle.promises.proofs.DecisionLaws.{Alike, decision_alike}
+use Rattle.promises.proofs.CoreRowLaws.{trail_rows}
+use Rattle.promises.proofs.MirrorLaws.{Mirrors, MirrorsIf, mirrored_rows, mirrored_trail}
 use Rattle.peer_runs.specs.SoundRunLaws.{StateHolds, admit_left, record_invalid_left, is_banned_left, on_disconnected_left, release_ingress_left, run_holds}
 
 -- ════ What an answer says ════

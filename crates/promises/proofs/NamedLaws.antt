@@ -34,9 +34,9 @@ use Rattle.peer_runs.specs.Runs.{Call, admit, State, Step, Run}
 use Rattle.promises.specs.Lives.{ceiling_cause, ceiling_says}
 use Rattle.promises.specs.RunLives.{Entitled}
 use Rattle.promises.specs.Named.{judged_on, BucketsPass, NoRoom, NamedWhere, blames, InTime, ordered, shielded}
-use Rattle.promises.specs.DecisionLaws.{decided}
-use Rattle.promises.specs.CoreStepLaws.{gives_is_not_refused}
-use Rattle.promises.specs.FairRunLaws.{ordered_least, shielded_least}
+use Rattle.promises.proofs.DecisionLaws.{decided}
+use Rattle.promises.proofs.CoreStepLaws.{gives_is_not_refused}
+use Rattle.promises.proofs.FairRunLaws.{ordered_least, shielded_least}
 
 -- ════ One decision ════
 
