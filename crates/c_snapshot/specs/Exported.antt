@@ -5,9 +5,7 @@ use Rattle.peer_rows.specs.Rows.{entry_words}
 use Rattle.c_words.specs.Words.{policy_of, Leaves}
 use Rattle.c_words.specs.Answers.{made_numbered}
 use Rattle.snapshot.specs.declared.answer.Written.{Written}
-use Rattle.snapshot.specs.declared.answer.Written.TheVariants as Written
 use Rattle.snapshot.specs.declared.answer.PartPlace.{PartPlace}
-use Rattle.snapshot.specs.declared.answer.PartPlace.TheVariants as PartPlace
 use Rattle.snapshot.specs.Form.{first}
 use Rattle.snapshot.specs.Snapshot.{WriteMeets, ReadMeets, part_place}
 use Rattle.snapshot_reader.specs.declared.row.RowStep.{RowStep}

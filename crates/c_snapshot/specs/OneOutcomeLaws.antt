@@ -7,9 +7,7 @@ use Rattle.c_words.specs.Words.{policy_of}
 use Rattle.c_words.specs.Answers.{made_numbered}
 use Rattle.c_words.specs.LeavesLaws.{Alike, leaves_one}
 use Rattle.snapshot.specs.declared.answer.Written.{Written}
-use Rattle.snapshot.specs.declared.answer.Written.TheVariants as Written
 use Rattle.snapshot.specs.declared.answer.PartPlace.{PartPlace}
-use Rattle.snapshot.specs.declared.answer.PartPlace.TheVariants as PartPlace
 use Rattle.snapshot.specs.Form.{first}
 use Rattle.snapshot.specs.Snapshot.{part_place}
 use Rattle.snapshot.specs.ReadLaws as Read

@@ -3,12 +3,9 @@ use Rattle.std.specs.Prelude.{◌≡◌, refl, List, ℕ, ◌<◌}
 use Rattle.std.proofs.Common.{ap, arith, ne_eqb}
 use Rattle.refusal.specs.Refusal.{wrong_layout}
 use Rattle.snapshot_layout.specs.declared.place.Place.{Place}
-use Rattle.snapshot_layout.specs.declared.place.Place.TheVariants as Place
 use Rattle.snapshot_layout.specs.Layout.{place_from, place_of}
 use Rattle.snapshot_settings.specs.declared.settings.ReadSettings.{ReadSettings}
-use Rattle.snapshot_settings.specs.declared.settings.ReadSettings.TheVariants as ReadSettings
 use Rattle.snapshot.specs.declared.answer.PartPlace.{PartPlace}
-use Rattle.snapshot.specs.declared.answer.PartPlace.TheVariants as PartPlace
 use Rattle.snapshot.specs.Form.{first, form_slots, rows_in}
 use Rattle.snapshot.specs.Snapshot.{settings_in, placed, kind_place, part_place}
 

@@ -11,10 +11,8 @@ use Rattle.table.specs.TableLaws.{sub_ascending, sub_trans, sub_erase, ascending
 use Rattle.peer_settings.specs.declared.config.PeerMessagePolicyConfig.{PeerMessagePolicyConfig}
 use Rattle.peer_state.specs.declared.entry.PeerMessagePolicyEntry.{PeerMessagePolicyEntry}
 use Rattle.peer_verdict.specs.declared.verdict.Cause.{Cause}
-use Rattle.peer_verdict.specs.declared.verdict.Cause.TheVariants as Cause
 use Rattle.peer_verdict.specs.declared.verdict.Decision.{Decision}
 use Rattle.peer_verdict.specs.declared.verdict.InvalidCause.{InvalidCause}
-use Rattle.peer_verdict.specs.declared.verdict.InvalidCause.TheVariants as InvalidCause
 use Rattle.peer_state.specs.Entry.{entry_is_banned, entry_is_spent, entry_expire_windows}
 use Rattle.peer_verdict.specs.Verdict.{invalid_decision, refuses}
 use Rattle.peer_verdict.specs.Causes.{invalid_cause_says}

@@ -18,7 +18,6 @@ use Rattle.peer_state.specs.declared.entry.PeerMessagePolicyEntry.{PeerMessagePo
 use Rattle.peer_state.specs.Entry.{level, window, window_expire, window_counted, entry_new, entry_ban, entry_used}
 use Rattle.peer_state.specs.Ingress.{try_reserve, in_flight}
 use Rattle.peer_verdict.specs.declared.verdict.Cause.{Cause}
-use Rattle.peer_verdict.specs.declared.verdict.Cause.TheVariants as Cause
 use Rattle.peer_verdict.specs.Verdict.{take_message, take_bytes, violated, decision}
 use Rattle.peer_rows.specs.Rows.{Peers, peer_layout}
 use Rattle.peer_rows.specs.RowsLaws.{EntryFits, peer_faithful}

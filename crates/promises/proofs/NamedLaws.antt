@@ -13,12 +13,10 @@ use Rattle.peer_settings.specs.Fits.{ConfigFits}
 use Rattle.peer_state.specs.declared.entry.PeerMessagePolicyEntry.{PeerMessagePolicyEntry}
 use Rattle.peer_state.specs.declared.ingress.FiberIngressBudget.{FiberIngressBudget}
 use Rattle.peer_state.specs.declared.ingress.Reservation.{Reservation}
-use Rattle.peer_state.specs.declared.ingress.Reservation.TheVariants as Reservation
 use Rattle.peer_state.specs.Entry.{entry_is_banned, entry_is_spent, entry_used}
 use Rattle.peer_state.specs.Ingress.{try_reserve}
 use Rattle.peer_verdict.specs.declared.verdict.Shortage.TheVariants as Shortage
 use Rattle.peer_verdict.specs.declared.verdict.Cause.{Cause}
-use Rattle.peer_verdict.specs.declared.verdict.Cause.TheVariants as Cause
 use Rattle.peer_verdict.specs.declared.verdict.Decision.{Decision}
 use Rattle.peer_verdict.specs.Verdict.{passes, missing, take_message, take_bytes, refuses, violated, ceiling_decides, weighed_in, decision}
 use Rattle.peer_verdict.specs.VerdictLaws.{both_charged, violated_ways, weighed_in_ways}

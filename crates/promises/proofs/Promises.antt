@@ -12,7 +12,6 @@ use Rattle.peer_settings.specs.Fits.{ConfigFits}
 use Rattle.peer_state.specs.declared.ingress.Reservation.{Reservation}
 use Rattle.peer_state.specs.Ingress.{try_reserve}
 use Rattle.peer_message_policy.specs.declared.answer.Made.{Made}
-use Rattle.peer_message_policy.specs.declared.answer.Made.TheVariants as Made
 use Rattle.peer_message_policy.specs.declared.policy.PeerMessagePolicy.{PeerMessagePolicy}
 use Rattle.peer_message_policy.specs.declared.answer.Admission.{Admission}
 use Rattle.peer_message_policy.specs.Policy as Policy
@@ -21,7 +20,6 @@ use Rattle.peer_message_policy.specs.Merged.{merge, merged_says, first_said, Mer
 use Rattle.peer_message_policy.specs.MergedLaws as MergedLaws
 use Rattle.peer_laws.specs.Fits.{PolicyFits}
 use Rattle.snapshot.specs.declared.answer.Written.{Written}
-use Rattle.snapshot.specs.declared.answer.Written.TheVariants as Written
 use Rattle.snapshot.specs.Form.{first}
 use Rattle.snapshot.specs.Snapshot.{WriteMeets, ReadMeets}
 use Rattle.snapshot_laws.specs.Alike.{Alike, SamePolicy}

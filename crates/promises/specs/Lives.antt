@@ -10,12 +10,10 @@ use Rattle.table.specs.Table.{look, by_order}
 use Rattle.peer_settings.specs.declared.config.PeerMessagePolicyConfig.{PeerMessagePolicyConfig}
 use Rattle.peer_state.specs.declared.entry.PeerMessagePolicyEntry.{PeerMessagePolicyEntry}
 use Rattle.peer_state.specs.declared.ingress.Reservation.{Reservation}
-use Rattle.peer_state.specs.declared.ingress.Reservation.TheVariants as Reservation
 use Rattle.peer_settings.specs.Config.{message_limit_disabled, bytes_of}
 use Rattle.peer_state.specs.Entry.{entry_is_spent}
 use Rattle.peer_verdict.specs.declared.verdict.Shortage.TheVariants as Shortage
 use Rattle.peer_verdict.specs.declared.verdict.Cause.{Cause}
-use Rattle.peer_verdict.specs.declared.verdict.Cause.TheVariants as Cause
 use Rattle.peer_verdict.specs.Causes.{cause_says}
 use Rattle.peer_message_policy.specs.Calls.{is_allow}
 use Rattle.promises.specs.Trails.{CoreCall, admit, record_invalid, is_banned, on_disconnected, Event, rows_at}

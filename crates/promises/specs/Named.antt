@@ -6,12 +6,10 @@ use Rattle.table.specs.Table.{look}
 use Rattle.peer_settings.specs.declared.config.PeerMessagePolicyConfig.{PeerMessagePolicyConfig}
 use Rattle.peer_state.specs.declared.entry.PeerMessagePolicyEntry.{PeerMessagePolicyEntry}
 use Rattle.peer_state.specs.declared.ingress.Reservation.{Reservation}
-use Rattle.peer_state.specs.declared.ingress.Reservation.TheVariants as Reservation
 use Rattle.peer_state.specs.Entry.{entry_new, entry_is_spent}
 use Rattle.peer_state.specs.Ingress.{try_reserve}
 use Rattle.peer_verdict.specs.declared.verdict.Shortage.TheVariants as Shortage
 use Rattle.peer_verdict.specs.declared.verdict.Cause.{Cause}
-use Rattle.peer_verdict.specs.declared.verdict.Cause.TheVariants as Cause
 use Rattle.peer_verdict.specs.Verdict.{passes, take_message, take_bytes}
 use Rattle.peer_verdict.specs.Causes.{ceiling, limit_named}
 use Rattle.peer_message_policy.specs.declared.policy.PeerMessagePolicy.{PeerMessagePolicy}

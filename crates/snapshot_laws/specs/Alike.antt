@@ -6,7 +6,6 @@ use Rattle.refusal.specs.Refusal.{Said}
 use Rattle.peer_message_policy.specs.Policy.{sound}
 use Rattle.peer_runs.specs.Runs.{Call, State, rows_in, Step, CallFits}
 use Rattle.snapshot.specs.declared.answer.Written.{Written}
-use Rattle.snapshot.specs.declared.answer.Written.TheVariants as Written
 use Rattle.snapshot.specs.Snapshot.{WriteMeets}
 
 -- the same policy, with the same rows in both memories, and both sound; memory holds bytes, as all memory does

@@ -20,7 +20,6 @@ use Rattle.peer_rows.specs.Rows.{row_width, Peers, peer_layout, peer_sound}
 use Rattle.peer_rows.specs.RowsLaws.{EntryFits, peer_faithful}
 use Rattle.peer_message_policy.specs.declared.policy.PeerMessagePolicy.{PeerMessagePolicy}
 use Rattle.peer_message_policy.specs.declared.answer.Made.{Made}
-use Rattle.peer_message_policy.specs.declared.answer.Made.TheVariants as Made
 use Rattle.peer_message_policy.specs.Policy.{rows_of, long_enough, sound, become}
 use Rattle.peer_message_policy.specs.Calls.{Meets, refuse}
 use Rattle.peer_laws.specs.SoundLaws.{record_holds, holds_policy}

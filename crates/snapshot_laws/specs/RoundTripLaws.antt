@@ -11,12 +11,10 @@ use Rattle.lent_bytes.specs.LentBytesLaws.{part_put_at, Bytes_nil, Bytes_append,
 use Rattle.refusal.specs.Refusal.{too_short, unsound}
 use Rattle.peer_message_policy.specs.declared.policy.PeerMessagePolicy.{PeerMessagePolicy}
 use Rattle.peer_message_policy.specs.declared.answer.Made.{Made}
-use Rattle.peer_message_policy.specs.declared.answer.Made.TheVariants as Made
 use Rattle.peer_message_policy.specs.Policy.{rows_of, long_enough, sound, Change, become}
 use Rattle.peer_message_policy.specs.Calls.{refuse}
 use Rattle.peer_laws.specs.Fits.{PolicyFits}
 use Rattle.snapshot.specs.declared.answer.Written.{Written}
-use Rattle.snapshot.specs.declared.answer.Written.TheVariants as Written
 use Rattle.peer_rows.specs.Rows.{row_width}
 use Rattle.snapshot.specs.Form.{Form, first, sizes, joined, rows_place, FormFits}
 use Rattle.snapshot.specs.FormLaws.{first_fits}
