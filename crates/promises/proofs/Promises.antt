@@ -23,8 +23,8 @@ use Rattle.snapshot.specs.declared.answer.Written.{Written}
 use Rattle.snapshot.specs.Form.{first}
 use Rattle.snapshot.specs.Snapshot.{WriteMeets, ReadMeets}
 use Rattle.snapshot_laws.specs.Alike.{Alike, SamePolicy}
-use Rattle.snapshot_laws.specs.RoundTripLaws as RoundTripLaws
-use Rattle.snapshot_laws.specs.SamePolicyLaws as SamePolicyLaws
+use Rattle.snapshot_laws.proofs.RoundTripLaws as RoundTripLaws
+use Rattle.snapshot_laws.proofs.SamePolicyLaws as SamePolicyLaws
 use Rattle.peer_runs.specs.Runs.{Call, admit, State, Step, Run}
 use Rattle.promises.specs.Lives.{AtMost, ceiling_says, ceiling_merged}
 use Rattle.promises.specs.RunLives.{Ordered, log_of, Shielded, Entitled, Shield}

@@ -1,5 +1,3 @@
 pub mod Alike
 pub mod WrittenLaws
 pub mod ReadLaws
-pub mod RoundTripLaws
-pub mod SamePolicyLaws

@@ -6,7 +6,4 @@ pub mod StepLaws
 pub mod FitsLaws
 pub mod StoppedLaws
 pub mod Running
-pub mod EventsLaws
-pub mod SettingsLaws
-pub mod TraceLaws
 pub mod OneOutcomeLaws

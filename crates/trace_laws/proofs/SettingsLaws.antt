@@ -42,7 +42,7 @@ use Rattle.trace_laws.specs.Running.{Lent, Starting, Reading, Handing}
 use Rattle.trace_laws.specs.Fits.{LoadFits, ScanFits}
 use Rattle.trace_laws.specs.FitsLaws.{SettingsFit, settings_fit}
 use Rattle.trace_laws.specs.LinesLaws.{lines_at_end, lines_at_unended, lines_at_whole, behind_within}
-use Rattle.trace_laws.specs.EventsLaws.{hands_last, following_more, hands_event}
+use Rattle.trace_laws.proofs.EventsLaws.{hands_last, following_more, hands_event}
 
 -- ════ The settings line is missing ════
 

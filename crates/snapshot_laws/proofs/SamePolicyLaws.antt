@@ -27,7 +27,7 @@ use Rattle.snapshot.specs.Form.{Form, first, parts}
 use Rattle.snapshot.specs.Snapshot.{policy_parts, snapshot_bytes, snapshot_length, WriteOutcome, write_outcome, WriteMeets, ReadMeets}
 use Rattle.snapshot.specs.WriteLaws.{sound_rows}
 use Rattle.snapshot_laws.specs.Alike.{Alike, Calls, done, next, WrittenAlike, SamePolicy}
-use Rattle.snapshot_laws.specs.RoundTripLaws.{wrote, front_is, written_reads}
+use Rattle.snapshot_laws.proofs.RoundTripLaws.{wrote, front_is, written_reads}
 
 -- ════ Calls ════
 

@@ -19,8 +19,8 @@ use Rattle.trace.specs.Scan.{text_of, longest_input, open_of, NextIn, NextMeets}
 use Rattle.trace_laws.specs.Trace.{lines_of, LineAnswer, line_answer_of, block_size, unsettled, lines_answers, answers_of, line_text, trace_of, line_answer_by, HandsOut, ends, hands}
 use Rattle.trace_laws.specs.Running.{rest_in, answers_from, Lent, RunningIn, Running, Handing, over, more}
 use Rattle.trace_laws.specs.Fits.{ScanFits}
-use Rattle.trace_laws.specs.EventsLaws.{hands_last, hands_event}
-use Rattle.trace_laws.specs.SettingsLaws.{hands_settings}
+use Rattle.trace_laws.proofs.EventsLaws.{hands_last, hands_event}
+use Rattle.trace_laws.proofs.SettingsLaws.{hands_settings}
 
 -- ════ A call ════
 

@@ -1,0 +1,2 @@
+pub mod RoundTripLaws
+pub mod SamePolicyLaws

@@ -1,0 +1,3 @@
+pub mod EventsLaws
+pub mod SettingsLaws
+pub mod TraceLaws
