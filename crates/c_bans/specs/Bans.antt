@@ -5,19 +5,14 @@ use Rattle.pubkey.specs.declared.Pubkey.{Pubkey}
 use Rattle.gossip_settings.specs.Settings.{max_tracked_peers}
 use Rattle.gossip_bans.specs.declared.tracker.GossipBanTracker.{GossipBanTracker}
 use Rattle.gossip_bans.specs.declared.answer.MadeTracker.{MadeTracker}
-use Rattle.gossip_bans.specs.declared.answer.MadeTracker.TheVariants as MadeTracker
 use Rattle.gossip_bans.specs.declared.answer.BanTold.{BanTold}
 use Rattle.gossip_bans.specs.declared.answer.Scored.{Scored}
-use Rattle.gossip_bans.specs.declared.answer.Scored.TheVariants as Scored
 use Rattle.gossip_bans.specs.declared.answer.Pruned.{Pruned}
-use Rattle.gossip_bans.specs.declared.answer.Pruned.TheVariants as Pruned
 use Rattle.gossip_bans.specs.declared.answer.Tracked.{Tracked}
-use Rattle.gossip_bans.specs.declared.answer.Tracked.TheVariants as Tracked
 use Rattle.gossip_bans.specs.Calls.{MadeMeets, RecordViolationMeets, IsBannedMeets, ScoreMeets, PruneExpiredMeets, TrackedPeersMeets}
 use Rattle.c_terms.specs.declared.reply.Reply.{Reply}
 use Rattle.c_terms.specs.Answers.{reply, told_reply}
 use Rattle.c_bans.specs.declared.blame.Blame.{Blame}
-use Rattle.c_bans.specs.declared.blame.Blame.TheVariants as Blame
 use Rattle.c_bans.specs.declared.bans.BanOperation.{BanOperation}
 use Rattle.c_bans.specs.declared.bans.BanOperation.TheVariants.{New, WithMaxEntries, RecordViolation, IsBanned, Score, PruneExpired, TrackedPeers, Unknown}
 use Rattle.c_bans.specs.declared.bans.BanDone.{BanDone}

@@ -7,9 +7,7 @@ use Rattle.gossip_bans.specs.declared.tracker.GossipBanTracker.{GossipBanTracker
 use Rattle.gossip_laws.specs.BanOutcomeLaws.{made_one, record_violation_one, is_banned_one, score_one, prune_expired_one, tracked_peers_one}
 use Rattle.c_terms.specs.SomeLaws.{some_one, some_alone}
 use Rattle.c_bans.specs.declared.blame.Blame.{Blame}
-use Rattle.c_bans.specs.declared.blame.Blame.TheVariants as Blame
 use Rattle.c_bans.specs.declared.bans.BanOperation.{BanOperation}
-use Rattle.c_bans.specs.declared.bans.BanOperation.TheVariants as BanOperation
 use Rattle.c_bans.specs.declared.bans.BanDone.{BanDone}
 use Rattle.c_terms.specs.LeftLaws.{Alike, left_one, untouched_one}
 use Rattle.c_bans.specs.Blame.{blame_of}

@@ -5,20 +5,17 @@ use Rattle.pubkey.specs.declared.Pubkey.{Pubkey}
 use Rattle.gossip_settings.specs.Settings.{gossip_default}
 use Rattle.gossip_outbound_state.specs.State.{exceeds}
 use Rattle.gossip_outbound.specs.declared.answer.Settled.{Settled}
-use Rattle.gossip_outbound.specs.declared.answer.Settled.TheVariants as Settled
 use Rattle.gossip_policy.specs.declared.state.GossipPolicyState.{GossipPolicyState}
 use Rattle.gossip_policy.specs.declared.answer.GossipTold.{GossipTold}
 use Rattle.gossip_policy.specs.declared.answer.GossipPruned.{GossipPruned}
 use Rattle.gossip_policy.specs.declared.answer.GossipSettled.{GossipSettled}
 use Rattle.gossip_policy.specs.declared.answer.GossipReserved.{GossipReserved}
 use Rattle.gossip_policy.specs.declared.answer.DelayedByteCapacity.{DelayedByteCapacity}
-use Rattle.gossip_policy.specs.declared.answer.DelayedByteCapacity.TheVariants as DelayedByteCapacity
 use Rattle.gossip_policy.specs.State.{outbound_of, delayed_byte_capacity}
 use Rattle.gossip_policy.specs.Calls.{NewMeets, RecordViolationMeets, IsBannedMeets, PruneBansMeets, AllowMeets, EstimateMeets, RemoveMeets, ReserveMeets, RefundMeets, BypassMeets}
 use Rattle.c_terms.specs.declared.reply.Reply.{Reply}
 use Rattle.c_terms.specs.Answers.{reply, truth_reply, told_reply, delay_reply}
 use Rattle.c_bans.specs.declared.blame.Blame.{Blame}
-use Rattle.c_bans.specs.declared.blame.Blame.TheVariants as Blame
 use Rattle.c_gossip.specs.declared.gossip.GossipOperation.{GossipOperation}
 use Rattle.c_gossip.specs.declared.gossip.GossipOperation.TheVariants.{New, Default, RecordViolation, IsBanned, PruneBans, Allow, EstimateDelay, RemovePeer, Reserve, Refund, ShouldBypass, Exceeds, QueueCapacity, GlobalCapacity, PeerCapacity, Unknown}
 use Rattle.c_gossip.specs.declared.gossip.GossipDone.{GossipDone}

@@ -19,7 +19,6 @@ use Rattle.gossip_laws.specs.PolicyOutcomeLaws.{
 }
 use Rattle.c_terms.specs.SomeLaws.{some_one, some_alone}
 use Rattle.c_bans.specs.declared.blame.Blame.{Blame}
-use Rattle.c_bans.specs.declared.blame.Blame.TheVariants as Blame
 use Rattle.c_gossip.specs.declared.gossip.GossipOperation.{GossipOperation}
 use Rattle.c_gossip.specs.declared.gossip.GossipOperation.TheVariants as Operation
 use Rattle.c_gossip.specs.declared.gossip.GossipDone.{GossipDone}

@@ -5,10 +5,8 @@ use Rattle.pubkey.specs.declared.ChannelUpdateLimiterKey.{ChannelUpdateLimiterKe
 use Rattle.gossip_settings.specs.Settings.{max_tracked_keys}
 use Rattle.gossip_limiter.specs.declared.limiter.ChannelUpdateLimiter.{ChannelUpdateLimiter}
 use Rattle.gossip_limiter.specs.declared.answer.MadeLimiter.{MadeLimiter}
-use Rattle.gossip_limiter.specs.declared.answer.MadeLimiter.TheVariants as MadeLimiter
 use Rattle.gossip_limiter.specs.declared.answer.LimiterTold.{LimiterTold}
 use Rattle.gossip_limiter.specs.declared.answer.TrackedKeys.{TrackedKeys}
-use Rattle.gossip_limiter.specs.declared.answer.TrackedKeys.TheVariants as TrackedKeys
 use Rattle.gossip_limiter.specs.Calls.{MadeMeets, TryAcquireMeets, TrackedKeysMeets}
 use Rattle.c_terms.specs.declared.reply.Reply.{Reply}
 use Rattle.c_terms.specs.Answers.{reply, told_reply}

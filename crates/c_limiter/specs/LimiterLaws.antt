@@ -7,7 +7,6 @@ use Rattle.gossip_limiter.specs.declared.limiter.ChannelUpdateLimiter.{ChannelUp
 use Rattle.gossip_laws.specs.LimiterOutcomeLaws.{limiter_made_one, try_acquire_one, tracked_keys_one}
 use Rattle.c_terms.specs.SomeLaws.{some_one, some_alone}
 use Rattle.c_limiter.specs.declared.limiter.LimiterOperation.{LimiterOperation}
-use Rattle.c_limiter.specs.declared.limiter.LimiterOperation.TheVariants as LimiterOperation
 use Rattle.c_limiter.specs.declared.limiter.LimiterDone.{LimiterDone}
 use Rattle.c_terms.specs.LeftLaws.{Alike, left_one, untouched_one}
 use Rattle.c_terms.specs.Keys.{limiter_key_of}

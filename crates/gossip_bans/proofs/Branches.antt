@@ -13,7 +13,6 @@ use Rattle.lent_bytes.specs.LentBytes.{put, zeros, Bytes}
 use Rattle.pubkey.specs.declared.Pubkey.{Pubkey}
 use Rattle.refusal.specs.Refusal.{too_short, limit_too_large, unsound}
 use Rattle.bucket_terms.specs.declared.answer.Told.{Told}
-use Rattle.bucket_terms.specs.declared.answer.Told.TheVariants as Told
 use Rattle.bucket_terms.specs.Answers.{told}
 use Rattle.table.specs.Table.{look, store, erase}
 use Rattle.table.specs.MemoryLaws.{length_rows, holds, put_clear}

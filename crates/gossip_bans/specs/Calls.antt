@@ -15,16 +15,12 @@ use Rattle.gossip_ban_rows.specs.Rows.{ban_layout}
 use Rattle.gossip_ban_rows.specs.Room.{prune_expired}
 use Rattle.gossip_bans.specs.declared.tracker.GossipBanTracker.{GossipBanTracker}
 use Rattle.gossip_bans.specs.declared.answer.MadeTracker.{MadeTracker}
-use Rattle.gossip_bans.specs.declared.answer.MadeTracker.TheVariants as MadeTracker
 use Rattle.gossip_bans.specs.declared.answer.BanTold.{BanTold}
 use Rattle.gossip_bans.specs.declared.answer.Scored.{Scored}
-use Rattle.gossip_bans.specs.declared.answer.Scored.TheVariants as Scored
 use Rattle.gossip_bans.specs.declared.answer.BanScored.{BanScored}
 use Rattle.gossip_bans.specs.declared.answer.Pruned.{Pruned}
-use Rattle.gossip_bans.specs.declared.answer.Pruned.TheVariants as Pruned
 use Rattle.gossip_bans.specs.declared.answer.BanPruned.{BanPruned}
 use Rattle.gossip_bans.specs.declared.answer.Tracked.{Tracked}
-use Rattle.gossip_bans.specs.declared.answer.Tracked.TheVariants as Tracked
 use Rattle.gossip_bans.specs.Tracker.{rows_of, limit_of, tracker_sound, sound, turn, record_violation, is_banned, score}
 
 -- ════ What the answers say ════

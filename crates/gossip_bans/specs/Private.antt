@@ -1,7 +1,7 @@
 -- Private: cited by contracts inside the proved code alone; no entry point's contract rests on it. Definitions only.
 use Rattle.std.specs.Prelude.{List, ℕ, ◌≡◌}
 use Rattle.table.specs.declared.seek.Seek.{Seek}
-use Rattle.table.specs.Memory.{rows, Holds}
+use Rattle.table.specs.Memory.{Holds}
 use Rattle.table.specs.Outcome.{become}
 use Rattle.table_laws.specs.Private.{lent_sought}
 use Rattle.gossip_ban_rows.specs.Rows.{Bans, ban_layout, ban_sound}

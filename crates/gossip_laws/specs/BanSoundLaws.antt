@@ -33,7 +33,6 @@ use Rattle.gossip_ban_rows.specs.Private.{room_for}
 use Rattle.gossip_ban_rows.specs.RoomLaws.{sub_expire, sub_prune, sub_room, room_for_one}
 use Rattle.gossip_bans.specs.declared.tracker.GossipBanTracker.{GossipBanTracker}
 use Rattle.gossip_bans.specs.declared.answer.MadeTracker.{MadeTracker}
-use Rattle.gossip_bans.specs.declared.answer.MadeTracker.TheVariants as MadeTracker
 use Rattle.gossip_bans.specs.declared.answer.BanTold.{BanTold}
 use Rattle.gossip_bans.specs.declared.answer.BanScored.{BanScored}
 use Rattle.gossip_bans.specs.declared.answer.BanPruned.{BanPruned}

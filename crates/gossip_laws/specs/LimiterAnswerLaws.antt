@@ -6,7 +6,6 @@ use Rattle.truths.specs.TruthLaws.{by_test, neither}
 use Rattle.table.specs.Table.{look}
 use Rattle.table.specs.Outcome.{Outcome}
 use Rattle.bucket_terms.specs.declared.answer.Told.{Told}
-use Rattle.bucket_terms.specs.declared.answer.Told.TheVariants as Told
 use Rattle.bucket_discrete.specs.DiscreteBucket.{discrete_new, discrete_refill, discrete_take, discrete_try_consume}
 use Rattle.gossip_settings.specs.declared.channel_update.ChannelUpdateRateLimitConfig.{ChannelUpdateRateLimitConfig}
 use Rattle.gossip_settings.specs.Settings.{channel_update_disabled}

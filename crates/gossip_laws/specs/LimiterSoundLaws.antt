@@ -41,7 +41,6 @@ use Rattle.gossip_limiter_rows.specs.Prune.{not_full, room_for}
 use Rattle.gossip_limiter_rows.specs.PruneLaws.{by_room}
 use Rattle.gossip_limiter.specs.declared.limiter.ChannelUpdateLimiter.{ChannelUpdateLimiter}
 use Rattle.gossip_limiter.specs.declared.answer.MadeLimiter.{MadeLimiter}
-use Rattle.gossip_limiter.specs.declared.answer.MadeLimiter.TheVariants as MadeLimiter
 use Rattle.gossip_limiter.specs.declared.answer.LimiterTold.{LimiterTold}
 use Rattle.gossip_limiter.specs.Limiter.{rows_of, limit_of, limiter_record_sound, sound, turn, try_acquire}
 use Rattle.gossip_limiter.specs.LimiterLaws.{limit_within, rows_within, within_sound, acquire_off, acquire_known, acquire_full, acquire_new}

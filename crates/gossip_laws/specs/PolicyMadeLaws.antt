@@ -18,7 +18,6 @@ use Rattle.gossip_bans.specs.Calls as tracker
 use Rattle.gossip_outbound_rows.specs.Rows.{outbound_layout}
 use Rattle.gossip_outbound_state.specs.State as outbound
 use Rattle.gossip_outbound.specs.declared.answer.Settled.{Settled}
-use Rattle.gossip_outbound.specs.declared.answer.Settled.TheVariants as Settled
 use Rattle.gossip_policy.specs.declared.state.GossipPolicyState.{GossipPolicyState}
 use Rattle.gossip_policy.specs.declared.answer.GossipSettled.{GossipSettled}
 use Rattle.gossip_policy.specs.State.{fresh, outbound_of}

@@ -20,7 +20,6 @@ use Rattle.table_laws.specs.LentLaws.{own_sound_lem, rows_fit, limit_fits, known
 use Rattle.table_laws.specs.Private.{Counted}
 use Rattle.table_laws.specs.StoreLaws.{counted_then}
 use Rattle.bucket_terms.specs.declared.answer.Told.{Told}
-use Rattle.bucket_terms.specs.declared.answer.Told.TheVariants as Told
 use Rattle.bucket_discrete.specs.declared.discrete.DiscreteTokenBucket.{DiscreteTokenBucket}
 use Rattle.bucket_discrete.specs.DiscreteBucket.{discrete_new}
 use Rattle.gossip_settings.specs.declared.channel_update.ChannelUpdateRateLimitConfig.{ChannelUpdateRateLimitConfig}

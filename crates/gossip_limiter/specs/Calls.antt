@@ -5,7 +5,6 @@ use Rattle.pubkey.specs.declared.ChannelUpdateLimiterKey.{ChannelUpdateLimiterKe
 use Rattle.pubkey.specs.Order.{limiter_key_bytes}
 use Rattle.refusal.specs.Refusal.{Said, gives, refused, too_short, limit_too_large, unsound}
 use Rattle.bucket_terms.specs.declared.answer.Told.{Told}
-use Rattle.bucket_terms.specs.declared.answer.Told.TheVariants as Told
 use Rattle.bucket_terms.specs.Answers.{told_says}
 use Rattle.table.specs.Outcome.{Change, same, become, count_after, Outcome, Meets}
 use Rattle.table_laws.specs.Lent.{long_enough}
@@ -15,10 +14,8 @@ use Rattle.gossip_limiter_rows.specs.declared.entry.ChannelUpdateLimiterEntry.{C
 use Rattle.gossip_limiter_rows.specs.Rows.{limiter_layout}
 use Rattle.gossip_limiter.specs.declared.limiter.ChannelUpdateLimiter.{ChannelUpdateLimiter}
 use Rattle.gossip_limiter.specs.declared.answer.MadeLimiter.{MadeLimiter}
-use Rattle.gossip_limiter.specs.declared.answer.MadeLimiter.TheVariants as MadeLimiter
 use Rattle.gossip_limiter.specs.declared.answer.LimiterTold.{LimiterTold}
 use Rattle.gossip_limiter.specs.declared.answer.TrackedKeys.{TrackedKeys}
-use Rattle.gossip_limiter.specs.declared.answer.TrackedKeys.TheVariants as TrackedKeys
 use Rattle.gossip_limiter.specs.Limiter.{rows_of, limit_of, limiter_record_sound, sound, turn, try_acquire}
 
 -- ════ What the answers say ════

@@ -1,7 +1,6 @@
 -- Private: cited by contracts inside the proved code alone; no entry point's contract rests on it. Definitions only.
 use Rattle.std.specs.Prelude.{List, ℕ}
 use Rattle.table.specs.declared.seek.Seek.{Seek}
-use Rattle.table.specs.Memory.{rows}
 use Rattle.table_laws.specs.Private.{lent_sought}
 use Rattle.gossip_limiter_rows.specs.Rows.{limiter_layout, limiter_sound}
 use Rattle.gossip_limiter.specs.declared.limiter.ChannelUpdateLimiter.{ChannelUpdateLimiter}

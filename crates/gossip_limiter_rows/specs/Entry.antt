@@ -1,7 +1,6 @@
 -- ChannelUpdateLimiterEntry of gossip_policy.rs, and its bucket under the limiter's settings. Definitions only.
 use Rattle.std.specs.Prelude.{Bool, true, false, ℕ}
 use Rattle.bucket_terms.specs.declared.answer.Consumed.{Consumed}
-use Rattle.bucket_terms.specs.declared.answer.Consumed.TheVariants as Consumed
 use Rattle.bucket_terms.specs.Answers.{told}
 use Rattle.bucket_discrete.specs.declared.discrete.DiscreteTokenBucket.{DiscreteTokenBucket}
 use Rattle.bucket_discrete.specs.DiscreteBucket.{discrete_refill, discrete_try_consume, discrete_is_full}

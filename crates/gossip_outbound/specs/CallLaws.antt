@@ -12,9 +12,7 @@ use Rattle.table.specs.Table.{look, erase}
 use Rattle.table.specs.Outcome.{become, Outcome, Meets}
 use Rattle.table_laws.specs.Private.{Counted}
 use Rattle.bucket_terms.specs.declared.answer.Told.{Told}
-use Rattle.bucket_terms.specs.declared.answer.Told.TheVariants as Told
 use Rattle.bucket_terms.specs.declared.answer.Delay.{Delay}
-use Rattle.bucket_terms.specs.declared.answer.Delay.TheVariants as Delay
 use Rattle.bucket_terms.specs.Answers.{told}
 use Rattle.bucket_terms.specs.Limit.{byte_disabled}
 use Rattle.bucket_bytes.specs.declared.bytes.ByteTokenBucket.{ByteTokenBucket}

@@ -4,9 +4,7 @@ use Rattle.std.specs.Prelude.{◌≡◌, cond, List, [], ℕ}
 use Rattle.pubkey.specs.declared.Pubkey.{Pubkey}
 use Rattle.refusal.specs.Refusal.{Said, gives, refused, unsound}
 use Rattle.bucket_terms.specs.declared.answer.Told.{Told}
-use Rattle.bucket_terms.specs.declared.answer.Told.TheVariants as Told
 use Rattle.bucket_terms.specs.declared.answer.Delay.{Delay}
-use Rattle.bucket_terms.specs.declared.answer.Delay.TheVariants as Delay
 use Rattle.bucket_terms.specs.Answers.{told, told_says, delay_says}
 use Rattle.table.specs.Outcome.{Outcome, Meets}
 use Rattle.gossip_outbound_rows.specs.declared.entry.OutboundEntry.{OutboundEntry}
@@ -16,7 +14,6 @@ use Rattle.gossip_outbound.specs.declared.answer.OutboundTold.{OutboundTold}
 use Rattle.gossip_outbound.specs.declared.answer.OutboundReserved.{OutboundReserved}
 use Rattle.gossip_outbound.specs.declared.answer.OutboundSettled.{OutboundSettled}
 use Rattle.gossip_outbound.specs.declared.answer.Settled.{Settled}
-use Rattle.gossip_outbound.specs.declared.answer.Settled.TheVariants as Settled
 use Rattle.gossip_outbound_state.specs.State.{rows_of, sound}
 use Rattle.gossip_outbound.specs.Outbound.{refuse, outbound_told, outbound_reserved, outbound_settled, allow, reserve, refund, removed, estimate, bypasses}
 

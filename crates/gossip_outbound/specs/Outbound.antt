@@ -1,13 +1,10 @@
 -- The calls of the outbound half of GossipPolicyState of gossip_policy.rs, on a state and a list of rows. Definitions only.
 use Rattle.std.specs.Prelude.{Bool, false, not, cond, List, ℕ, max}
 use Rattle.table.specs.Table.{look, store, erase}
-use Rattle.table.specs.Memory.{rows}
 use Rattle.table.specs.Outcome.{Change, same, become, count_after, Outcome}
 use Rattle.refusal.specs.Refusal.{no_row}
 use Rattle.bucket_terms.specs.declared.answer.Delay.{Delay}
-use Rattle.bucket_terms.specs.declared.answer.Delay.TheVariants as Delay
 use Rattle.bucket_terms.specs.declared.answer.Told.{Told}
-use Rattle.bucket_terms.specs.declared.answer.Told.TheVariants as Told
 use Rattle.bucket_terms.specs.Limit.{byte_disabled}
 use Rattle.bucket_bytes.specs.declared.bytes.ByteTokenBucket.{ByteTokenBucket}
 use Rattle.bucket_bytes.specs.ByteBucket.{byte_peek_delay_after_refill, byte_refund, byte_has_debt}
@@ -21,7 +18,6 @@ use Rattle.gossip_outbound.specs.declared.answer.OutboundTold.{OutboundTold}
 use Rattle.gossip_outbound.specs.declared.answer.OutboundReserved.{OutboundReserved}
 use Rattle.gossip_outbound.specs.declared.answer.OutboundSettled.{OutboundSettled}
 use Rattle.gossip_outbound.specs.declared.answer.Settled.{Settled}
-use Rattle.gossip_outbound.specs.declared.answer.Settled.TheVariants as Settled
 use Rattle.gossip_outbound_state.specs.State.{bucket_or_fresh, full, charge_both, promise_both, exceeds, peer_delay, peer_debt, outbound_with}
 
 -- ════ What a call leaves ════

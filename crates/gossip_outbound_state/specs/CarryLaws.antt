@@ -11,7 +11,7 @@ use Rattle.table.specs.declared.seek.Seek.{Seek}
 use Rattle.table.specs.declared.seek.Seek.TheVariants.{Unsound, At, Gap}
 use Rattle.table.specs.Table.{look, store, erase, remove_at, row_under}
 use Rattle.table.specs.Private.{insert_at}
-use Rattle.table.specs.Memory.{row_of, rows, Holds}
+use Rattle.table.specs.Memory.{row_of, Holds}
 use Rattle.table.specs.MemoryLaws.{length_rows}
 use Rattle.table.specs.PlaceLaws.{place_is_sound, gap_erase}
 use Rattle.table_laws.specs.Private as lent

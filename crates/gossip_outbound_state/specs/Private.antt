@@ -1,10 +1,8 @@
 -- Private: cited by contracts inside the proved code alone; no entry point's contract rests on it. Definitions only.
 use Rattle.std.specs.Prelude.{Bool, true, false, List, ℕ, leb, ◌≡◌}
 use Rattle.table.specs.declared.seek.Seek.{Seek}
-use Rattle.table.specs.Memory.{rows}
 use Rattle.table_laws.specs.Private.{lent_sought}
 use Rattle.bucket_terms.specs.declared.answer.Told.{Told}
-use Rattle.bucket_terms.specs.declared.answer.Told.TheVariants as Told
 use Rattle.bucket_bytes.specs.declared.bytes.ByteTokenBucket.{ByteTokenBucket}
 use Rattle.bucket_bytes.specs.ByteBucket.{byte_sound}
 use Rattle.gossip_outbound_rows.specs.Rows.{outbound_layout, outbound_sound}

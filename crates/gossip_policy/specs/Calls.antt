@@ -22,7 +22,6 @@ use Rattle.gossip_outbound.specs.declared.answer.OutboundTold.{OutboundTold}
 use Rattle.gossip_outbound.specs.declared.answer.OutboundReserved.{OutboundReserved}
 use Rattle.gossip_outbound.specs.declared.answer.OutboundSettled.{OutboundSettled}
 use Rattle.gossip_outbound.specs.declared.answer.Settled.{Settled}
-use Rattle.gossip_outbound.specs.declared.answer.Settled.TheVariants as Settled
 use Rattle.gossip_outbound.specs.Calls as outbound
 use Rattle.gossip_policy.specs.declared.state.GossipPolicyState.{GossipPolicyState}
 use Rattle.gossip_policy.specs.declared.answer.GossipTold.{GossipTold}

@@ -1,5 +1,5 @@
 -- `prune::gather_busy` meets its contract.
-use Rattle.std.proofs.Common.{refl, ◌∙◌, ◌-◌, arith}
+use Rattle.std.proofs.Common.{refl, ◌∙◌, arith}
 use Rattle.table.specs.Memory.{rows}
 use Rattle.table_laws.specs.Raw.{map_entries}
 use Rattle.table_laws.specs.KeepLaws.{kept_begins, kept_most, keep_step, kept_rule, kept_ends, length_rewritten}

@@ -1,5 +1,5 @@
 -- `walk::rules_kept` meets its contract.
-use Rattle.std.proofs.Common.{refl, sym, ◌∙◌, ◌-◌, arith}
+use Rattle.std.proofs.Common.{refl, sym, ◌∙◌, arith}
 use borrow.Author.Tests.{not-true, not-false}
 use Rattle.table_laws.specs.WalkLaws.{rules_end, rules_break, rules_go_on}
 use Rattle.gossip_limiter_rows.specs.Rows.{limiter_layout, limiter_sound}

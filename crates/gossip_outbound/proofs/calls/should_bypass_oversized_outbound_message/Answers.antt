@@ -1,6 +1,5 @@
 -- `gossip_outbound::calls::should_bypass_oversized_outbound_message` meets its contract: a law of `CallLaws` for each answer. Assumes nothing.
 use Rattle.std.proofs.Common.{sym, ◌∙◌}
-use Rattle.std.proofs.Common.{rules}
 use borrow.Author.Tests.{not-true, not-false}
 use Rattle.gossip_outbound_state.specs.CarryLaws.{found_unsound, found_placed, placed_global}
 use Rattle.gossip_outbound.specs.CallLaws.{bypass_unsound, bypass_fits, bypass_global_debt, bypass_peer}

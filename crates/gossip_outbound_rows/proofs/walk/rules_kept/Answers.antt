@@ -1,5 +1,5 @@
 -- `gossip_outbound_rows::walk::rules_kept` meets its contract.
-use Rattle.std.proofs.Common.{refl, sym, ap, ◌∙◌, ◌-◌, arith}
+use Rattle.std.proofs.Common.{refl, sym, ap, ◌∙◌, arith}
 use borrow.Author.Tests.{not-true, not-false}
 use Rattle.table_laws.specs.WalkLaws.{rules_end, rules_break, rules_go_on}
 use Rattle.gossip_outbound_rows.specs.Entry.{entry_sound}
