@@ -138,16 +138,18 @@ fn watch(root: &Path, rt: &Path) {
     }
 }
 
-/// The exporting crates and all that they need, by crates.txt's lines `name: needed ..`; a library of the kit has no line.
+/// The exporting crates' static libraries, `NAME_c`, and all that they need, by crates.txt's lines `name words: needed ..`; a library of the kit
+/// has no line.
 fn below(list: &str) -> BTreeSet<String> {
     let line = |line: &str| {
-        let (name, needs) = line.split('#').next()?.split_once(':')?;
+        let (head, needs) = line.split('#').next()?.split_once(':')?;
+        let name = head.split_whitespace().next()?;
         let needs = needs.split_whitespace().map(str::to_string).collect();
-        Some((name.trim().to_string(), needs))
+        Some((name.to_string(), needs))
     };
     let needs: BTreeMap<String, Vec<String>> = list.lines().filter_map(line).collect();
     let mut seen = BTreeSet::new();
-    let mut open: Vec<String> = EXPORTING.map(str::to_string).to_vec();
+    let mut open: Vec<String> = EXPORTING.map(|name| format!("{name}_c")).to_vec();
     while let Some(name) = open.pop() {
         if let Some(needed) = needs.get(&name) {
             open.extend(needed.iter().filter(|needed| !seen.contains(*needed)).cloned());
