@@ -1,5 +1,4 @@
 -- `checksum::add_words` is safe and ends. Assumes nothing.
-use Rattle.std.proofs.Common.{◌-◌}
 use Rattle.replay_snapshots.proofs.checksum.add_words.Goals as goal
 
 pub loop-i-init : goal.loop-i-init
