@@ -1,5 +1,4 @@
 -- `checksum::add_shorts` is safe and ends. Assumes nothing.
-use Rattle.std.proofs.Common.{◌-◌}
 use Rattle.replay_gossip.proofs.checksum.add_shorts.Goals as goal
 
 pub loop-i-init : goal.loop-i-init
