@@ -1,2 +1,2 @@
-// What the user was promised, as theorems about the calls: no code stands here. specs/Promises.antt states them.
+// What the user was promised, as theorems about the calls: no code stands here. proofs/Promises.antt states them.
 #![tactic(auto)]

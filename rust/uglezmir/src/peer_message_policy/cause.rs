@@ -10,7 +10,7 @@ use uglezmir_sys::peers::Cause as Words;
 ///
 /// Where several limits would say no, the first in step order is named: the message bucket, the byte bucket, the ceiling. A bucket that runs
 /// short is the peer's own doing and counts as a violation; a ceiling without room is not, and doesn't. It is proved that the ceiling is named exactly where
-/// no ban on the peer is live, both its buckets pass and the ceiling has no room (the theorem `named`, `crates/promises/specs/Promises.antt`).
+/// no ban on the peer is live, both its buckets pass and the ceiling has no room (the theorem `named`, `crates/promises/proofs/Promises.antt`).
 ///
 /// ```
 /// use uglezmir::peer_message_policy::{Cause, Limit, PeerMessageAdmission, Shortage};

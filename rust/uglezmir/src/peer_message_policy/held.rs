@@ -22,7 +22,7 @@ use crate::{Key, Refusal, PEER_KEY};
 ///
 /// # What is proved of it
 ///
-/// The theorem `shielded` (`crates/promises/specs/Promises.antt`), of a policy that was made here, **under any clock**, for each peer by itself
+/// The theorem `shielded` (`crates/promises/proofs/Promises.antt`), of a policy that was made here, **under any clock**, for each peer by itself
 /// and however the others behave:
 ///
 /// - in one life, from held time s to t, it is let in with at most its burst and what the interval gives from s to t (rounded up) in messages, and
