@@ -1,7 +1,7 @@
 #!/usr/bin/env python3
 """Spells the repository's own definitions and lemmas as the library spells its own: words in snake case.
 
-usage: python3 tools/respell.py            at the top of the repository, once, after /opt/rattle/port/port.py
+usage: python3 tools/respell.py            at the top of the repository, once, after the kit's own port/port.py
 
 port.py respells the names that the library knows. This script takes the others: each definition, lemma, field and
 constructor that a file of specs/ or proofs/ declares, in the .antt files, in the clauses and `ghost use` lines of the
