@@ -18,16 +18,11 @@ import sys
 
 NAME = r"[^\s(){}\[\].,;:@\"«»`|]+"
 HEAD = re.compile(rf"^ *(?:(?:abbrev|unfoldable|pub|record|data|fill|axiom) +)*({NAME})(?: *[({{\[].*)? *:(?: |$)")
-TAKEN_OTHERWISE = {
-    # old name: new name, where plain snake case would meet a name that the file has already
-}
 FIELD_OF_THE_NAME = {"goesOn"}  # a field of a struct of src/ has the new name too, and stands behind a dot or before `=` alone
 SPECIAL = [("getD", "get_or")]
 
 
 def snake(name):
-    if name in TAKEN_OTHERWISE:
-        return TAKEN_OTHERWISE[name]
     for old, new in SPECIAL:
         name = name.replace(old, new)
     before = ""
@@ -40,12 +35,8 @@ def antt_files():
     return sorted(p for p in glob.glob("crates/*/*/**/*.antt", recursive=True) if "/out/" not in p)
 
 
-def code_of(text):
-    return "\n".join(line.split("--")[0] if line.lstrip().startswith("--") else line for line in text.split("\n"))
-
-
 def declared():
-    """The names that the repository's own definitions, lemmas, fields and constructors have."""
+    """The names that the repository's own definitions, lemmas, fields and constructors have, each with its files."""
     names = collections.defaultdict(set)
     for path in antt_files():
         generated = re.search(r"/proofs/.*/Proof\.antt$", path)
@@ -62,10 +53,6 @@ def declared():
                 continue
             names[name].add(path)
     return names
-
-
-def word(name):
-    return re.compile(rf"(?<![^\s(){{}}\[\].,;:@\"«»`|]){re.escape(name)}(?![^\s(){{}}\[\].,;:@\"«»`|])")
 
 
 ANY = re.compile(rf"(?<![^\s(){{}}\[\].,;:@\"«»`|]){NAME}")
@@ -155,7 +142,7 @@ def main():
         for old in present & table.keys():
             if table[old] in there and table[old] not in table and old not in FIELD_OF_THE_NAME:
                 bad.append(f"{path}: {old} would be {table[old]}, which stands there already")
-    if bad and "--force" not in sys.argv:
+    if bad:
         print("\n".join(sorted(bad)))
         print(f"{len(bad)} places where names would fall together; nothing was written")
         return 1
