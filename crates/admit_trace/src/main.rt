@@ -5,7 +5,6 @@
 ghost use Rattle.std.specs.Prelude.{◌≡◌, ◌<◌, length};
 ghost use Rattle.trace.specs.Scan.{longest_input};
 
-use standard::Input;
 use trace_output::write_answers;
 
 fn main(rt: HostRuntime) {
@@ -20,11 +19,7 @@ fn answer_input(rt: &HostRuntime, buffer: &mut [u8], table: &mut [u8])
     requires longest_input_in_bounds { longest_input < length buffer.old }
     requires table_len { length table.old ≡ 30976 }
 {
-    let input = standard::read(rt, buffer);
-    match input {
-        Input::Failed => {}
-        Input::Bytes(count) => {
-            write_answers(rt, &buffer[..count], table);
-        }
+    if let Some(count) = standard::read(rt, buffer) {
+        write_answers(rt, &buffer[..count], table);
     }
 }

@@ -59,14 +59,6 @@ not_below n m h = go (ltb n m) refl
 wrapped : {r a b : ℕ} → r < 2 ^ 64 → b < 2 ^ 64 → a < b → (r + b) % 2 ^ 64 ≡ a → r + b ≡ a + 2 ^ 64
 wrapped h k l e = omega arith
 
--- ════ Zero ════
-
-pub low_zero : (m : Magnitude) → m.high ≡ 0 → eqb m.low 0 ≡ eqb (size m) 0
-low_zero m e = same_eqb m.low 0 (size m) 0 (omega arith) (omega arith)
-
-pub high_nonzero : (m : Magnitude) → (m.high ≡ 0 → ⊥) → eqb (size m) 0 ≡ false
-high_nonzero m e = ne_eqb (size m) 0 (λ t. e (omega arith))
-
 -- ════ Order, sums and differences ════
 
 module _ (a b : Magnitude) where

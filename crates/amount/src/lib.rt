@@ -20,7 +20,7 @@ mod divide;
 mod product;
 
 // An integer of up to 128 bits and a sign: the limbs' number, the least limb first, negated where `negative` is set.
-#[derive(Clone, Copy)]
+#[derive(Clone, Copy, Debug, PartialEq, Eq)]
 pub struct Amount {
     pub negative: bool,
     pub limbs: [u32; 4],
@@ -36,8 +36,7 @@ impl Amount {
     fn magnitude(self) -> Magnitude
         ensures { size result ≡ digits self.limbs }
     {
-        let limbs = self.limbs;
-        magnitude::of_limbs(limbs)
+        magnitude::of_limbs(self.limbs)
     }
 
     // Minus zero is not negative.

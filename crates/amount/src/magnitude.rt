@@ -4,6 +4,8 @@ ghost use Rattle.std.specs.Prelude.{◌≡◌, ◌+◌, ◌-◌, ◌*◌, ◌^�
 ghost use Rattle.amount_limbs.specs.Limbs.{digits};
 ghost use Rattle.amount.specs.Private.{size};
 
+use amount_limbs::halves::Halves;
+
 #[derive(Clone, Copy)]
 pub struct Magnitude {
     pub low: u64,
@@ -19,46 +21,38 @@ pub fn of_u64(n: u64) -> Magnitude
 pub fn of_limbs(limbs: [u32; 4]) -> Magnitude
     ensures { size result ≡ digits limbs }
 {
+    let low = Halves {
+        low: limbs[0],
+        high: limbs[1],
+    };
+    let high = Halves {
+        low: limbs[2],
+        high: limbs[3],
+    };
     Magnitude {
-        low: joined(limbs[0], limbs[1]),
-        high: joined(limbs[2], limbs[3]),
+        low: low.joined(),
+        high: high.joined(),
     }
-}
-
-// A half from its two limbs, the lower one first.
-fn joined(lower: u32, upper: u32) -> u64
-    ensures { result ≡ lower + 4294967296 * upper }
-{
-    lower as u64 + 0x1_0000_0000 * (upper as u64)
 }
 
 pub fn to_limbs(m: Magnitude) -> [u32; 4]
     ensures { digits result ≡ size m }
 {
-    [
-        (m.low % 0x1_0000_0000) as u32,
-        (m.low / 0x1_0000_0000) as u32,
-        (m.high % 0x1_0000_0000) as u32,
-        (m.high / 0x1_0000_0000) as u32,
-    ]
+    let low = Halves::of(m.low);
+    let high = Halves::of(m.high);
+    [low.low, low.high, high.low, high.high]
 }
 
 pub fn is_zero(m: Magnitude) -> bool
     ensures { result ≡ (size m == 0) }
 {
-    if m.high == 0 {
-        return m.low == 0;
-    }
-    false
+    m.high == 0 && m.low == 0
 }
 
 pub fn is_below(a: Magnitude, b: Magnitude) -> bool
     ensures { result ≡ nat_lt (size a) (size b) }
 {
-    if a.high == b.high {
-        return a.low < b.low;
-    }
-    a.high < b.high
+    (a.high, a.low) < (b.high, b.low)
 }
 
 // How much a is above b, and 0 where it is not.

@@ -14,10 +14,8 @@ impl Amount {
         requires { 0 < divisor }
         ensures { Is result (pos (a * b / divisor)) }
     {
-        if a < 0x1_0000_0000 {
-            if b < 0x1_0000_0000 {
-                return Amount::from_u64(a * b / (divisor as u64));
-            }
+        if a < 0x1_0000_0000 && b < 0x1_0000_0000 {
+            return Amount::from_u64(a * b / (divisor as u64));
         }
         let limbs = over(product(a, b), divisor);
         Amount {

@@ -51,10 +51,7 @@ pub fn clamped(negative: bool, m: Magnitude) -> Amount
 fn sum_of_like(negative: bool, a: Magnitude, b: Magnitude) -> Amount
     ensures { Is result (saturated (signed negative (size a) +ℤ signed negative (size b))) }
 {
-    if a.high >= 0x8000_0000_0000_0000 {
-        return limit(negative);
-    }
-    if b.high >= 0x8000_0000_0000_0000 {
+    if a.high >= 0x8000_0000_0000_0000 || b.high >= 0x8000_0000_0000_0000 {
         return limit(negative);
     }
     let low = magnitude::carried_sum(a.low, b.low);

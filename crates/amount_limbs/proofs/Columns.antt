@@ -1,17 +1,11 @@
 -- Products column by column: what a column holds at most, the columns of a number times a limb, and where a number times four limbs stops. Assumes nothing.
 use mathlib.Core.Path.{◌≡◌, sym, subst, ◌∙◌}
 use Prim.Native.Nat.{ℕ, ◌+◌, ◌-◌, ◌*◌, ◌^◌, ◌<◌, ◌≤◌}
-use native.Mathlib.Nat.{le_of_lt, le_trans, min-eq_left, min-eq_right, mul-le-mul, mul-le-mul_left}
+use native.Mathlib.Nat.{le_of_lt, le_trans, min-eq_left, min-eq_right, mul-le-mul_left}
 use native.Mathlib.Omega.{arith}
 use lib.Arith.{digits_lt}
 use lib.Pow.{le_ones, ones_lt}
-use mir.Syntax.{w32}
-use mir.Val.{Fits}
 use Rattle.amount_limbs.specs.Limbs.{saturated_unsigned}
-
--- the largest product of two limbs, which leaves room for two limbs more in 64 bits
-pub column_most : {a b : ℕ} → Fits w32 a → Fits w32 b → a * b ≤ 4294967295 * 4294967295
-column_most {a} {b} f g = mul-le-mul {n₁ = a} {m₁ = b} {n₂ = 4294967295} {m₂ = 4294967295} (omega arith) (omega arith)
 
 -- m is k times n, with s added and c carried in
 pub record Scaled (k n s c m : ℕ) : Type 0 where

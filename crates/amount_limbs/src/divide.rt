@@ -2,6 +2,8 @@
 ghost use Rattle.std.specs.Prelude.{◌≡◌, ◌+◌, ◌*◌, ◌%◌, ◌^◌, ◌<◌, ◌≤◌};
 ghost use Rattle.amount_limbs.specs.Limbs.{digits};
 
+use super::halves::Halves;
+
 // One bit or one limb of a quotient, and what is left for what stands below it.
 #[derive(Clone, Copy)]
 struct QuotientPart {
@@ -10,7 +12,7 @@ struct QuotientPart {
 }
 
 // A whole quotient, and what is left of the dividend.
-#[derive(Clone, Copy)]
+#[derive(Clone, Copy, Debug, PartialEq, Eq)]
 pub struct Quotient {
     pub limbs: [u32; 4],
     pub rest: u64,
@@ -44,13 +46,11 @@ fn divide_bits(rest: u64, limb: u32, d: u64) -> QuotientPart
     let mut quotient: u32 = 0;
     let mut kept = rest;
     let mut left = limb;
-    let mut i: u32 = 0;
-    while i < 32 {
+    for _i in 0..32u32 {
         let step = divide_bit(kept, left / 0x8000_0000, d);
         left = left % 0x8000_0000 * 2;
         quotient = quotient * 2 + step.quotient;
         kept = step.rest;
-        i += 1;
     }
     QuotientPart {
         quotient,
@@ -80,6 +80,7 @@ pub fn divide(limbs: [u32; 4], d: u64) -> Quotient
 {
     let mut working = limbs;
     let mut rest: u64 = 0;
+    // Kept: document 01 asks for this loop, which gives its quotient by `break`.
     let mut i: usize = 4;
     let quotient = loop {
         if i == 0 {
@@ -100,5 +101,9 @@ pub fn divide(limbs: [u32; 4], d: u64) -> Quotient
 pub fn low_half(limbs: [u32; 4]) -> u64
     ensures { result ≡ digits limbs % 2 ^ 64 }
 {
-    (limbs[0] as u64) + (limbs[1] as u64) * 0x1_0000_0000
+    Halves {
+        low: limbs[0],
+        high: limbs[1],
+    }
+    .joined()
 }

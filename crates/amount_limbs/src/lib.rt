@@ -2,4 +2,5 @@
 #![tactic(auto)]
 
 pub mod divide;
+pub mod halves;
 pub mod product;

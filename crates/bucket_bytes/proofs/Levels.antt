@@ -1,24 +1,22 @@
 -- The amounts that the byte bucket's functions compute are those of its definition. Assumes nothing.
 use mathlib.Core.Path.{◌≡◌, refl, sym, ◌∙◌, ap}
 use mathlib.Core.Bool.{Bool, true, false, ◌||◌, cond, true≢false}
-use Prim.Native.Nat.{ℕ, zero, suc, ◌-◌, ◌*◌, ◌%◌, ◌^◌, ◌<◌}
+use Prim.Native.Nat.{ℕ, zero, suc, ◌-◌, ◌^◌, ◌<◌}
 use native.Mathlib.Nat.{min-le_right, min-eq_left, lt_of_lt_of_le}
 use native.Mathlib.Omega.{arith}
-use borrow.Author.Tests.{eq-eqb, ne_eqb, ltb-true, ltb-false}
 use lib.Dec.{eqb, leb, lit≤}
 use lib.IntN.{ℤ, pos, negsuc, ◌+ℤ◌}
 use lib.Signed.{lt_z}
 use Rattle.truths.specs.TruthLaws.{either}
 use Rattle.amount.specs.declared.Amount.{Amount}
-use Rattle.amount_limbs.specs.Limbs.{saturated_unsigned, ceil_div}
-use Rattle.amount.specs.Amount.{value, amount_of, saturated, natural, lesser}
+use Rattle.amount.specs.Amount.{value, amount_of, saturated, lesser}
 use Rattle.amount.specs.Private.{Is}
 use Rattle.amount.specs.AmountLaws.{Whole, saturated_pos}
 use Rattle.amount.specs.AmountOfLaws.{is_amount_of}
 use Rattle.bucket_terms.specs.declared.limit.ByteRateLimitConfig.{ByteRateLimitConfig}
 use Rattle.bucket_bytes.specs.declared.bytes.ByteTokenBucket.{ByteTokenBucket}
 use Rattle.bucket_terms.specs.Limit.{byte_disabled}
-use Rattle.bucket_bytes.specs.ByteBucket.{ms_per_sec, byte_refill}
+use Rattle.bucket_bytes.specs.ByteBucket.{byte_refill}
 
 saturated_twice : (z : ℤ) → saturated (saturated z) ≡ saturated z
 unfolding saturated
@@ -37,21 +35,6 @@ topped available g cap {gain} {sum} {level} h w more added least =
     (rw sum_is at least.stands) ∙ capped (value available +ℤ pos g) cap (lt_of_lt_of_le h (lit≤ tt))
     in
     is_amount_of w (record { stands = level-is; plain = least.plain })
-
--- no deficit, no delay
-pub no_deficit : {d : Amount} {n : ℕ} → Is d (pos n) → lt_z (pos 0) (value d) ≡ false → eqb n 0 ≡ true
-no_deficit {d} {n} h k = eq-eqb n 0 (omega (arith, ltb-false 0 n (rw h.stands at k)))
-
-pub some_deficit : {d : Amount} {n : ℕ} → Is d (pos n) → lt_z (pos 0) (value d) ≡ true → eqb n 0 ≡ false
-some_deficit {d} {n} h k = ne_eqb n 0 (λ e. omega (arith, ltb-true 0 n (rw h.stands at k)))
-
--- the delay of a deficit, from the deficit's milliseconds at a rate of 1
-pub delay_of : (rate : ℕ) {d t : Amount} {n r : ℕ} → Is d (pos n) → Is t (pos (saturated_unsigned (ms_per_sec * natural (value d)))) → r ≡ ceil_div (natural (value t)) rate % 2 ^ 64 → r ≡ ceil_div (saturated_unsigned (ms_per_sec * n)) rate % 18446744073709551616
-delay_of rate {d} {t} {n} {r} h k e = rw h.stands at (rw k.stands at e)
-
--- a test against the amount of a number is one against the number
-pub below_number : (a : Amount) {b : Amount} {n : ℕ} {r t : Bool} → Is b (pos n) → r ≡ lt_z (value a) (value b) → r ≡ t → lt_z (value a) (pos n) ≡ t
-below_number a h e k = ap (λ (z : ℤ). lt_z (value a) z) (sym h.stands) ∙ sym e ∙ k
 
 -- ════ A bucket that is on has a rate, and a refill keeps the settings ════
 

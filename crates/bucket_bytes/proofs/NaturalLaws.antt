@@ -1,10 +1,11 @@
 -- Bytes taken out of a byte bucket that is not in debt, on plain naturals. Assumes nothing.
 use Rattle.std.specs.Prelude.{◌≡◌, false, ℕ, ◌-◌, ◌^◌, ◌<◌, ◌≤◌, min, ltb, ℤ, pos, ◌-ℤ◌}
 use Rattle.std.proofs.Common.{ap, lt_of_le_of_lt, lt_of_lt_of_le, le_of_lt, sub-le, arith, ltb-true, ltb-false, lit≤}
+use Rattle.std.specs.Prelude.{Ok, Err}
+use Rattle.bucket_terms.specs.declared.answer.NotGiven.TheVariants as NotGiven
 use Rattle.truths.specs.TruthLaws.{same_choice}
 use Rattle.amount.specs.Amount.{saturated, natural}
 use Rattle.amount.specs.AmountLaws.{saturated_pos, minus_pos}
-use Rattle.bucket_terms.specs.declared.answer.Consumed.TheVariants as Consumed
 use Rattle.bucket_terms.specs.declared.limit.ByteRateLimitConfig.{ByteRateLimitConfig}
 use Rattle.bucket_terms.specs.Limit.{byte_disabled}
 use Rattle.bucket_bytes.specs.ByteBucket.{byte_level, byte_take, byte_try_consume}
@@ -26,8 +27,8 @@ unfolding byte_take
 take_natural c a last bytes h k =
     rw (value_of a h)
     (same_choice (ltb a bytes)
-    (λ e. ap (λ (n : ℕ). record { bucket = byte_level c (pos a) last; answer = Consumed.No n }) (short a bytes (ltb-true a bytes e) k))
-    (λ e. ap (λ (z : ℤ). record { bucket = byte_level c z last; answer = Consumed.Yes }) (left a bytes (ltb-false a bytes e) h)))
+    (λ e. ap (λ (n : ℕ). record { state = byte_level c (pos a) last; answer = Err (NotGiven.Short n) }) (short a bytes (ltb-true a bytes e) k))
+    (λ e. ap (λ (z : ℤ). record { state = byte_level c z last; answer = Ok tt }) (left a bytes (ltb-false a bytes e) h)))
 
 -- try_consume of a bucket that is on and not in debt
 pub try_consume_natural : (c : ByteRateLimitConfig) (a last bytes now : ℕ) → byte_disabled c ≡ false → a ≤ c.burst_bytes → c.burst_bytes < 2 ^ 64 → bytes < 2 ^ 64 → byte_try_consume (byte_level c (pos a) last) bytes now ≡ natural_take c (refilled_to c.rate_bytes_per_sec c.burst_bytes a last now) (refilled_at last now) bytes

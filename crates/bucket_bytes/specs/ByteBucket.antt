@@ -6,20 +6,18 @@
 -- stands nowhere here: a product of two u64 over 1000 is below 2^127, and the cast keeps it.
 use Rattle.std.specs.Prelude.{◌≡◌, Bool, ◌&&◌, ◌||◌, not, cond, ℕ, ◌-◌, ◌*◌, ◌/◌, ◌%◌, min, leb, eqb, ℤ, pos, ◌+ℤ◌, ◌-ℤ◌}
 use Rattle.std.specs.Int.Signed.{lt_z}
+use Rattle.std.specs.Prelude.{Result, Ok, Err}
+use Rattle.refusal.specs.declared.Refusal.{Refusal}
+use Rattle.bucket_terms.specs.declared.answer.NotGiven.TheVariants as NotGiven
 use Rattle.amount_limbs.specs.Limbs.{saturated_unsigned, ceil_div}
 use Rattle.amount.specs.Amount.{amount_of, value, is_i128, saturated, natural, lesser}
-use Rattle.refusal.specs.Refusal.{unsound}
-use Rattle.bucket_terms.specs.declared.answer.Refilled.TheVariants as Refilled
-use Rattle.bucket_terms.specs.declared.answer.Consumed.TheVariants as Consumed
-use Rattle.bucket_terms.specs.declared.answer.Delay.{Delay}
-use Rattle.bucket_terms.specs.declared.answer.Told.{Told}
 use Rattle.bucket_terms.specs.declared.limit.ByteRateLimitConfig.{ByteRateLimitConfig}
 use Rattle.bucket_terms.specs.Answers.{told}
 use Rattle.bucket_terms.specs.Limit.{byte_disabled}
 use Rattle.bucket_bytes.specs.declared.bytes.ByteTokenBucket.{ByteTokenBucket}
-use Rattle.bucket_bytes.specs.declared.bytes.ByteRefilled.{ByteRefilled}
-use Rattle.bucket_bytes.specs.declared.bytes.ByteConsumed.{ByteConsumed}
-use Rattle.bucket_bytes.specs.declared.bytes.ByteReserved.{ByteReserved}
+use Rattle.bucket_bytes.specs.Handed.{ByteRefilled}
+use Rattle.bucket_bytes.specs.Handed.{ByteConsumed}
+use Rattle.bucket_bytes.specs.Handed.{ByteReserved}
 
 -- times are milliseconds, and the rate counts bytes in a second
 abbrev pub ms_per_sec : ℕ
@@ -59,13 +57,13 @@ byte_taken b bytes =
 unfoldable pub byte_take : ByteTokenBucket → ℕ → ByteConsumed
 byte_take b bytes =
     cond (lt_z (value b.available_bytes) (pos bytes))
-    (record { bucket = b; answer = Consumed.No (min (byte_deficit b bytes) 18446744073709551615) })
-    (record { bucket = byte_taken b bytes; answer = Consumed.Yes })
+    (record { state = b; answer = Err (NotGiven.Short (min (byte_deficit b bytes) 18446744073709551615)) })
+    (record { state = byte_taken b bytes; answer = Ok tt })
 
 -- try_consume: a bucket that is off says yes
 unfoldable pub byte_try_consume : ByteTokenBucket → ℕ → ℕ → ByteConsumed
 byte_try_consume b bytes now =
-    cond (byte_disabled b.config) (record { bucket = b; answer = Consumed.Yes }) (byte_take (byte_refill b now) bytes)
+    cond (byte_disabled b.config) (record { state = b; answer = Ok tt }) (byte_take (byte_refill b now) bytes)
 
 -- peek_delay: the deficit's milliseconds at the rate, ROUNDED UP, then CUT to the low 64 bits as the Rust's `as u64` cuts them
 abbrev pub byte_peek_delay : ByteTokenBucket → ℕ → ℕ
@@ -75,12 +73,12 @@ byte_peek_delay b bytes =
 
 -- a refilled bucket that promises bytes: the delay, then the charge
 abbrev pub byte_promised : ByteTokenBucket → ℕ → ByteReserved
-byte_promised b bytes = record { bucket = byte_taken b bytes; answer = Delay.Wait (byte_peek_delay b bytes) }
+byte_promised b bytes = record { state = byte_taken b bytes; answer = Ok (byte_peek_delay b bytes) }
 
 -- reserve
 unfoldable pub byte_reserve : ByteTokenBucket → ℕ → ℕ → ByteReserved
 byte_reserve b bytes now =
-    cond (byte_disabled b.config) (record { bucket = b; answer = Delay.Wait 0 }) (byte_promised (byte_refill b now) bytes)
+    cond (byte_disabled b.config) (record { state = b; answer = Ok 0 }) (byte_promised (byte_refill b now) bytes)
 
 -- peek_delay_after_refill: the Rust repeats the lines of refill and peek_delay here
 unfoldable pub byte_peek_delay_after_refill : ByteTokenBucket → ℕ → ℕ → ℕ
@@ -108,27 +106,27 @@ unfoldable pub ByteRefillMeets : ByteTokenBucket → ℕ → ByteRefilled → Ty
 ByteRefillMeets b now r =
     r
     ≡ cond (byte_sound b)
-    (record { bucket = byte_refill b now; answer = Refilled.Done })
-    (record { bucket = b; answer = Refilled.Refused unsound })
+    (record { state = byte_refill b now; answer = Ok tt })
+    (record { state = b; answer = Err Refusal.Unsound })
 
 unfoldable pub ByteTryConsumeMeets : ByteTokenBucket → ℕ → ℕ → ByteConsumed → Type 0
 ByteTryConsumeMeets b bytes now r =
-    r ≡ cond (byte_sound b) (byte_try_consume b bytes now) (record { bucket = b; answer = Consumed.Refused unsound })
+    r ≡ cond (byte_sound b) (byte_try_consume b bytes now) (record { state = b; answer = Err (NotGiven.Refused Refusal.Unsound) })
 
 unfoldable pub ByteReserveMeets : ByteTokenBucket → ℕ → ℕ → ByteReserved → Type 0
 ByteReserveMeets b bytes now r =
-    r ≡ cond (byte_sound b) (byte_reserve b bytes now) (record { bucket = b; answer = Delay.Refused unsound })
+    r ≡ cond (byte_sound b) (byte_reserve b bytes now) (record { state = b; answer = Err Refusal.Unsound })
 
-unfoldable pub BytePeekDelayMeets : ByteTokenBucket → ℕ → ℕ → Delay → Type 0
+unfoldable pub BytePeekDelayMeets : ByteTokenBucket → ℕ → ℕ → Result ℕ Refusal → Type 0
 BytePeekDelayMeets b bytes now r =
-    r ≡ cond (byte_sound b) (Delay.Wait (byte_peek_delay_after_refill b bytes now)) (Delay.Refused unsound)
+    r ≡ cond (byte_sound b) (Ok (byte_peek_delay_after_refill b bytes now)) (Err Refusal.Unsound)
 
 unfoldable pub ByteRefundMeets : ByteTokenBucket → ℕ → ℕ → ByteRefilled → Type 0
 ByteRefundMeets b bytes now r =
     r
     ≡ cond (byte_sound b)
-    (record { bucket = byte_refund b bytes now; answer = Refilled.Done })
-    (record { bucket = b; answer = Refilled.Refused unsound })
+    (record { state = byte_refund b bytes now; answer = Ok tt })
+    (record { state = b; answer = Err Refusal.Unsound })
 
-unfoldable pub ByteHasDebtMeets : ByteTokenBucket → ℕ → Told → Type 0
-ByteHasDebtMeets b now r = r ≡ cond (byte_sound b) (told (byte_has_debt b now)) (Told.Refused unsound)
+unfoldable pub ByteHasDebtMeets : ByteTokenBucket → ℕ → Result Bool Refusal → Type 0
+ByteHasDebtMeets b now r = r ≡ cond (byte_sound b) (told (byte_has_debt b now)) (Err Refusal.Unsound)

@@ -2,20 +2,19 @@
 -- Assumes nothing.
 use Rattle.std.specs.Prelude.{◌≡◌, Bool, true, ℕ, min}
 use Rattle.std.proofs.Common.{arith}
+use Rattle.std.specs.Prelude.{Result, Ok, Err}
+use Rattle.refusal.specs.declared.Refusal.{Refusal}
+use Rattle.bucket_terms.specs.declared.answer.NotGiven.TheVariants as NotGiven
 use Rattle.refusal.specs.OneOutcomeLaws.{one_outcome}
-use Rattle.bucket_terms.specs.declared.answer.Refilled.{Refilled}
-use Rattle.bucket_terms.specs.declared.answer.Consumed.{Consumed}
-use Rattle.bucket_terms.specs.declared.answer.Delay.{Delay}
-use Rattle.bucket_terms.specs.declared.answer.Told.{Told}
 use Rattle.bucket_terms.specs.declared.limit.ByteRateLimitConfig.{ByteRateLimitConfig}
 use Rattle.bucket_terms.specs.Answers.{told}
 use Rattle.bucket_terms.specs.AnswersLaws.{refused_leaves, neither_refuses}
 use Rattle.bucket_terms.specs.Limit.{byte_disabled}
 use Rattle.bucket_terms.specs.LimitLaws.{byte_limit_is_disabled_outcome}
 use Rattle.bucket_bytes.specs.declared.bytes.ByteTokenBucket.{ByteTokenBucket}
-use Rattle.bucket_bytes.specs.declared.bytes.ByteRefilled.{ByteRefilled}
-use Rattle.bucket_bytes.specs.declared.bytes.ByteConsumed.{ByteConsumed}
-use Rattle.bucket_bytes.specs.declared.bytes.ByteReserved.{ByteReserved}
+use Rattle.bucket_bytes.specs.Handed.{ByteRefilled}
+use Rattle.bucket_bytes.specs.Handed.{ByteConsumed}
+use Rattle.bucket_bytes.specs.Handed.{ByteReserved}
 use Rattle.bucket_bytes.specs.ByteBucket.{byte_sound, byte_new, byte_refill, byte_deficit, byte_taken, byte_take, byte_try_consume, byte_reserve, byte_peek_delay_after_refill, byte_refund, byte_has_debt}
 use Rattle.bucket_bytes.specs.ByteBucket.{ByteRefillMeets, ByteTryConsumeMeets, ByteReserveMeets, BytePeekDelayMeets, ByteRefundMeets, ByteHasDebtMeets}
 
@@ -36,7 +35,7 @@ pub byte_reserve_outcome : (b : ByteTokenBucket) (bytes now : ℕ) {r q : ByteRe
 unfolding ByteReserveMeets
 byte_reserve_outcome b bytes now = one_outcome
 
-pub byte_peek_delay_outcome : (b : ByteTokenBucket) (bytes now : ℕ) {r q : Delay} → BytePeekDelayMeets b bytes now r → BytePeekDelayMeets b bytes now q → r ≡ q
+pub byte_peek_delay_outcome : (b : ByteTokenBucket) (bytes now : ℕ) {r q : Result ℕ Refusal} → BytePeekDelayMeets b bytes now r → BytePeekDelayMeets b bytes now q → r ≡ q
 unfolding BytePeekDelayMeets
 byte_peek_delay_outcome b bytes now = one_outcome
 
@@ -44,7 +43,7 @@ pub byte_refund_outcome : (b : ByteTokenBucket) (bytes now : ℕ) {r q : ByteRef
 unfolding ByteRefundMeets
 byte_refund_outcome b bytes now = one_outcome
 
-pub byte_has_debt_outcome : (b : ByteTokenBucket) (now : ℕ) {r q : Told} → ByteHasDebtMeets b now r → ByteHasDebtMeets b now q → r ≡ q
+pub byte_has_debt_outcome : (b : ByteTokenBucket) (now : ℕ) {r q : Result Bool Refusal} → ByteHasDebtMeets b now r → ByteHasDebtMeets b now q → r ≡ q
 unfolding ByteHasDebtMeets
 byte_has_debt_outcome b now = one_outcome
 
@@ -56,7 +55,7 @@ byte_is_disabled_outcome b = byte_limit_is_disabled_outcome b.config
 
 -- ════ A sound bucket is never refused ════
 
-pub byte_refill_sound : (b : ByteTokenBucket) (now : ℕ) {r : ByteRefilled} → byte_sound b ≡ true → ByteRefillMeets b now r → r ≡ record { bucket = byte_refill b now; answer = Refilled.Done }
+pub byte_refill_sound : (b : ByteTokenBucket) (now : ℕ) {r : ByteRefilled} → byte_sound b ≡ true → ByteRefillMeets b now r → r ≡ record { state = byte_refill b now; answer = Ok tt }
 unfolding ByteRefillMeets
 byte_refill_sound b now h e = rw h at e
 
@@ -68,63 +67,63 @@ pub byte_reserve_sound : (b : ByteTokenBucket) (bytes now : ℕ) {r : ByteReserv
 unfolding ByteReserveMeets
 byte_reserve_sound b bytes now h e = rw h at e
 
-pub byte_peek_delay_sound : (b : ByteTokenBucket) (bytes now : ℕ) {r : Delay} → byte_sound b ≡ true → BytePeekDelayMeets b bytes now r → r ≡ Delay.Wait (byte_peek_delay_after_refill b bytes now)
+pub byte_peek_delay_sound : (b : ByteTokenBucket) (bytes now : ℕ) {r : Result ℕ Refusal} → byte_sound b ≡ true → BytePeekDelayMeets b bytes now r → r ≡ Ok (byte_peek_delay_after_refill b bytes now)
 unfolding BytePeekDelayMeets
 byte_peek_delay_sound b bytes now h e = rw h at e
 
-pub byte_refund_sound : (b : ByteTokenBucket) (bytes now : ℕ) {r : ByteRefilled} → byte_sound b ≡ true → ByteRefundMeets b bytes now r → r ≡ record { bucket = byte_refund b bytes now; answer = Refilled.Done }
+pub byte_refund_sound : (b : ByteTokenBucket) (bytes now : ℕ) {r : ByteRefilled} → byte_sound b ≡ true → ByteRefundMeets b bytes now r → r ≡ record { state = byte_refund b bytes now; answer = Ok tt }
 unfolding ByteRefundMeets
 byte_refund_sound b bytes now h e = rw h at e
 
-pub byte_has_debt_sound : (b : ByteTokenBucket) (now : ℕ) {r : Told} → byte_sound b ≡ true → ByteHasDebtMeets b now r → r ≡ told (byte_has_debt b now)
+pub byte_has_debt_sound : (b : ByteTokenBucket) (now : ℕ) {r : Result Bool Refusal} → byte_sound b ≡ true → ByteHasDebtMeets b now r → r ≡ told (byte_has_debt b now)
 unfolding ByteHasDebtMeets
 byte_has_debt_sound b now h e = rw h at e
 
 -- ════ A refusal leaves the bucket ════
 
-pub byte_refill_refused : (b : ByteTokenBucket) (now : ℕ) {r : ByteRefilled} {n : ℕ} → ByteRefillMeets b now r → r.answer ≡ Refilled.Refused n → r.bucket ≡ b
+pub byte_refill_refused : (b : ByteTokenBucket) (now : ℕ) {r : ByteRefilled} {n : Refusal} → ByteRefillMeets b now r → r.answer ≡ Err n → r.state ≡ b
 unfolding ByteRefillMeets
 byte_refill_refused b now e k =
-    refused_leaves (λ (t : ByteRefilled). t.bucket) (λ (t : ByteRefilled). t.answer) (byte_sound b) e k
+    refused_leaves (λ (t : ByteRefilled). t.state) (λ (t : ByteRefilled). t.answer) (byte_sound b) e k
     (λ d. let z : ◌≡◌ {A = ℕ} 0 1 = cc in omega arith)
 
-pub byte_refund_refused : (b : ByteTokenBucket) (bytes now : ℕ) {r : ByteRefilled} {n : ℕ} → ByteRefundMeets b bytes now r → r.answer ≡ Refilled.Refused n → r.bucket ≡ b
+pub byte_refund_refused : (b : ByteTokenBucket) (bytes now : ℕ) {r : ByteRefilled} {n : Refusal} → ByteRefundMeets b bytes now r → r.answer ≡ Err n → r.state ≡ b
 unfolding ByteRefundMeets
 byte_refund_refused b bytes now e k =
-    refused_leaves (λ (t : ByteRefilled). t.bucket) (λ (t : ByteRefilled). t.answer) (byte_sound b) e k
+    refused_leaves (λ (t : ByteRefilled). t.state) (λ (t : ByteRefilled). t.answer) (byte_sound b) e k
     (λ d. let z : ◌≡◌ {A = ℕ} 0 1 = cc in omega arith)
 
-take_refuses_none : (b : ByteTokenBucket) (bytes : ℕ) {n : ℕ} → (byte_take b bytes).answer ≡ Consumed.Refused n → ⊥
+take_refuses_none : (b : ByteTokenBucket) (bytes : ℕ) {n : Refusal} → (byte_take b bytes).answer ≡ Err (NotGiven.Refused n) → ⊥
 unfolding byte_take
 take_refuses_none b bytes =
     neither_refuses (λ (t : ByteConsumed). t.answer) _
-    (record { bucket = b; answer = Consumed.No (min (byte_deficit b bytes) 18446744073709551615) })
-    (record { bucket = byte_taken b bytes; answer = Consumed.Yes })
+    (record { state = b; answer = Err (NotGiven.Short (min (byte_deficit b bytes) 18446744073709551615)) })
+    (record { state = byte_taken b bytes; answer = Ok tt })
     (λ e. let z : ◌≡◌ {A = ℕ} 0 1 = cc in omega arith)
     (λ e. let z : ◌≡◌ {A = ℕ} 0 1 = cc in omega arith)
 
-try_consume_refuses_none : (b : ByteTokenBucket) (bytes now : ℕ) {n : ℕ} → (byte_try_consume b bytes now).answer ≡ Consumed.Refused n → ⊥
+try_consume_refuses_none : (b : ByteTokenBucket) (bytes now : ℕ) {n : Refusal} → (byte_try_consume b bytes now).answer ≡ Err (NotGiven.Refused n) → ⊥
 unfolding byte_try_consume
 try_consume_refuses_none b bytes now =
     neither_refuses (λ (t : ByteConsumed). t.answer) (byte_disabled b.config) _ _
     (λ e. let z : ◌≡◌ {A = ℕ} 0 1 = cc in omega arith)
     (take_refuses_none (byte_refill b now) bytes)
 
-pub byte_try_consume_refused : (b : ByteTokenBucket) (bytes now : ℕ) {r : ByteConsumed} {n : ℕ} → ByteTryConsumeMeets b bytes now r → r.answer ≡ Consumed.Refused n → r.bucket ≡ b
+pub byte_try_consume_refused : (b : ByteTokenBucket) (bytes now : ℕ) {r : ByteConsumed} {n : Refusal} → ByteTryConsumeMeets b bytes now r → r.answer ≡ Err (NotGiven.Refused n) → r.state ≡ b
 unfolding ByteTryConsumeMeets
 byte_try_consume_refused b bytes now e k =
-    refused_leaves (λ (t : ByteConsumed). t.bucket) (λ (t : ByteConsumed). t.answer) (byte_sound b) e k
+    refused_leaves (λ (t : ByteConsumed). t.state) (λ (t : ByteConsumed). t.answer) (byte_sound b) e k
     (try_consume_refuses_none b bytes now)
 
-reserve_refuses_none : (b : ByteTokenBucket) (bytes now : ℕ) {n : ℕ} → (byte_reserve b bytes now).answer ≡ Delay.Refused n → ⊥
+reserve_refuses_none : (b : ByteTokenBucket) (bytes now : ℕ) {n : Refusal} → (byte_reserve b bytes now).answer ≡ Err n → ⊥
 unfolding byte_reserve
 reserve_refuses_none b bytes now =
     neither_refuses (λ (t : ByteReserved). t.answer) (byte_disabled b.config) _ _
     (λ e. let z : ◌≡◌ {A = ℕ} 0 1 = cc in omega arith)
     (λ e. let z : ◌≡◌ {A = ℕ} 0 1 = cc in omega arith)
 
-pub byte_reserve_refused : (b : ByteTokenBucket) (bytes now : ℕ) {r : ByteReserved} {n : ℕ} → ByteReserveMeets b bytes now r → r.answer ≡ Delay.Refused n → r.bucket ≡ b
+pub byte_reserve_refused : (b : ByteTokenBucket) (bytes now : ℕ) {r : ByteReserved} {n : Refusal} → ByteReserveMeets b bytes now r → r.answer ≡ Err n → r.state ≡ b
 unfolding ByteReserveMeets
 byte_reserve_refused b bytes now e k =
-    refused_leaves (λ (t : ByteReserved). t.bucket) (λ (t : ByteReserved). t.answer) (byte_sound b) e k
+    refused_leaves (λ (t : ByteReserved). t.state) (λ (t : ByteReserved). t.answer) (byte_sound b) e k
     (reserve_refuses_none b bytes now)

@@ -14,7 +14,7 @@ use Rattle.amount.specs.AmountOfLaws.{magnitude, amount_of_is}
 use Rattle.bucket_terms.specs.declared.limit.ByteRateLimitConfig.{ByteRateLimitConfig}
 use Rattle.bucket_terms.specs.Limit.{byte_disabled}
 use Rattle.bucket_bytes.specs.declared.bytes.ByteTokenBucket.{ByteTokenBucket}
-use Rattle.bucket_bytes.specs.declared.bytes.ByteConsumed.{ByteConsumed}
+use Rattle.bucket_bytes.specs.Handed.{ByteConsumed}
 use Rattle.bucket_bytes.specs.ByteBucket.{ms_per_sec, byte_sound, byte_level, byte_new, byte_refill, byte_taken, byte_take, byte_try_consume, byte_reserve, byte_given_back, byte_refund}
 
 by_cases : {B : Type 0} (t : Bool) → (t ≡ true → B) → (t ≡ false → B) → B
@@ -108,7 +108,7 @@ left_left (level z last e s) (as_it_was f) = level z last (f ∙ e) (rw f s)
 left_left (level y first e s) (level z last f t) = level z last (f ∙ ap (λ (x : ByteTokenBucket). byte_level x.config z last) e) t
 
 -- one of two, whichever it is
-either_left : {b : ByteTokenBucket} (t : Bool) (x y : ByteConsumed) → Left b x.bucket → Left b y.bucket → Left b (cond t x y).bucket
+either_left : {b : ByteTokenBucket} (t : Bool) (x y : ByteConsumed) → Left b x.state → Left b y.state → Left b (cond t x y).state
 either_left true x y h k = h
 either_left false x y h k = k
 
@@ -150,7 +150,7 @@ module _ (b : ByteTokenBucket) (sound : byte_sound b ≡ true) where
       (level_sound b.config (saturated z) b.last_refill_ms (saturated_in_range z)
       (taken_within (value b.available_bytes) b.config.burst_bytes bytes (sound_within b sound)))
 
-  take_left : (bytes : ℕ) → Left b (byte_take b bytes).bucket
+  take_left : (bytes : ℕ) → Left b (byte_take b bytes).state
   unfolding byte_take
   take_left bytes = either_left _ _ _ (as_it_was refl) (taken_left bytes)
 
@@ -161,13 +161,13 @@ module _ (b : ByteTokenBucket) (fits : b.config.burst_bytes < 2 ^ 64) (sound : b
   refilled_fits : (now : ℕ) → (byte_refill b now).config.burst_bytes < 2 ^ 64
   refilled_fits now = rw (left_config (refill_left b fits now)) fits
 
-  pub try_consume_left : (bytes now : ℕ) → Left b (byte_try_consume b bytes now).bucket
+  pub try_consume_left : (bytes now : ℕ) → Left b (byte_try_consume b bytes now).state
   unfolding byte_try_consume
   try_consume_left bytes now =
       by_cases (byte_disabled b.config) (λ t. as_it_was (rw t))
       (λ t. rw t (left_left (refill_left b fits now) (take_left (byte_refill b now) (refilled_sound now) bytes)))
 
-  pub reserve_left : (bytes now : ℕ) → Left b (byte_reserve b bytes now).bucket
+  pub reserve_left : (bytes now : ℕ) → Left b (byte_reserve b bytes now).state
   unfolding byte_reserve
   reserve_left bytes now =
       by_cases (byte_disabled b.config) (λ t. as_it_was (rw t))
@@ -182,10 +182,10 @@ module _ (b : ByteTokenBucket) (fits : b.config.burst_bytes < 2 ^ 64) (sound : b
   pub byte_refill_stays_sound : (now : ℕ) → byte_sound (byte_refill b now) ≡ true
   byte_refill_stays_sound = refilled_sound
 
-  pub byte_try_consume_stays_sound : (bytes now : ℕ) → byte_sound (byte_try_consume b bytes now).bucket ≡ true
+  pub byte_try_consume_stays_sound : (bytes now : ℕ) → byte_sound (byte_try_consume b bytes now).state ≡ true
   byte_try_consume_stays_sound bytes now = left_sound sound (try_consume_left bytes now)
 
-  pub byte_reserve_stays_sound : (bytes now : ℕ) → byte_sound (byte_reserve b bytes now).bucket ≡ true
+  pub byte_reserve_stays_sound : (bytes now : ℕ) → byte_sound (byte_reserve b bytes now).state ≡ true
   byte_reserve_stays_sound bytes now = left_sound sound (reserve_left bytes now)
 
   pub byte_refund_stays_sound : (bytes now : ℕ) → byte_sound (byte_refund b bytes now) ≡ true

@@ -1,4 +1,5 @@
 pub mod ByteBucket
+pub mod Handed
 pub mod Natural
 pub mod NaturalLaws
 pub mod ByteBucketLaws

@@ -1,9 +1,10 @@
 -- A byte bucket that is not in debt, as a peer's never is, on plain naturals. Definitions only; that they are the bucket's own is
 -- proved in `NaturalLaws`.
 use Rattle.std.specs.Prelude.{cond, ℕ, ◌+◌, ◌-◌, ◌*◌, ◌/◌, min, leb, ltb, pos}
-use Rattle.bucket_terms.specs.declared.answer.Consumed.TheVariants as Consumed
+use Rattle.std.specs.Prelude.{Ok, Err}
+use Rattle.bucket_terms.specs.declared.answer.NotGiven.TheVariants as NotGiven
 use Rattle.bucket_terms.specs.declared.limit.ByteRateLimitConfig.{ByteRateLimitConfig}
-use Rattle.bucket_bytes.specs.declared.bytes.ByteConsumed.{ByteConsumed}
+use Rattle.bucket_bytes.specs.Handed.{ByteConsumed}
 use Rattle.bucket_bytes.specs.ByteBucket.{ms_per_sec, byte_level}
 
 -- what is available after a refill at a time
@@ -19,5 +20,5 @@ refilled_at last now = cond (leb now last) last now
 abbrev pub natural_take : ByteRateLimitConfig → ℕ → ℕ → ℕ → ByteConsumed
 natural_take c a last bytes =
     cond (ltb a bytes)
-    (record { bucket = byte_level c (pos a) last; answer = Consumed.No (bytes - a) })
-    (record { bucket = byte_level c (pos (a - bytes)) last; answer = Consumed.Yes })
+    (record { state = byte_level c (pos a) last; answer = Err (NotGiven.Short (bytes - a)) })
+    (record { state = byte_level c (pos (a - bytes)) last; answer = Ok tt })

@@ -4,14 +4,14 @@
 -- the capacity at once, and that is a u32 itself: the sum and the saturated sum are cut to the same. `last_refill_ms` never passes
 -- now_ms, so its sum, and the product in it, never reach the bound.
 use Rattle.std.specs.Prelude.{◌≡◌, Bool, ◌||◌, cond, ℕ, ◌+◌, ◌-◌, ◌*◌, ◌/◌, ◌%◌, min, leb, eqb}
-use Rattle.refusal.specs.Refusal.{unsound}
-use Rattle.bucket_terms.specs.declared.answer.Refilled.TheVariants as Refilled
-use Rattle.bucket_terms.specs.declared.answer.Consumed.TheVariants as Consumed
-use Rattle.bucket_terms.specs.declared.answer.Told.{Told}
+use Rattle.std.specs.Prelude.{Result, Ok, Err}
+use Rattle.refusal.specs.declared.Refusal.{Refusal}
+use Rattle.refusal.specs.declared.Refusal.TheVariants as Refusal
+use Rattle.bucket_terms.specs.declared.answer.NotGiven.TheVariants as NotGiven
 use Rattle.bucket_terms.specs.Answers.{told}
 use Rattle.bucket_discrete.specs.declared.discrete.DiscreteTokenBucket.{DiscreteTokenBucket}
-use Rattle.bucket_discrete.specs.declared.discrete.DiscreteRefilled.{DiscreteRefilled}
-use Rattle.bucket_discrete.specs.declared.discrete.DiscreteConsumed.{DiscreteConsumed}
+use Rattle.bucket_discrete.specs.Handed.{DiscreteRefilled}
+use Rattle.bucket_discrete.specs.Handed.{DiscreteConsumed}
 
 -- never more available than the capacity
 abbrev pub discrete_sound : DiscreteTokenBucket → Bool
@@ -55,8 +55,8 @@ discrete_taken b =
 unfoldable pub discrete_take : DiscreteTokenBucket → DiscreteConsumed
 discrete_take b =
     cond (eqb b.available 0)
-    (record { bucket = b; answer = Consumed.No 1 })
-    (record { bucket = discrete_taken b; answer = Consumed.Yes })
+    (record { state = b; answer = Err (NotGiven.Short 1) })
+    (record { state = discrete_taken b; answer = Ok tt })
 
 -- try_consume: not bypassed where interval or capacity is 0
 unfoldable pub discrete_try_consume : DiscreteTokenBucket → ℕ → DiscreteConsumed
@@ -73,12 +73,12 @@ unfoldable pub DiscreteRefillMeets : DiscreteTokenBucket → ℕ → DiscreteRef
 DiscreteRefillMeets b now r =
     r
     ≡ cond (discrete_sound b)
-    (record { bucket = discrete_refill b now; answer = Refilled.Done })
-    (record { bucket = b; answer = Refilled.Refused unsound })
+    (record { state = discrete_refill b now; answer = Ok tt })
+    (record { state = b; answer = Err Refusal.Unsound })
 
 unfoldable pub DiscreteTryConsumeMeets : DiscreteTokenBucket → ℕ → DiscreteConsumed → Type 0
 DiscreteTryConsumeMeets b now r =
-    r ≡ cond (discrete_sound b) (discrete_try_consume b now) (record { bucket = b; answer = Consumed.Refused unsound })
+    r ≡ cond (discrete_sound b) (discrete_try_consume b now) (record { state = b; answer = Err (NotGiven.Refused Refusal.Unsound) })
 
-unfoldable pub DiscreteIsFullMeets : DiscreteTokenBucket → Told → Type 0
-DiscreteIsFullMeets b r = r ≡ cond (discrete_sound b) (told (discrete_is_full b)) (Told.Refused unsound)
+unfoldable pub DiscreteIsFullMeets : DiscreteTokenBucket → Result Bool Refusal → Type 0
+DiscreteIsFullMeets b r = r ≡ cond (discrete_sound b) (told (discrete_is_full b)) (Err Refusal.Unsound)

@@ -4,7 +4,7 @@ use Rattle.std.specs.Prelude.{◌≡◌, refl, ◌||◌, ℕ, ◌+◌, ◌-◌, 
 use Rattle.std.proofs.Common.{arith}
 use Rattle.truths.specs.TruthLaws.{either}
 use Rattle.bucket_discrete.specs.declared.discrete.DiscreteTokenBucket.{DiscreteTokenBucket}
-use Rattle.bucket_discrete.specs.declared.discrete.DiscreteConsumed.{DiscreteConsumed}
+use Rattle.bucket_discrete.specs.Handed.{DiscreteConsumed}
 use Rattle.bucket_discrete.specs.DiscreteBucket.{discrete_refill, discrete_take}
 use Rattle.bucket_discrete.specs.ElapsedLaws.{counted_within_elapsed}
 
@@ -44,9 +44,9 @@ pub record Takes (b r : DiscreteTokenBucket) : Type 0 where
   pub level : r.available ≤ b.available
   pub last : r.last_refill_ms ≡ b.last_refill_ms
 
-pub takes : (b : DiscreteTokenBucket) → Takes b (discrete_take b).bucket
+pub takes : (b : DiscreteTokenBucket) → Takes b (discrete_take b).state
 unfolding discrete_take
 takes b =
-    either (λ (r : DiscreteConsumed). Takes b r.bucket) (eqb b.available 0)
+    either (λ (r : DiscreteConsumed). Takes b r.state) (eqb b.available 0)
     (record { same_interval = refl; same_capacity = refl; level = omega arith; last = refl })
     (record { same_interval = refl; same_capacity = refl; level = omega arith; last = refl })

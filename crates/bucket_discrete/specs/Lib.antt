@@ -1,4 +1,5 @@
 pub mod DiscreteBucket
 pub mod DiscreteBucketLaws
 pub mod ElapsedLaws
+pub mod Handed
 pub mod LevelLaws

@@ -1,11 +1,13 @@
 // The bucket that counts messages: a token for each interval that passes, up to its capacity.
-ghost use Rattle.std.specs.Prelude.{◌≡◌, ℕ, ◌+◌, ◌≤◌, min};
-ghost use Rattle.bucket_discrete.specs.DiscreteBucket.{discrete_new, discrete_refill, discrete_take};
+ghost use Rattle.std.specs.Prelude.{◌≡◌, cond, Ok, Err};
+ghost use Rattle.refusal.specs.declared.Refusal.TheVariants as Refusal;
+ghost use Rattle.bucket_discrete.specs.DiscreteBucket.{discrete_sound, discrete_new, discrete_refill, discrete_take};
 ghost use Rattle.bucket_discrete.specs.DiscreteBucket.{DiscreteRefillMeets, DiscreteTryConsumeMeets, DiscreteIsFullMeets};
 
-use bucket_terms::answer::{Consumed, Refilled, Told};
+use bucket_terms::answer::NotGiven;
+use refusal::{Answered, Refusal};
 
-#[derive(Clone, Copy)]
+#[derive(Clone, Copy, Debug, PartialEq, Eq)]
 pub struct DiscreteTokenBucket {
     pub interval_ms: u64,
     pub capacity: u32,
@@ -13,17 +15,9 @@ pub struct DiscreteTokenBucket {
     pub last_refill_ms: u64,
 }
 
-#[derive(Clone, Copy)]
-pub struct DiscreteRefilled {
-    pub bucket: DiscreteTokenBucket,
-    pub answer: Refilled,
-}
+pub type DiscreteRefilled = Answered<DiscreteTokenBucket, Result<(), Refusal>>;
 
-#[derive(Clone, Copy)]
-pub struct DiscreteConsumed {
-    pub bucket: DiscreteTokenBucket,
-    pub answer: Consumed,
-}
+pub type DiscreteConsumed = Answered<DiscreteTokenBucket, Result<(), NotGiven>>;
 
 impl DiscreteTokenBucket {
     // When a fresh bucket was last refilled.
@@ -42,99 +36,88 @@ impl DiscreteTokenBucket {
     }
 
     // The bucket at a time: a token more for each interval that has passed (the low 32 bits of their number), up to its capacity.
+    #[tactic(auto, unfolding(crate::specs::DiscreteBucket::DiscreteRefillMeets))]
     pub fn refill(self, now_ms: u64) -> DiscreteRefilled
         ensures { DiscreteRefillMeets self now_ms result }
     {
-        if self.available > self.capacity {
-            return DiscreteRefilled {
-                bucket: self,
-                answer: Refilled::Refused(refusal::UNSOUND),
+        if let Err(refusal) = self.judged() {
+            return Answered {
+                state: self,
+                answer: Err(refusal),
             };
         }
-        DiscreteRefilled {
-            bucket: refilled(self, now_ms),
-            answer: Refilled::Done,
+        Answered {
+            state: self.refilled(now_ms),
+            answer: Ok(()),
         }
     }
 
     // Takes one token if there is one. A no keeps the refill.
+    #[tactic(auto, unfolding(crate::specs::DiscreteBucket::DiscreteTryConsumeMeets, crate::specs::DiscreteBucket::discrete_try_consume))]
     pub fn try_consume(self, now_ms: u64) -> DiscreteConsumed
         ensures { DiscreteTryConsumeMeets self now_ms result }
     {
-        if self.available > self.capacity {
-            return DiscreteConsumed {
-                bucket: self,
-                answer: Consumed::Refused(refusal::UNSOUND),
+        if let Err(refusal) = self.judged() {
+            return Answered {
+                state: self,
+                answer: Err(refusal.into()),
             };
         }
-        take(refilled(self, now_ms))
+        self.refilled(now_ms).take()
     }
 
     // Whether no token is missing.
-    pub fn is_full(self) -> Told
+    #[tactic(auto, unfolding(crate::specs::DiscreteBucket::DiscreteIsFullMeets))]
+    pub fn is_full(self) -> Result<bool, Refusal>
         ensures { DiscreteIsFullMeets self result }
     {
+        self.judged()?;
+        Ok(self.available == self.capacity)
+    }
+
+    fn judged(self) -> Result<(), Refusal>
+        ensures { result ≡ cond (discrete_sound self) (Ok tt) (Err Refusal.Unsound) }
+    {
         if self.available > self.capacity {
-            return Told::Refused(refusal::UNSOUND);
+            return Err(Refusal::Unsound);
         }
-        if self.available == self.capacity {
-            return Told::Yes;
+        Ok(())
+    }
+
+    #[tactic(auto, unfolding(crate::specs::DiscreteBucket::discrete_refill))]
+    fn refilled(self, now_ms: u64) -> DiscreteTokenBucket
+        ensures { result ≡ discrete_refill self now_ms }
+    {
+        if self.interval_ms == 0 || self.capacity == 0 || now_ms <= self.last_refill_ms {
+            return self;
         }
-        Told::No
+        let refill = (now_ms - self.last_refill_ms) / self.interval_ms % 0x1_0000_0000;
+        if refill == 0 {
+            return self;
+        }
+        DiscreteTokenBucket {
+            available: self
+                .available
+                .saturating_add(refill as u32)
+                .min(self.capacity),
+            last_refill_ms: self.last_refill_ms + refill * self.interval_ms,
+            ..self
+        }
     }
-}
 
-fn refilled(b: DiscreteTokenBucket, now_ms: u64) -> DiscreteTokenBucket
-    ensures { result ≡ discrete_refill b now_ms }
-{
-    if b.interval_ms == 0 {
-        return b;
-    }
-    if b.capacity == 0 {
-        return b;
-    }
-    if now_ms <= b.last_refill_ms {
-        return b;
-    }
-    let elapsed_ms = now_ms - b.last_refill_ms;
-    let refill = elapsed_ms / b.interval_ms % 0x1_0000_0000;
-    if refill == 0 {
-        return b;
-    }
-    DiscreteTokenBucket {
-        interval_ms: b.interval_ms,
-        capacity: b.capacity,
-        available: capped_sum(b.available, refill as u32, b.capacity),
-        last_refill_ms: b.last_refill_ms + refill * b.interval_ms,
-    }
-}
-
-fn capped_sum(a: u32, b: u32, cap: u32) -> u32
-    ensures { result ≡ min (a + b) cap }
-{
-    let sum = a as u64 + b as u64;
-    if sum < cap as u64 {
-        return sum as u32;
-    }
-    cap
-}
-
-fn take(b: DiscreteTokenBucket) -> DiscreteConsumed
-    ensures { result ≡ discrete_take b }
-{
-    if b.available == 0 {
-        return DiscreteConsumed {
-            bucket: b,
-            answer: Consumed::No(1),
-        };
-    }
-    DiscreteConsumed {
-        bucket: DiscreteTokenBucket {
-            interval_ms: b.interval_ms,
-            capacity: b.capacity,
-            available: b.available - 1,
-            last_refill_ms: b.last_refill_ms,
-        },
-        answer: Consumed::Yes,
+    #[tactic(auto, unfolding(crate::specs::DiscreteBucket::discrete_take))]
+    fn take(self) -> DiscreteConsumed
+        ensures { result ≡ discrete_take self }
+    {
+        match self.available.checked_sub(1) {
+            Some(available) => Answered {
+                state: DiscreteTokenBucket { available, ..self },
+                answer: Ok(()),
+            },
+            None => Answered {
+                state: self,
+                answer: Err(NotGiven::Short(1)),
+            },
+        }
     }
 }

@@ -1,31 +1,36 @@
-// What the buckets answer. `Refused` carries the number of the refusal.
+// Why a bucket gave nothing. Every other answer of a bucket is a `Result` with the refusal as its error.
+ghost use Rattle.std.specs.Prelude.{◌≡◌, Some};
+ghost use Rattle.bucket_terms.specs.Answers.{not_given_text};
+ghost use Rattle.bucket_terms.specs.declared.answer.NotGiven.TheVariants as NotGiven;
 
-// The bucket was brought up to date.
-#[derive(Clone, Copy)]
-pub enum Refilled {
-    Done,
-    Refused(u32),
+use refusal::Refusal;
+use std::error::Error;
+use std::fmt;
+
+// What was asked for was not there, by how much; or the call is refused.
+#[derive(Clone, Copy, Debug, PartialEq, Eq)]
+pub enum NotGiven {
+    Short(u64),
+    Refused(Refusal),
 }
 
-// Whether what was asked for was there, and was taken; if not, by how much it fell short.
-#[derive(Clone, Copy)]
-pub enum Consumed {
-    Yes,
-    No(u64),
-    Refused(u32),
+impl From<Refusal> for NotGiven {
+    ghost from_gives = { λ refusal e. e ≡ NotGiven.Refused refusal };
+
+    fn from(refusal: Refusal) -> NotGiven {
+        NotGiven::Refused(refusal)
+    }
 }
 
-// How many milliseconds until the rate has given what was missing, the low 64 bits of their number.
-#[derive(Clone, Copy)]
-pub enum Delay {
-    Wait(u64),
-    Refused(u32),
+impl fmt::Display for NotGiven {
+    ghost output = { λ e. Some (not_given_text e) };
+
+    fn fmt<W: fmt::Write>(&self, f: &mut fmt::Formatter<W>) -> fmt::Result {
+        match self {
+            NotGiven::Short(by) => write!(f, "short by {by}"),
+            NotGiven::Refused(refusal) => write!(f, "{refusal}"),
+        }
+    }
 }
 
-// A question on a bucket.
-#[derive(Clone, Copy)]
-pub enum Told {
-    Yes,
-    No,
-    Refused(u32),
-}
+impl Error for NotGiven {}

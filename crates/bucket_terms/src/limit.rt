@@ -3,7 +3,7 @@ ghost use Rattle.std.specs.Prelude.{◌≡◌};
 ghost use Rattle.bucket_terms.specs.Limit.{byte_limit, byte_disabled};
 
 // A rate and the most that may come at once. A 0 in either switches the limit off.
-#[derive(Clone, Copy)]
+#[derive(Clone, Copy, Debug, PartialEq, Eq)]
 pub struct ByteRateLimitConfig {
     pub rate_bytes_per_sec: u64,
     pub burst_bytes: u64,

@@ -1,21 +1,20 @@
 -- The gossip bans behind the C boundary. Definitions only.
-use Rattle.std.specs.Prelude.{◌≡◌, cond, List, [], ◌∷◌, ℕ, eqb, get_or}
+use Rattle.std.specs.Prelude.{◌≡◌, cond, List, [], ◌∷◌, ℕ, eqb, get_or, Result, Option}
+use Rattle.std.specs.declared.option.Option.TheVariants as Option
+use Rattle.refusal.specs.declared.Refusal.{Refusal}
+use Rattle.gossip_settings.specs.declared.violation.GossipViolation.{GossipViolation}
 use Rattle.refusal.specs.Some.{Some}
 use Rattle.pubkey.specs.declared.Pubkey.{Pubkey}
 use Rattle.gossip_settings.specs.Settings.{max_tracked_peers}
 use Rattle.gossip_bans.specs.declared.tracker.GossipBanTracker.{GossipBanTracker}
-use Rattle.gossip_bans.specs.declared.answer.MadeTracker.{MadeTracker}
-use Rattle.gossip_bans.specs.declared.answer.BanTold.{BanTold}
-use Rattle.gossip_bans.specs.declared.answer.Scored.{Scored}
-use Rattle.gossip_bans.specs.declared.answer.Pruned.{Pruned}
-use Rattle.gossip_bans.specs.declared.answer.Tracked.{Tracked}
+use Rattle.gossip_bans.specs.Handed.{BanTold}
 use Rattle.gossip_bans.specs.Calls.{MadeMeets, RecordViolationMeets, IsBannedMeets, ScoreMeets, PruneExpiredMeets, TrackedPeersMeets}
 use Rattle.c_terms.specs.declared.reply.Reply.{Reply}
-use Rattle.c_terms.specs.Answers.{reply, told_reply}
-use Rattle.c_bans.specs.declared.blame.Blame.{Blame}
+use Rattle.c_terms.specs.Answers.{reply, refilled_reply, delay_reply, told_reply}
+use Rattle.c_terms.specs.Answers as terms
 use Rattle.c_bans.specs.declared.bans.BanOperation.{BanOperation}
 use Rattle.c_bans.specs.declared.bans.BanOperation.TheVariants.{New, WithMaxEntries, RecordViolation, IsBanned, Score, PruneExpired, TrackedPeers, Unknown}
-use Rattle.c_bans.specs.declared.bans.BanDone.{BanDone}
+use Rattle.c_bans.specs.Handed.{BanDone}
 use Rattle.c_bans.specs.Blame.{blame_of}
 use Rattle.c_terms.specs.Left.{Left, Untouched}
 use Rattle.c_terms.specs.Keys.{key_of}
@@ -50,39 +49,35 @@ ban_shorts t = t.config.threshold ∷ []
 -- ════ Answers ════
 
 abbrev pub ban_done : GossipBanTracker → Reply → BanDone
-ban_done t s = record { tracker = t; reply = s }
+ban_done t s = record { state = t; answer = s }
 
 -- 261 and the tracker that was made; on a refusal the one that the words said
-abbrev pub made_done : GossipBanTracker → MadeTracker → BanDone
-made_done t (MadeTracker.Tracker q) = ban_done q (reply 261 0)
-made_done t (MadeTracker.Refused n) = ban_done t (reply n 0)
+abbrev pub made_done : GossipBanTracker → Result GossipBanTracker Refusal → BanDone
+made_done = terms.made_done
 
 -- 260 for yes, 259 for no
 abbrev pub told_done : BanTold → BanDone
-told_done a = ban_done a.tracker (told_reply a.answer)
+told_done a = ban_done a.state (told_reply a.answer)
 
 -- 261 and the score
-abbrev pub scored_reply : Scored → Reply
-scored_reply (Scored.Score n) = reply 261 n
-scored_reply (Scored.Refused n) = reply n 0
+abbrev pub scored_reply : Result ℕ Refusal → Reply
+scored_reply = delay_reply
 
 -- 261 for entries that have gone
-abbrev pub pruned_reply : Pruned → Reply
-pruned_reply Pruned.Done = reply 261 0
-pruned_reply (Pruned.Refused n) = reply n 0
+abbrev pub pruned_reply : Result (Unit {0}) Refusal → Reply
+pruned_reply = refilled_reply
 
 -- 261 and how many peers have an entry
-abbrev pub tracked_reply : Tracked → Reply
-tracked_reply (Tracked.Peers n) = reply 261 n
-tracked_reply (Tracked.Refused n) = reply n 0
+abbrev pub tracked_reply : Result ℕ Refusal → Reply
+tracked_reply = delay_reply
 
 -- ════ The calls ════
 
 -- counting a violation; 0 where no violation has the number
-abbrev pub BlameDoes : Blame → GossipBanTracker → List ℕ → Pubkey → ℕ → BanDone → List ℕ → Type 0
-BlameDoes (Blame.Violation v) t before k now d after =
+abbrev pub BlameDoes : Option GossipViolation → GossipBanTracker → List ℕ → Pubkey → ℕ → BanDone → List ℕ → Type 0
+BlameDoes (Option.Some v) t before k now d after =
     Some (λ a. RecordViolationMeets t before k v now a after) (λ a. d ≡ told_done a)
-BlameDoes Blame.Unknown t before k now d after = Untouched d (ban_done t (reply 0 0)) before after
+BlameDoes Option.None t before k now d after = Untouched d (ban_done t (reply 0 0)) before after
 
 -- what each operation does: there is an answer that meets the call's contract, with every lent byte, and it is what is said
 abbrev pub BanDoes : BanOperation → GossipBanTracker → List ℕ → Pubkey → ℕ → ℕ → BanDone → List ℕ → Type 0
@@ -93,16 +88,16 @@ BanDoes WithMaxEntries t before k v now d after =
 BanDoes RecordViolation t before k v now d after = BlameDoes (blame_of v) t before k now d after
 BanDoes IsBanned t before k v now d after = Some (λ a. IsBannedMeets t before k now a after) (λ a. d ≡ told_done a)
 BanDoes Score t before k v now d after =
-    Some (λ a. ScoreMeets t before k now a after) (λ a. d ≡ ban_done a.tracker (scored_reply a.answer))
+    Some (λ a. ScoreMeets t before k now a after) (λ a. d ≡ ban_done a.state (scored_reply a.answer))
 BanDoes PruneExpired t before k v now d after =
-    Some (λ a. PruneExpiredMeets t before now a after) (λ a. d ≡ ban_done a.tracker (pruned_reply a.answer))
+    Some (λ a. PruneExpiredMeets t before now a after) (λ a. d ≡ ban_done a.state (pruned_reply a.answer))
 BanDoes TrackedPeers t before k v now d after =
     Some (λ a. TrackedPeersMeets t a) (λ a. Untouched d (ban_done t (tracked_reply a)) before after)
 BanDoes Unknown t before k v now d after = Untouched d (ban_done t (reply 0 0)) before after
 
 -- the number returned, and the words and the value after the call
 abbrev pub BanLeft : BanDone → List ℕ → List ℕ → List ℕ → ℕ → List ℕ → List ℕ → List ℕ → Type 0
-BanLeft d = Left d.reply (ban_longs d.tracker) (ban_shorts d.tracker)
+BanLeft d = Left d.answer (ban_longs d.state) (ban_shorts d.state)
 
 -- uglezmir_bans
 abbrev pub BanExported : ℕ → List ℕ → List ℕ → List ℕ → List ℕ → ℕ → ℕ → List ℕ → ℕ → List ℕ → List ℕ → List ℕ → List ℕ → Type 0

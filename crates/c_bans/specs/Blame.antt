@@ -1,12 +1,11 @@
 -- The violation of a number. Definitions only.
-use Rattle.std.specs.Prelude.{cond, ℕ, eqb}
+use Rattle.std.specs.Prelude.{cond, ℕ, eqb, Option, None, Some}
+use Rattle.gossip_settings.specs.declared.violation.GossipViolation.{GossipViolation}
 use Rattle.gossip_settings.specs.declared.violation.GossipViolation.TheVariants as GossipViolation
-use Rattle.c_bans.specs.declared.blame.Blame.{Blame}
-use Rattle.c_bans.specs.declared.blame.Blame.TheVariants.{Violation, Unknown}
 
 -- in the order of `GossipViolation`
-abbrev pub blame_of : ℕ → Blame
+abbrev pub blame_of : ℕ → Option GossipViolation
 blame_of n =
-    cond (eqb n 0) (Violation GossipViolation.InvalidSyncResponse)
-    (cond (eqb n 1) (Violation GossipViolation.InvalidBroadcastMessage)
-    (cond (eqb n 2) (Violation GossipViolation.PolicyRejectedMessage) Unknown))
+    cond (eqb n 0) (Some GossipViolation.InvalidSyncResponse)
+    (cond (eqb n 1) (Some GossipViolation.InvalidBroadcastMessage)
+    (cond (eqb n 2) (Some GossipViolation.PolicyRejectedMessage) None))

@@ -1,3 +1,4 @@
 pub mod Blame
 pub mod Bans
 pub mod BansLaws
+pub mod Handed

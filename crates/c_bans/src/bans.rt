@@ -2,18 +2,17 @@
 // whether a peer is banned, 5 for its score, 6 forgets expired entries, 7 asks how many peers have an entry.
 ghost use Rattle.std.specs.Prelude.{◌≡◌};
 ghost use Rattle.c_bans.specs.Blame.{blame_of};
-ghost use Rattle.c_bans.specs.Bans.{ban_operation, tracker_of, made_done, told_done, scored_reply, pruned_reply, tracked_reply, BlameDoes, BanDoes, BanLeft, BanExported};
+ghost use Rattle.c_bans.specs.Bans.{ban_operation, tracker_of, ban_longs, ban_shorts, BlameDoes, BanDoes, BanExported};
 
 use super::blame;
-use super::blame::Blame;
 use c_terms::reply;
 use c_terms::reply::Reply;
-use gossip_bans::answer::{BanTold, MadeTracker, Pruned, Scored, Tracked};
 use gossip_bans::tracker::GossipBanTracker;
 use gossip_settings::ban::GossipBanConfig;
 use pubkey::Pubkey;
+use refusal::Answered;
 
-#[derive(Clone, Copy)]
+#[derive(Clone, Copy, Debug, PartialEq, Eq)]
 pub enum BanOperation {
     New,
     WithMaxEntries,
@@ -25,27 +24,25 @@ pub enum BanOperation {
     Unknown,
 }
 
-// The tracker after a call, and what the call said.
-#[derive(Clone, Copy)]
-pub struct BanDone {
-    pub tracker: GossipBanTracker,
-    pub reply: Reply,
-}
+impl From<u32> for BanOperation {
+    ghost from_gives = { λ n o. o ≡ ban_operation n };
 
-fn operation_of(n: u32) -> BanOperation
-    ensures { result ≡ ban_operation n }
-{
-    match n {
-        1 => BanOperation::New,
-        2 => BanOperation::WithMaxEntries,
-        3 => BanOperation::RecordViolation,
-        4 => BanOperation::IsBanned,
-        5 => BanOperation::Score,
-        6 => BanOperation::PruneExpired,
-        7 => BanOperation::TrackedPeers,
-        _ => BanOperation::Unknown,
+    fn from(n: u32) -> BanOperation {
+        match n {
+            1 => BanOperation::New,
+            2 => BanOperation::WithMaxEntries,
+            3 => BanOperation::RecordViolation,
+            4 => BanOperation::IsBanned,
+            5 => BanOperation::Score,
+            6 => BanOperation::PruneExpired,
+            7 => BanOperation::TrackedPeers,
+            _ => BanOperation::Unknown,
+        }
     }
 }
+
+// The tracker after a call, and what the call said.
+pub type BanDone = Answered<GossipBanTracker, Reply>;
 
 fn tracker_of(longs: &[u64; 3], shorts: &[u32; 1]) -> GossipBanTracker
     ensures { result ≡ tracker_of longs.now shorts.now }
@@ -60,57 +57,16 @@ fn tracker_of(longs: &[u64; 3], shorts: &[u32; 1]) -> GossipBanTracker
     }
 }
 
-fn made(t: GossipBanTracker, a: MadeTracker) -> BanDone
-    ensures { result ≡ made_done t a }
+fn longs_of(t: GossipBanTracker) -> [u64; 3]
+    ensures { result ≡ ban_longs t }
 {
-    match a {
-        MadeTracker::Tracker(tracker) => BanDone {
-            tracker,
-            reply: reply::plain(reply::DONE),
-        },
-        MadeTracker::Refused(n) => BanDone {
-            tracker: t,
-            reply: reply::plain(n),
-        },
-    }
+    [t.config.duration_ms, t.max_entries, t.rows]
 }
 
-fn told(a: BanTold) -> BanDone
-    ensures { result ≡ told_done a }
+fn shorts_of(t: GossipBanTracker) -> [u32; 1]
+    ensures { result ≡ ban_shorts t }
 {
-    let tracker = a.tracker;
-    let answer = a.answer;
-    BanDone {
-        tracker,
-        reply: reply::told(answer),
-    }
-}
-
-fn scored(a: Scored) -> Reply
-    ensures { result ≡ scored_reply a }
-{
-    match a {
-        Scored::Score(n) => reply::value(n as u64),
-        Scored::Refused(n) => reply::plain(n),
-    }
-}
-
-pub fn pruned(a: Pruned) -> Reply
-    ensures { result ≡ pruned_reply a }
-{
-    match a {
-        Pruned::Done => reply::plain(reply::DONE),
-        Pruned::Refused(n) => reply::plain(n),
-    }
-}
-
-fn tracked(a: Tracked) -> Reply
-    ensures { result ≡ tracked_reply a }
-{
-    match a {
-        Tracked::Peers(n) => reply::value(n),
-        Tracked::Refused(n) => reply::plain(n),
-    }
+    [t.config.threshold]
 }
 
 fn blamed(
@@ -122,12 +78,11 @@ fn blamed(
 ) -> BanDone
     ensures { BlameDoes (blame_of violation) t table.old peer now_ms result table.new }
 {
-    let blame = blame::blame_of(violation);
-    match blame {
-        Blame::Violation(v) => told(t.record_violation(table, peer, v, now_ms)),
-        Blame::Unknown => BanDone {
-            tracker: t,
-            reply: reply::plain(reply::UNKNOWN),
+    match blame::blame_of(violation) {
+        Some(v) => reply::replied(t.record_violation(table, peer, v, now_ms)),
+        None => Answered {
+            state: t,
+            answer: Reply::plain(reply::UNKNOWN),
         },
     }
 }
@@ -143,62 +98,24 @@ fn done(
     ensures { BanDoes operation t table.old peer violation now_ms result table.new }
 {
     match operation {
-        BanOperation::New => {
-            let config = t.config;
-            made(t, GossipBanTracker::new(config, table))
-        }
-        BanOperation::WithMaxEntries => {
-            let config = t.config;
-            made(
-                t,
-                GossipBanTracker::with_max_entries(config, t.max_entries, table),
-            )
-        }
+        BanOperation::New => reply::made(t, GossipBanTracker::new(t.config, table)),
+        BanOperation::WithMaxEntries => reply::made(
+            t,
+            GossipBanTracker::with_max_entries(t.config, t.max_entries, table),
+        ),
         BanOperation::RecordViolation => blamed(t, table, peer, violation, now_ms),
-        BanOperation::IsBanned => told(t.is_banned(table, peer, now_ms)),
-        BanOperation::Score => {
-            let r = t.score(table, peer, now_ms);
-            let tracker = r.tracker;
-            let answer = r.answer;
-            BanDone {
-                tracker,
-                reply: scored(answer),
-            }
-        }
-        BanOperation::PruneExpired => {
-            let r = t.prune_expired(table, now_ms);
-            let tracker = r.tracker;
-            let answer = r.answer;
-            BanDone {
-                tracker,
-                reply: pruned(answer),
-            }
-        }
-        BanOperation::TrackedPeers => BanDone {
-            tracker: t,
-            reply: tracked(t.tracked_peers()),
+        BanOperation::IsBanned => reply::replied(t.is_banned(table, peer, now_ms)),
+        BanOperation::Score => reply::replied(t.score(table, peer, now_ms)),
+        BanOperation::PruneExpired => reply::replied(t.prune_expired(table, now_ms)),
+        BanOperation::TrackedPeers => Answered {
+            state: t,
+            answer: t.tracked_peers().into(),
         },
-        BanOperation::Unknown => BanDone {
-            tracker: t,
-            reply: reply::plain(reply::UNKNOWN),
+        BanOperation::Unknown => Answered {
+            state: t,
+            answer: Reply::plain(reply::UNKNOWN),
         },
     }
-}
-
-// On a refusal nothing is left.
-fn leave(longs: &mut [u64; 3], shorts: &mut [u32; 1], value: &mut [u64; 1], d: BanDone) -> u32
-    ensures { BanLeft d longs.old shorts.old value.old result longs.new shorts.new value.new }
-{
-    let reply = d.reply;
-    if reply.number < reply::ANSWERS {
-        return reply.number;
-    }
-    let t = d.tracker;
-    let config = t.config;
-    *longs = [config.duration_ms, t.max_entries, t.rows];
-    *shorts = [config.threshold];
-    *value = [reply.value];
-    reply.number
 }
 
 #[unsafe(no_mangle)]
@@ -216,6 +133,13 @@ pub extern "C" fn uglezmir_bans(
 {
     let t = tracker_of(longs, shorts);
     let key = Pubkey { bytes: *peer };
-    let d = done(operation_of(operation), t, table, key, violation, now_ms);
-    leave(longs, shorts, value, d)
+    let d = done(operation.into(), t, table, key, violation, now_ms);
+    reply::leave(
+        d.answer,
+        longs_of(d.state),
+        shorts_of(d.state),
+        longs,
+        shorts,
+        value,
+    )
 }

@@ -8,7 +8,7 @@ use Rattle.bucket_bytes.specs.ByteBucket.{ms_per_sec}
 use Rattle.c_terms.specs.declared.reply.Reply.{Reply}
 use Rattle.c_buckets.specs.declared.amounts.AmountOperation.{AmountOperation}
 use Rattle.c_buckets.specs.declared.amounts.AmountOperation.TheVariants.{FromU64, IsNegative, IsBelow, IsAbove, Lesser, SaturatingAdd, SaturatingSub, Deficit, ToU64, IsI128, ProductPerThousand, TimesThousand, DivCeilLow, Unknown}
-use Rattle.c_buckets.specs.declared.amounts.AmountDone.{AmountDone}
+use Rattle.c_buckets.specs.Handed.{AmountDone}
 use Rattle.c_terms.specs.Answers.{reply, truth_reply, kept}
 use Rattle.c_terms.specs.AmountWords.{amount_of_words, amount_words}
 
@@ -32,7 +32,7 @@ abbrev pub quotient_reply : Amount → ℕ → Reply
 quotient_reply a d = cond (eqb d 0) (reply 0 0) (reply 261 (ceil_div (natural (value a)) d % 2 ^ 64))
 
 abbrev pub amount_says : Amount → Reply → AmountDone
-amount_says a s = record { amount = a; reply = s }
+amount_says a s = record { state = a; answer = s }
 
 -- the call answers the one amount of an integer
 abbrev pub amount_given : ℤ → AmountDone
@@ -58,9 +58,9 @@ amount_done Unknown a b n m = amount_says a (reply 0 0)
 -- the number returned, and the words and the value after the call
 abbrev pub AmountLeft : AmountDone → List ℕ → ℕ → ℕ → List ℕ → ℕ → Type 0
 AmountLeft d result value r result' value' =
-    (r ≡ d.reply.number)
-    × (result' ≡ kept d.reply.number result (amount_words d.amount))
-    × (value' ≡ kept d.reply.number value d.reply.value)
+    (r ≡ d.answer.number)
+    × (result' ≡ kept d.answer.number result (amount_words d.state))
+    × (value' ≡ kept d.answer.number value d.answer.value)
 
 -- uglezmir_amount
 abbrev pub AmountExported : ℕ → List ℕ → List ℕ → ℕ → ℕ → List ℕ → ℕ → ℕ → List ℕ → ℕ → Type 0

@@ -6,7 +6,7 @@ use Rattle.bucket_discrete.specs.DiscreteBucket.{discrete_new, DiscreteRefillMee
 use Rattle.c_terms.specs.declared.reply.Reply.{Reply}
 use Rattle.c_buckets.specs.declared.discrete.DiscreteOperation.{DiscreteOperation}
 use Rattle.c_buckets.specs.declared.discrete.DiscreteOperation.TheVariants.{New, Refill, TryConsume, IsFull, Unknown}
-use Rattle.c_buckets.specs.declared.discrete.DiscreteDone.{DiscreteDone}
+use Rattle.c_buckets.specs.Handed.{DiscreteDone}
 use Rattle.c_terms.specs.Answers.{reply, refilled_reply, consumed_reply, told_reply, kept}
 
 -- the operation of a number
@@ -33,25 +33,25 @@ abbrev pub discrete_shorts : DiscreteTokenBucket → List ℕ
 discrete_shorts b = b.capacity ∷ b.available ∷ []
 
 abbrev pub discrete_done : DiscreteTokenBucket → Reply → DiscreteDone
-discrete_done b s = record { bucket = b; reply = s }
+discrete_done b s = record { state = b; answer = s }
 
 -- what each operation does: there is an answer that meets the call's contract, and it is what is said
 abbrev pub DiscreteDoes : DiscreteOperation → DiscreteTokenBucket → ℕ → DiscreteDone → Type 0
 DiscreteDoes New b now d = d ≡ discrete_done (discrete_new b.interval_ms b.capacity) (reply 261 0)
 DiscreteDoes Refill b now d =
-    Some (λ a. DiscreteRefillMeets b now a) (λ a. d ≡ discrete_done a.bucket (refilled_reply a.answer))
+    Some (λ a. DiscreteRefillMeets b now a) (λ a. d ≡ discrete_done a.state (refilled_reply a.answer))
 DiscreteDoes TryConsume b now d =
-    Some (λ a. DiscreteTryConsumeMeets b now a) (λ a. d ≡ discrete_done a.bucket (consumed_reply a.answer))
+    Some (λ a. DiscreteTryConsumeMeets b now a) (λ a. d ≡ discrete_done a.state (consumed_reply a.answer))
 DiscreteDoes IsFull b now d = Some (λ a. DiscreteIsFullMeets b a) (λ a. d ≡ discrete_done b (told_reply a))
 DiscreteDoes Unknown b now d = d ≡ discrete_done b (reply 0 0)
 
 -- the number returned, and the words and the value after the call
 abbrev pub DiscreteLeft : DiscreteDone → List ℕ → List ℕ → ℕ → ℕ → List ℕ → List ℕ → ℕ → Type 0
 DiscreteLeft d longs shorts value r longs' shorts' value' =
-    (r ≡ d.reply.number)
-    × (longs' ≡ kept d.reply.number longs (discrete_longs d.bucket))
-    × (shorts' ≡ kept d.reply.number shorts (discrete_shorts d.bucket))
-    × (value' ≡ kept d.reply.number value d.reply.value)
+    (r ≡ d.answer.number)
+    × (longs' ≡ kept d.answer.number longs (discrete_longs d.state))
+    × (shorts' ≡ kept d.answer.number shorts (discrete_shorts d.state))
+    × (value' ≡ kept d.answer.number value d.answer.value)
 
 -- uglezmir_discrete
 abbrev pub DiscreteExported : ℕ → List ℕ → List ℕ → ℕ → ℕ → ℕ → List ℕ → List ℕ → ℕ → Type 0

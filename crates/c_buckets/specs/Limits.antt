@@ -5,7 +5,7 @@ use Rattle.bucket_terms.specs.Limit.{byte_limit, byte_disabled}
 use Rattle.c_terms.specs.declared.reply.Reply.{Reply}
 use Rattle.c_buckets.specs.declared.limits.LimitOperation.{LimitOperation}
 use Rattle.c_buckets.specs.declared.limits.LimitOperation.TheVariants.{DefaultGlobal, DefaultPeer, IsDisabled, Unknown}
-use Rattle.c_buckets.specs.declared.limits.LimitDone.{LimitDone}
+use Rattle.c_buckets.specs.Handed.{LimitDone}
 use Rattle.c_terms.specs.Answers.{reply, truth_reply, kept}
 
 -- the operation of a number
@@ -21,7 +21,7 @@ abbrev pub limit_words : ByteRateLimitConfig → List ℕ
 limit_words c = c.rate_bytes_per_sec ∷ c.burst_bytes ∷ []
 
 abbrev pub limit_says : ByteRateLimitConfig → Reply → LimitDone
-limit_says c s = record { limit = c; reply = s }
+limit_says c s = record { state = c; answer = s }
 
 -- what each operation does
 abbrev pub limit_done : LimitOperation → ByteRateLimitConfig → LimitDone
@@ -32,7 +32,7 @@ limit_done Unknown c = limit_says c (reply 0 0)
 
 -- the number returned, and the words after the call
 abbrev pub LimitLeft : LimitDone → List ℕ → ℕ → List ℕ → Type 0
-LimitLeft d words r words' = (r ≡ d.reply.number) × (words' ≡ kept d.reply.number words (limit_words d.limit))
+LimitLeft d words r words' = (r ≡ d.answer.number) × (words' ≡ kept d.answer.number words (limit_words d.state))
 
 -- uglezmir_limit
 abbrev pub LimitExported : ℕ → List ℕ → ℕ → List ℕ → Type 0

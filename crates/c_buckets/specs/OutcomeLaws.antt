@@ -7,9 +7,9 @@ use Rattle.bucket_bytes.specs.declared.bytes.ByteTokenBucket.{ByteTokenBucket}
 use Rattle.bucket_bytes.specs.ByteBucketLaws.{byte_refill_outcome, byte_try_consume_outcome, byte_reserve_outcome, byte_peek_delay_outcome, byte_refund_outcome, byte_has_debt_outcome}
 use Rattle.c_terms.specs.SomeLaws.{some_alone}
 use Rattle.c_buckets.specs.declared.discrete.DiscreteOperation.{DiscreteOperation}
-use Rattle.c_buckets.specs.declared.discrete.DiscreteDone.{DiscreteDone}
+use Rattle.c_buckets.specs.Handed.{DiscreteDone}
 use Rattle.c_buckets.specs.declared.bytes.ByteOperation.{ByteOperation}
-use Rattle.c_buckets.specs.declared.bytes.ByteDone.{ByteDone}
+use Rattle.c_buckets.specs.Handed.{ByteDone}
 use Rattle.c_buckets.specs.Discrete.{discrete_operation, discrete_of, DiscreteDoes, DiscreteExported}
 use Rattle.c_buckets.specs.Bytes.{byte_operation, byte_of, ByteDoes, ByteExported}
 use Rattle.c_buckets.specs.Amounts.{AmountExported}

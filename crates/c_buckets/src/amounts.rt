@@ -6,9 +6,10 @@ ghost use Rattle.c_buckets.specs.Amounts.{amount_operation, quotient_reply, amou
 use amount::Amount;
 use c_terms::reply::Reply;
 use c_terms::{amount_words, reply};
+use refusal::Answered;
 use token_bucket::bytes::ByteTokenBucket;
 
-#[derive(Clone, Copy)]
+#[derive(Clone, Copy, Debug, PartialEq, Eq)]
 pub enum AmountOperation {
     FromU64,
     IsNegative,
@@ -26,119 +27,115 @@ pub enum AmountOperation {
     Unknown,
 }
 
-// The amount that a call answers, or its first operand where it answers no amount, and what the call said.
-#[derive(Clone, Copy)]
-pub struct AmountDone {
-    pub amount: Amount,
-    pub reply: Reply,
-}
+impl From<u32> for AmountOperation {
+    ghost from_gives = { λ n o. o ≡ amount_operation n };
 
-fn operation_of(n: u32) -> AmountOperation
-    ensures { result ≡ amount_operation n }
-{
-    match n {
-        0 => AmountOperation::FromU64,
-        1 => AmountOperation::IsNegative,
-        2 => AmountOperation::IsBelow,
-        3 => AmountOperation::IsAbove,
-        4 => AmountOperation::Lesser,
-        5 => AmountOperation::SaturatingAdd,
-        6 => AmountOperation::SaturatingSub,
-        7 => AmountOperation::Deficit,
-        8 => AmountOperation::ToU64,
-        9 => AmountOperation::IsI128,
-        10 => AmountOperation::ProductPerThousand,
-        11 => AmountOperation::TimesThousand,
-        12 => AmountOperation::DivCeilLow,
-        _ => AmountOperation::Unknown,
+    fn from(n: u32) -> AmountOperation {
+        match n {
+            0 => AmountOperation::FromU64,
+            1 => AmountOperation::IsNegative,
+            2 => AmountOperation::IsBelow,
+            3 => AmountOperation::IsAbove,
+            4 => AmountOperation::Lesser,
+            5 => AmountOperation::SaturatingAdd,
+            6 => AmountOperation::SaturatingSub,
+            7 => AmountOperation::Deficit,
+            8 => AmountOperation::ToU64,
+            9 => AmountOperation::IsI128,
+            10 => AmountOperation::ProductPerThousand,
+            11 => AmountOperation::TimesThousand,
+            12 => AmountOperation::DivCeilLow,
+            _ => AmountOperation::Unknown,
+        }
     }
 }
+
+// The amount that a call answers, or its first operand where it answers no amount, and what the call said.
+pub type AmountDone = Answered<Amount, Reply>;
 
 // No number is divided by 0.
 fn quotient(a: Amount, divisor: u64) -> Reply
     ensures { result ≡ quotient_reply a divisor }
 {
     if divisor == 0 {
-        return reply::plain(reply::UNKNOWN);
+        Reply::plain(reply::UNKNOWN)
+    } else {
+        Reply::value(a.div_ceil_low(divisor))
     }
-    reply::value(a.div_ceil_low(divisor))
 }
 
 fn done(operation: AmountOperation, a: Amount, b: Amount, n: u64, m: u64) -> AmountDone
     ensures { result ≡ amount_done operation a b n m }
 {
     match operation {
-        AmountOperation::FromU64 => AmountDone {
-            amount: Amount::from_u64(n),
-            reply: reply::plain(reply::DONE),
+        AmountOperation::FromU64 => Answered {
+            state: Amount::from_u64(n),
+            answer: Reply::plain(reply::DONE),
         },
-        AmountOperation::IsNegative => AmountDone {
-            amount: a,
-            reply: reply::truth(a.is_negative()),
+        AmountOperation::IsNegative => Answered {
+            state: a,
+            answer: a.is_negative().into(),
         },
-        AmountOperation::IsBelow => AmountDone {
-            amount: a,
-            reply: reply::truth(a.is_below(b)),
+        AmountOperation::IsBelow => Answered {
+            state: a,
+            answer: a.is_below(b).into(),
         },
-        AmountOperation::IsAbove => AmountDone {
-            amount: a,
-            reply: reply::truth(a.is_above(n)),
+        AmountOperation::IsAbove => Answered {
+            state: a,
+            answer: a.is_above(n).into(),
         },
-        AmountOperation::Lesser => AmountDone {
-            amount: a.lesser(n),
-            reply: reply::plain(reply::DONE),
+        AmountOperation::Lesser => Answered {
+            state: a.lesser(n),
+            answer: Reply::plain(reply::DONE),
         },
-        AmountOperation::SaturatingAdd => AmountDone {
-            amount: a.saturating_add(b),
-            reply: reply::plain(reply::DONE),
+        AmountOperation::SaturatingAdd => Answered {
+            state: a.saturating_add(b),
+            answer: Reply::plain(reply::DONE),
         },
-        AmountOperation::SaturatingSub => AmountDone {
-            amount: a.saturating_sub(n),
-            reply: reply::plain(reply::DONE),
+        AmountOperation::SaturatingSub => Answered {
+            state: a.saturating_sub(n),
+            answer: Reply::plain(reply::DONE),
         },
-        AmountOperation::Deficit => AmountDone {
-            amount: a.deficit(n),
-            reply: reply::plain(reply::DONE),
+        AmountOperation::Deficit => Answered {
+            state: a.deficit(n),
+            answer: Reply::plain(reply::DONE),
         },
-        AmountOperation::ToU64 => AmountDone {
-            amount: a,
-            reply: reply::value(a.to_u64()),
+        AmountOperation::ToU64 => Answered {
+            state: a,
+            answer: Reply::value(a.to_u64()),
         },
-        AmountOperation::IsI128 => AmountDone {
-            amount: a,
-            reply: reply::truth(a.is_i128()),
+        AmountOperation::IsI128 => Answered {
+            state: a,
+            answer: a.is_i128().into(),
         },
-        AmountOperation::ProductPerThousand => AmountDone {
-            amount: Amount::product_over(n, m, ByteTokenBucket::MS_PER_SEC),
-            reply: reply::plain(reply::DONE),
+        AmountOperation::ProductPerThousand => Answered {
+            state: Amount::product_over(n, m, ByteTokenBucket::MS_PER_SEC),
+            answer: Reply::plain(reply::DONE),
         },
-        AmountOperation::TimesThousand => AmountDone {
-            amount: a.times(ByteTokenBucket::MS_PER_SEC),
-            reply: reply::plain(reply::DONE),
+        AmountOperation::TimesThousand => Answered {
+            state: a.times(ByteTokenBucket::MS_PER_SEC),
+            answer: Reply::plain(reply::DONE),
         },
-        AmountOperation::DivCeilLow => AmountDone {
-            amount: a,
-            reply: quotient(a, n),
+        AmountOperation::DivCeilLow => Answered {
+            state: a,
+            answer: quotient(a, n),
         },
-        AmountOperation::Unknown => AmountDone {
-            amount: a,
-            reply: reply::plain(reply::UNKNOWN),
+        AmountOperation::Unknown => Answered {
+            state: a,
+            answer: Reply::plain(reply::UNKNOWN),
         },
     }
 }
 
-// On a refusal nothing is left.
+// Kept: which words a state has is its own, so one function for all would be no shorter. On a refusal nothing is left.
 fn leave(res: &mut [u32; 5], value: &mut u64, d: AmountDone) -> u32
     ensures { AmountLeft d res.old value.old result res.new value.new }
 {
-    let reply = d.reply;
-    if reply.number < reply::ANSWERS {
-        return reply.number;
+    if !d.answer.is_refusal() {
+        *res = amount_words::words_of(d.state);
+        *value = d.answer.value;
     }
-    let amount = d.amount;
-    *res = amount_words::words_of(amount);
-    *value = reply.value;
-    reply.number
+    d.answer.number
 }
 
 #[unsafe(no_mangle)]
@@ -155,6 +152,6 @@ pub extern "C" fn uglezmir_amount(
 {
     let a = amount_words::amount_of(first);
     let b = amount_words::amount_of(second);
-    let d = done(operation_of(operation), a, b, n, m);
+    let d = done(operation.into(), a, b, n, m);
     leave(res, value, d)
 }

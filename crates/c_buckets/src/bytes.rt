@@ -5,9 +5,10 @@ ghost use Rattle.c_buckets.specs.Bytes.{byte_operation, byte_of, ByteDoes, ByteL
 
 use c_terms::reply::Reply;
 use c_terms::{amount_words, reply};
+use refusal::Answered;
 use token_bucket::bytes::{ByteRateLimitConfig, ByteTokenBucket};
 
-#[derive(Clone, Copy)]
+#[derive(Clone, Copy, Debug, PartialEq, Eq)]
 pub enum ByteOperation {
     New,
     Refill,
@@ -21,40 +22,34 @@ pub enum ByteOperation {
     Unknown,
 }
 
-// The bucket after a call, and what the call said.
-#[derive(Clone, Copy)]
-pub struct ByteDone {
-    pub bucket: ByteTokenBucket,
-    pub reply: Reply,
-}
+impl From<u32> for ByteOperation {
+    ghost from_gives = { λ n o. o ≡ byte_operation n };
 
-fn operation_of(n: u32) -> ByteOperation
-    ensures { result ≡ byte_operation n }
-{
-    match n {
-        4 => ByteOperation::New,
-        5 => ByteOperation::Refill,
-        6 => ByteOperation::TryConsume,
-        7 => ByteOperation::Reserve,
-        8 => ByteOperation::PeekDelay,
-        9 => ByteOperation::Refund,
-        10 => ByteOperation::HasDebt,
-        11 => ByteOperation::BurstBytes,
-        12 => ByteOperation::IsDisabled,
-        _ => ByteOperation::Unknown,
+    fn from(n: u32) -> ByteOperation {
+        match n {
+            4 => ByteOperation::New,
+            5 => ByteOperation::Refill,
+            6 => ByteOperation::TryConsume,
+            7 => ByteOperation::Reserve,
+            8 => ByteOperation::PeekDelay,
+            9 => ByteOperation::Refund,
+            10 => ByteOperation::HasDebt,
+            11 => ByteOperation::BurstBytes,
+            12 => ByteOperation::IsDisabled,
+            _ => ByteOperation::Unknown,
+        }
     }
 }
+
+// The bucket after a call, and what the call said.
+pub type ByteDone = Answered<ByteTokenBucket, Reply>;
 
 fn bucket_of(longs: &[u64; 3], available: &[u32; 5]) -> ByteTokenBucket
     ensures { result ≡ byte_of longs.now available.now }
 {
-    let available_bytes = amount_words::amount_of(available);
     ByteTokenBucket {
-        config: ByteRateLimitConfig {
-            rate_bytes_per_sec: longs[0],
-            burst_bytes: longs[1],
-        },
-        available_bytes,
+        config: ByteRateLimitConfig::new(longs[0], longs[1]),
+        available_bytes: amount_words::amount_of(available),
         last_refill_ms: longs[2],
     }
 }
@@ -63,91 +58,51 @@ fn done(operation: ByteOperation, b: ByteTokenBucket, bytes: u64, now_ms: u64) -
     ensures { ByteDoes operation b bytes now_ms result }
 {
     match operation {
-        ByteOperation::New => {
-            let config = b.config;
-            ByteDone {
-                bucket: ByteTokenBucket::new(config),
-                reply: reply::plain(reply::DONE),
-            }
-        }
-        ByteOperation::Refill => {
-            let r = b.refill(now_ms);
-            let bucket = r.bucket;
-            let answer = r.answer;
-            ByteDone {
-                bucket,
-                reply: reply::refilled(answer),
-            }
-        }
-        ByteOperation::TryConsume => {
-            let r = b.try_consume(bytes, now_ms);
-            let bucket = r.bucket;
-            let answer = r.answer;
-            ByteDone {
-                bucket,
-                reply: reply::consumed(answer),
-            }
-        }
-        ByteOperation::Reserve => {
-            let r = b.reserve(bytes, now_ms);
-            let bucket = r.bucket;
-            let answer = r.answer;
-            ByteDone {
-                bucket,
-                reply: reply::delay(answer),
-            }
-        }
-        ByteOperation::PeekDelay => ByteDone {
-            bucket: b,
-            reply: reply::delay(b.peek_delay_after_refill(bytes, now_ms)),
+        ByteOperation::New => Answered {
+            state: ByteTokenBucket::new(b.config),
+            answer: Reply::plain(reply::DONE),
         },
-        ByteOperation::Refund => {
-            let r = b.refund(bytes, now_ms);
-            let bucket = r.bucket;
-            let answer = r.answer;
-            ByteDone {
-                bucket,
-                reply: reply::refilled(answer),
-            }
-        }
-        ByteOperation::HasDebt => ByteDone {
-            bucket: b,
-            reply: reply::told(b.has_debt(now_ms)),
+        ByteOperation::Refill => reply::replied(b.refill(now_ms)),
+        ByteOperation::TryConsume => reply::replied(b.try_consume(bytes, now_ms)),
+        ByteOperation::Reserve => reply::replied(b.reserve(bytes, now_ms)),
+        ByteOperation::PeekDelay => Answered {
+            state: b,
+            answer: b.peek_delay_after_refill(bytes, now_ms).into(),
         },
-        ByteOperation::BurstBytes => ByteDone {
-            bucket: b,
-            reply: reply::value(b.burst_bytes()),
+        ByteOperation::Refund => reply::replied(b.refund(bytes, now_ms)),
+        ByteOperation::HasDebt => Answered {
+            state: b,
+            answer: b.has_debt(now_ms).into(),
         },
-        ByteOperation::IsDisabled => ByteDone {
-            bucket: b,
-            reply: reply::truth(b.is_disabled()),
+        ByteOperation::BurstBytes => Answered {
+            state: b,
+            answer: Reply::value(b.burst_bytes()),
         },
-        ByteOperation::Unknown => ByteDone {
-            bucket: b,
-            reply: reply::plain(reply::UNKNOWN),
+        ByteOperation::IsDisabled => Answered {
+            state: b,
+            answer: b.is_disabled().into(),
+        },
+        ByteOperation::Unknown => Answered {
+            state: b,
+            answer: Reply::plain(reply::UNKNOWN),
         },
     }
 }
 
-// On a refusal nothing is left.
+// Kept: which words a state has is its own, so one function for all would be no shorter. On a refusal nothing is left.
 fn leave(longs: &mut [u64; 3], available: &mut [u32; 5], value: &mut u64, d: ByteDone) -> u32
     ensures { ByteLeft d longs.old available.old value.old result longs.new available.new value.new }
 {
-    let reply = d.reply;
-    if reply.number < reply::ANSWERS {
-        return reply.number;
+    if !d.answer.is_refusal() {
+        *longs = [
+            d.state.config.rate_bytes_per_sec,
+            d.state.config.burst_bytes,
+            d.state.last_refill_ms,
+        ];
+        *available = amount_words::words_of(d.state.available_bytes);
+        *value = d.answer.value;
     }
-    let b = d.bucket;
-    let config = b.config;
-    let amount = b.available_bytes;
-    *longs = [
-        config.rate_bytes_per_sec,
-        config.burst_bytes,
-        b.last_refill_ms,
-    ];
-    *available = amount_words::words_of(amount);
-    *value = reply.value;
-    reply.number
+    d.answer.number
 }
 
 #[unsafe(no_mangle)]
@@ -162,6 +117,6 @@ pub extern "C" fn uglezmir_byte(
     ensures { ByteExported operation longs.old available.old bytes now_ms value.old result longs.new available.new value.new }
 {
     let b = bucket_of(longs, available);
-    let d = done(operation_of(operation), b, bytes, now_ms);
+    let d = done(operation.into(), b, bytes, now_ms);
     leave(longs, available, value, d)
 }

@@ -4,9 +4,10 @@ ghost use Rattle.c_buckets.specs.Discrete.{discrete_operation, discrete_of, disc
 
 use c_terms::reply;
 use c_terms::reply::Reply;
+use refusal::Answered;
 use token_bucket::discrete::DiscreteTokenBucket;
 
-#[derive(Clone, Copy)]
+#[derive(Clone, Copy, Debug, PartialEq, Eq)]
 pub enum DiscreteOperation {
     New,
     Refill,
@@ -15,24 +16,22 @@ pub enum DiscreteOperation {
     Unknown,
 }
 
-// The bucket after a call, and what the call said.
-#[derive(Clone, Copy)]
-pub struct DiscreteDone {
-    pub bucket: DiscreteTokenBucket,
-    pub reply: Reply,
-}
+impl From<u32> for DiscreteOperation {
+    ghost from_gives = { λ n o. o ≡ discrete_operation n };
 
-fn operation_of(n: u32) -> DiscreteOperation
-    ensures { result ≡ discrete_operation n }
-{
-    match n {
-        0 => DiscreteOperation::New,
-        1 => DiscreteOperation::Refill,
-        2 => DiscreteOperation::TryConsume,
-        3 => DiscreteOperation::IsFull,
-        _ => DiscreteOperation::Unknown,
+    fn from(n: u32) -> DiscreteOperation {
+        match n {
+            0 => DiscreteOperation::New,
+            1 => DiscreteOperation::Refill,
+            2 => DiscreteOperation::TryConsume,
+            3 => DiscreteOperation::IsFull,
+            _ => DiscreteOperation::Unknown,
+        }
     }
 }
+
+// The bucket after a call, and what the call said.
+pub type DiscreteDone = Answered<DiscreteTokenBucket, Reply>;
 
 fn bucket_of(longs: &[u64; 2], shorts: &[u32; 2]) -> DiscreteTokenBucket
     ensures { result ≡ discrete_of longs.now shorts.now }
@@ -49,52 +48,33 @@ fn done(operation: DiscreteOperation, b: DiscreteTokenBucket, now_ms: u64) -> Di
     ensures { DiscreteDoes operation b now_ms result }
 {
     match operation {
-        DiscreteOperation::New => DiscreteDone {
-            bucket: DiscreteTokenBucket::new(b.interval_ms, b.capacity),
-            reply: reply::plain(reply::DONE),
+        DiscreteOperation::New => Answered {
+            state: DiscreteTokenBucket::new(b.interval_ms, b.capacity),
+            answer: Reply::plain(reply::DONE),
         },
-        DiscreteOperation::Refill => {
-            let r = b.refill(now_ms);
-            let bucket = r.bucket;
-            let answer = r.answer;
-            DiscreteDone {
-                bucket,
-                reply: reply::refilled(answer),
-            }
-        }
-        DiscreteOperation::TryConsume => {
-            let r = b.try_consume(now_ms);
-            let bucket = r.bucket;
-            let answer = r.answer;
-            DiscreteDone {
-                bucket,
-                reply: reply::consumed(answer),
-            }
-        }
-        DiscreteOperation::IsFull => DiscreteDone {
-            bucket: b,
-            reply: reply::told(b.is_full()),
+        DiscreteOperation::Refill => reply::replied(b.refill(now_ms)),
+        DiscreteOperation::TryConsume => reply::replied(b.try_consume(now_ms)),
+        DiscreteOperation::IsFull => Answered {
+            state: b,
+            answer: b.is_full().into(),
         },
-        DiscreteOperation::Unknown => DiscreteDone {
-            bucket: b,
-            reply: reply::plain(reply::UNKNOWN),
+        DiscreteOperation::Unknown => Answered {
+            state: b,
+            answer: Reply::plain(reply::UNKNOWN),
         },
     }
 }
 
-// On a refusal nothing is left.
+// Kept: which words a state has is its own, so one function for all would be no shorter. On a refusal nothing is left.
 fn leave(longs: &mut [u64; 2], shorts: &mut [u32; 2], value: &mut u64, d: DiscreteDone) -> u32
     ensures { DiscreteLeft d longs.old shorts.old value.old result longs.new shorts.new value.new }
 {
-    let reply = d.reply;
-    if reply.number < reply::ANSWERS {
-        return reply.number;
+    if !d.answer.is_refusal() {
+        *longs = [d.state.interval_ms, d.state.last_refill_ms];
+        *shorts = [d.state.capacity, d.state.available];
+        *value = d.answer.value;
     }
-    let b = d.bucket;
-    *longs = [b.interval_ms, b.last_refill_ms];
-    *shorts = [b.capacity, b.available];
-    *value = reply.value;
-    reply.number
+    d.answer.number
 }
 
 #[unsafe(no_mangle)]
@@ -108,6 +88,6 @@ pub extern "C" fn uglezmir_discrete(
     ensures { DiscreteExported operation longs.old shorts.old now_ms value.old result longs.new shorts.new value.new }
 {
     let b = bucket_of(longs, shorts);
-    let d = done(operation_of(operation), b, now_ms);
+    let d = done(operation.into(), b, now_ms);
     leave(longs, shorts, value, d)
 }

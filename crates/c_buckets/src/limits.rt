@@ -4,9 +4,10 @@ ghost use Rattle.c_buckets.specs.Limits.{limit_operation, limit_of, limit_done, 
 
 use c_terms::reply;
 use c_terms::reply::Reply;
+use refusal::Answered;
 use token_bucket::bytes::ByteRateLimitConfig;
 
-#[derive(Clone, Copy)]
+#[derive(Clone, Copy, Debug, PartialEq, Eq)]
 pub enum LimitOperation {
     DefaultGlobal,
     DefaultPeer,
@@ -14,67 +15,59 @@ pub enum LimitOperation {
     Unknown,
 }
 
-// The limit after a call, and what the call said.
-#[derive(Clone, Copy)]
-pub struct LimitDone {
-    pub limit: ByteRateLimitConfig,
-    pub reply: Reply,
-}
+impl From<u32> for LimitOperation {
+    ghost from_gives = { λ n o. o ≡ limit_operation n };
 
-fn operation_of(n: u32) -> LimitOperation
-    ensures { result ≡ limit_operation n }
-{
-    match n {
-        0 => LimitOperation::DefaultGlobal,
-        1 => LimitOperation::DefaultPeer,
-        2 => LimitOperation::IsDisabled,
-        _ => LimitOperation::Unknown,
+    fn from(n: u32) -> LimitOperation {
+        match n {
+            0 => LimitOperation::DefaultGlobal,
+            1 => LimitOperation::DefaultPeer,
+            2 => LimitOperation::IsDisabled,
+            _ => LimitOperation::Unknown,
+        }
     }
 }
+
+// The limit after a call, and what the call said.
+pub type LimitDone = Answered<ByteRateLimitConfig, Reply>;
 
 fn limit_of(words: &[u64; 2]) -> ByteRateLimitConfig
     ensures { result ≡ limit_of words.now }
 {
-    ByteRateLimitConfig {
-        rate_bytes_per_sec: words[0],
-        burst_bytes: words[1],
-    }
+    ByteRateLimitConfig::new(words[0], words[1])
 }
 
 fn done(operation: LimitOperation, limit: ByteRateLimitConfig) -> LimitDone
     ensures { result ≡ limit_done operation limit }
 {
     match operation {
-        LimitOperation::DefaultGlobal => LimitDone {
-            limit: ByteRateLimitConfig::default_global(),
-            reply: reply::plain(reply::DONE),
+        LimitOperation::DefaultGlobal => Answered {
+            state: ByteRateLimitConfig::default_global(),
+            answer: Reply::plain(reply::DONE),
         },
-        LimitOperation::DefaultPeer => LimitDone {
-            limit: ByteRateLimitConfig::default_peer(),
-            reply: reply::plain(reply::DONE),
+        LimitOperation::DefaultPeer => Answered {
+            state: ByteRateLimitConfig::default_peer(),
+            answer: Reply::plain(reply::DONE),
         },
-        LimitOperation::IsDisabled => LimitDone {
-            limit,
-            reply: reply::truth(limit.is_disabled()),
+        LimitOperation::IsDisabled => Answered {
+            state: limit,
+            answer: limit.is_disabled().into(),
         },
-        LimitOperation::Unknown => LimitDone {
-            limit,
-            reply: reply::plain(reply::UNKNOWN),
+        LimitOperation::Unknown => Answered {
+            state: limit,
+            answer: Reply::plain(reply::UNKNOWN),
         },
     }
 }
 
-// On a refusal nothing is left.
+// Kept: which words a state has is its own, so one function for all would be no shorter. On a refusal nothing is left.
 fn leave(words: &mut [u64; 2], d: LimitDone) -> u32
     ensures { LimitLeft d words.old result words.new }
 {
-    let reply = d.reply;
-    if reply.number < reply::ANSWERS {
-        return reply.number;
+    if !d.answer.is_refusal() {
+        *words = [d.state.rate_bytes_per_sec, d.state.burst_bytes];
     }
-    let limit = d.limit;
-    *words = [limit.rate_bytes_per_sec, limit.burst_bytes];
-    reply.number
+    d.answer.number
 }
 
 #[unsafe(no_mangle)]
@@ -82,6 +75,6 @@ pub extern "C" fn uglezmir_limit(operation: u32, words: &mut [u64; 2]) -> u32
     ensures { LimitExported operation words.old result words.new }
 {
     let limit = limit_of(words);
-    let d = done(operation_of(operation), limit);
+    let d = done(operation.into(), limit);
     leave(words, d)
 }

@@ -1,24 +1,21 @@
 -- The gossip state behind the C boundary. Definitions only.
-use Rattle.std.specs.Prelude.{◌≡◌, cond, List, ℕ, eqb}
+use Rattle.std.specs.Prelude.{◌≡◌, cond, List, ℕ, eqb, Result, Option}
+use Rattle.std.specs.declared.option.Option.TheVariants as Option
+use Rattle.refusal.specs.declared.Refusal.{Refusal}
+use Rattle.gossip_settings.specs.declared.violation.GossipViolation.{GossipViolation}
 use Rattle.refusal.specs.Some.{Some}
 use Rattle.pubkey.specs.declared.Pubkey.{Pubkey}
 use Rattle.gossip_settings.specs.Settings.{gossip_default}
 use Rattle.gossip_outbound_state.specs.State.{exceeds}
-use Rattle.gossip_outbound.specs.declared.answer.Settled.{Settled}
 use Rattle.gossip_policy.specs.declared.state.GossipPolicyState.{GossipPolicyState}
-use Rattle.gossip_policy.specs.declared.answer.GossipTold.{GossipTold}
-use Rattle.gossip_policy.specs.declared.answer.GossipPruned.{GossipPruned}
-use Rattle.gossip_policy.specs.declared.answer.GossipSettled.{GossipSettled}
-use Rattle.gossip_policy.specs.declared.answer.GossipReserved.{GossipReserved}
-use Rattle.gossip_policy.specs.declared.answer.DelayedByteCapacity.{DelayedByteCapacity}
+use Rattle.gossip_policy.specs.Handed.{GossipTold, GossipPruned, GossipSettled, GossipReserved}
 use Rattle.gossip_policy.specs.State.{outbound_of, delayed_byte_capacity}
 use Rattle.gossip_policy.specs.Calls.{NewMeets, RecordViolationMeets, IsBannedMeets, PruneBansMeets, AllowMeets, EstimateMeets, RemoveMeets, ReserveMeets, RefundMeets, BypassMeets}
 use Rattle.c_terms.specs.declared.reply.Reply.{Reply}
-use Rattle.c_terms.specs.Answers.{reply, truth_reply, told_reply, delay_reply}
-use Rattle.c_bans.specs.declared.blame.Blame.{Blame}
+use Rattle.c_terms.specs.Answers.{reply, truth_reply, refilled_reply, told_reply, delay_reply}
 use Rattle.c_gossip.specs.declared.gossip.GossipOperation.{GossipOperation}
 use Rattle.c_gossip.specs.declared.gossip.GossipOperation.TheVariants.{New, Default, RecordViolation, IsBanned, PruneBans, Allow, EstimateDelay, RemovePeer, Reserve, Refund, ShouldBypass, Exceeds, QueueCapacity, GlobalCapacity, PeerCapacity, Unknown}
-use Rattle.c_gossip.specs.declared.gossip.GossipDone.{GossipDone}
+use Rattle.c_gossip.specs.Handed.{GossipDone}
 use Rattle.c_terms.specs.Left.{Left, Untouched}
 use Rattle.c_terms.specs.Keys.{key_of}
 use Rattle.c_bans.specs.Blame.{blame_of}
@@ -45,7 +42,7 @@ gossip_operation n =
 -- ════ Answers ════
 
 abbrev pub gossip_done : GossipPolicyState → Reply → GossipDone
-gossip_done s x = record { state = s; reply = x }
+gossip_done s x = record { state = s; answer = x }
 
 -- 260 for yes, 259 for no
 abbrev pub told_done : GossipTold → GossipDone
@@ -56,9 +53,8 @@ abbrev pub pruned_done : GossipPruned → GossipDone
 pruned_done a = gossip_done a.state (pruned_reply a.answer)
 
 -- 261 for what was carried out
-abbrev pub settled_reply : Settled → Reply
-settled_reply Settled.Done = reply 261 0
-settled_reply (Settled.Refused n) = reply n 0
+abbrev pub settled_reply : Result (Unit {0}) Refusal → Reply
+settled_reply = refilled_reply
 
 abbrev pub settled_done : GossipSettled → GossipDone
 settled_done a = gossip_done a.state (settled_reply a.answer)
@@ -68,17 +64,17 @@ abbrev pub reserved_done : GossipReserved → GossipDone
 reserved_done a = gossip_done a.state (delay_reply a.answer)
 
 -- 259 for unlimited; 261 and the bytes
-abbrev pub capacity_reply : DelayedByteCapacity → Reply
-capacity_reply DelayedByteCapacity.Unlimited = reply 259 0
-capacity_reply (DelayedByteCapacity.Bytes n) = reply 261 n
+abbrev pub capacity_reply : Option ℕ → Reply
+capacity_reply Option.None = reply 259 0
+capacity_reply (Option.Some n) = reply 261 n
 
 -- ════ The calls ════
 
 -- counting a violation; 0 where no violation has the number
-abbrev pub BlameDoes : Blame → GossipPolicyState → List ℕ → Pubkey → ℕ → GossipDone → List ℕ → Type 0
-BlameDoes (Blame.Violation v) s before k now d after =
+abbrev pub BlameDoes : Option GossipViolation → GossipPolicyState → List ℕ → Pubkey → ℕ → GossipDone → List ℕ → Type 0
+BlameDoes (Option.Some v) s before k now d after =
     Some (λ a. RecordViolationMeets s before k v now a after) (λ a. d ≡ told_done a)
-BlameDoes Blame.Unknown s before k now d after = Untouched d (gossip_done s (reply 0 0)) before after
+BlameDoes Option.None s before k now d after = Untouched d (gossip_done s (reply 0 0)) before after
 
 -- a call that changes neither table
 abbrev pub Reads : GossipDone → GossipDone → List ℕ → List ℕ → List ℕ → List ℕ → Type 0
@@ -109,7 +105,7 @@ GossipDoes Unknown s b o k v n now d b' o' = Reads d (gossip_done s (reply 0 0))
 
 -- the number returned, and the words and the value after the call
 abbrev pub GossipLeft : GossipDone → List ℕ → List ℕ → List ℕ → ℕ → List ℕ → List ℕ → List ℕ → Type 0
-GossipLeft d = Left d.reply (gossip_longs d.state) (gossip_shorts d.state)
+GossipLeft d = Left d.answer (gossip_longs d.state) (gossip_shorts d.state)
 
 -- uglezmir_gossip
 abbrev pub GossipExported : ℕ → List ℕ → List ℕ → List ℕ → List ℕ → List ℕ → ℕ → ℕ → ℕ → List ℕ → ℕ → List ℕ → List ℕ → List ℕ → List ℕ → List ℕ → Type 0

@@ -1,6 +1,7 @@
 -- At most one outcome satisfies the contract of `uglezmir_gossip`: in the number, in every word and in every byte of both tables. Assumes
 -- nothing.
-use Rattle.std.specs.Prelude.{◌≡◌, List, ℕ}
+use Rattle.std.specs.Prelude.{◌≡◌, List, ℕ, Option, Some, None}
+use Rattle.gossip_settings.specs.declared.violation.GossipViolation.{GossipViolation}
 use Rattle.refusal.specs.OneOutcomeLaws.{one_outcome}
 use Rattle.pubkey.specs.declared.Pubkey.{Pubkey}
 use Rattle.gossip_settings.specs.Settings.{gossip_default}
@@ -18,21 +19,20 @@ use Rattle.gossip_laws.specs.PolicyOutcomeLaws.{
   should_bypass_one,
 }
 use Rattle.c_terms.specs.SomeLaws.{some_one, some_alone}
-use Rattle.c_bans.specs.declared.blame.Blame.{Blame}
 use Rattle.c_gossip.specs.declared.gossip.GossipOperation.{GossipOperation}
 use Rattle.c_gossip.specs.declared.gossip.GossipOperation.TheVariants as Operation
-use Rattle.c_gossip.specs.declared.gossip.GossipDone.{GossipDone}
+use Rattle.c_gossip.specs.Handed.{GossipDone}
 use Rattle.c_terms.specs.LeftLaws.{Alike, left_one, untouched_one}
 use Rattle.c_terms.specs.Keys.{key_of}
 use Rattle.c_bans.specs.Blame.{blame_of}
 use Rattle.c_gossip.specs.GossipWords.{state_of, config_of, gossip_longs, gossip_shorts}
 use Rattle.c_gossip.specs.Gossip.{gossip_operation, BlameDoes, Reads, GossipDoes, GossipExported}
 
-blame_one : (b : Blame) (s : GossipPolicyState) (before : List ℕ) (k : Pubkey) (now : ℕ) {first second : List ℕ} (d e : GossipDone)
+blame_one : (b : Option GossipViolation) (s : GossipPolicyState) (before : List ℕ) (k : Pubkey) (now : ℕ) {first second : List ℕ} (d e : GossipDone)
     → BlameDoes b s before k now d first → BlameDoes b s before k now e second → (d ≡ e) × (first ≡ second)
-blame_one (Blame.Violation v) s before k now {first} {second} d e =
+blame_one (Some v) s before k now {first} {second} d e =
     some_one (λ a b. policy_record_violation_one s before {first = first} {second = second} now k v {r = a} {q = b}) (λ a. one_outcome)
-blame_one Blame.Unknown s before k now d e = untouched_one _ d e before
+blame_one None s before k now d e = untouched_one _ d e before
 
 module _ (b o : List ℕ) {b' b'' o' o'' : List ℕ} (d e : GossipDone) where
   -- a call on bans leaves the outbound table
@@ -90,4 +90,4 @@ pub uglezmir_gossip_outcome : (operation : ℕ) (longs shorts bans outbound k : 
 uglezmir_gossip_outcome operation longs shorts bans outbound k v n now value {bans' = bans'} {bans'' = bans''} {outbound' = outbound'} {outbound'' = outbound''} =
     some_one
     (does_one (state_of longs shorts) bans outbound (key_of k) v n now {b' = bans'} {b'' = bans''} {o' = outbound'} {o'' = outbound''} (gossip_operation operation))
-    (λ d. left_one d.reply (gossip_longs d.state) (gossip_shorts d.state) longs shorts value)
+    (λ d. left_one d.answer (gossip_longs d.state) (gossip_shorts d.state) longs shorts value)

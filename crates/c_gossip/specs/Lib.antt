@@ -1,3 +1,4 @@
 pub mod GossipWords
 pub mod Gossip
 pub mod GossipLaws
+pub mod Handed

@@ -4,21 +4,17 @@
 // ask for the capacities of the delay queue, of all peers together and of one peer.
 ghost use Rattle.std.specs.Prelude.{◌≡◌};
 ghost use Rattle.c_bans.specs.Blame.{blame_of};
-ghost use Rattle.c_gossip.specs.Gossip.{gossip_operation, told_done, pruned_done, settled_done, reserved_done, capacity_reply, BlameDoes, GossipDoes, GossipLeft, GossipExported};
+ghost use Rattle.c_gossip.specs.Gossip.{gossip_operation, capacity_reply, BlameDoes, GossipDoes, GossipExported};
 
 use super::gossip_words;
-use c_bans::blame::Blame;
-use c_bans::{bans, blame};
+use c_bans::blame;
 use c_terms::reply;
 use c_terms::reply::Reply;
-use gossip_outbound::answer::Settled;
-use gossip_policy::answer::{
-    DelayedByteCapacity, GossipPruned, GossipReserved, GossipSettled, GossipTold,
-};
 use gossip_policy::state::GossipPolicyState;
 use pubkey::Pubkey;
+use refusal::Answered;
 
-#[derive(Clone, Copy)]
+#[derive(Clone, Copy, Debug, PartialEq, Eq)]
 pub enum GossipOperation {
     New,
     Default,
@@ -38,92 +34,40 @@ pub enum GossipOperation {
     Unknown,
 }
 
+impl From<u32> for GossipOperation {
+    ghost from_gives = { λ n o. o ≡ gossip_operation n };
+
+    fn from(n: u32) -> GossipOperation {
+        match n {
+            1 => GossipOperation::New,
+            2 => GossipOperation::Default,
+            3 => GossipOperation::RecordViolation,
+            4 => GossipOperation::IsBanned,
+            5 => GossipOperation::PruneBans,
+            6 => GossipOperation::Allow,
+            7 => GossipOperation::EstimateDelay,
+            8 => GossipOperation::RemovePeer,
+            9 => GossipOperation::Reserve,
+            10 => GossipOperation::Refund,
+            11 => GossipOperation::ShouldBypass,
+            12 => GossipOperation::Exceeds,
+            13 => GossipOperation::QueueCapacity,
+            14 => GossipOperation::GlobalCapacity,
+            15 => GossipOperation::PeerCapacity,
+            _ => GossipOperation::Unknown,
+        }
+    }
+}
+
 // The state after a call, and what the call said.
-#[derive(Clone, Copy)]
-pub struct GossipDone {
-    pub state: GossipPolicyState,
-    pub reply: Reply,
-}
+pub type GossipDone = Answered<GossipPolicyState, Reply>;
 
-fn operation_of(n: u32) -> GossipOperation
-    ensures { result ≡ gossip_operation n }
-{
-    match n {
-        1 => GossipOperation::New,
-        2 => GossipOperation::Default,
-        3 => GossipOperation::RecordViolation,
-        4 => GossipOperation::IsBanned,
-        5 => GossipOperation::PruneBans,
-        6 => GossipOperation::Allow,
-        7 => GossipOperation::EstimateDelay,
-        8 => GossipOperation::RemovePeer,
-        9 => GossipOperation::Reserve,
-        10 => GossipOperation::Refund,
-        11 => GossipOperation::ShouldBypass,
-        12 => GossipOperation::Exceeds,
-        13 => GossipOperation::QueueCapacity,
-        14 => GossipOperation::GlobalCapacity,
-        15 => GossipOperation::PeerCapacity,
-        _ => GossipOperation::Unknown,
-    }
-}
-
-fn told(a: GossipTold) -> GossipDone
-    ensures { result ≡ told_done a }
-{
-    let state = a.state;
-    let answer = a.answer;
-    GossipDone {
-        state,
-        reply: reply::told(answer),
-    }
-}
-
-fn pruned(a: GossipPruned) -> GossipDone
-    ensures { result ≡ pruned_done a }
-{
-    let state = a.state;
-    let answer = a.answer;
-    GossipDone {
-        state,
-        reply: bans::pruned(answer),
-    }
-}
-
-fn settled(a: GossipSettled) -> GossipDone
-    ensures { result ≡ settled_done a }
-{
-    let state = a.state;
-    let answer = a.answer;
-    match answer {
-        Settled::Done => GossipDone {
-            state,
-            reply: reply::plain(reply::DONE),
-        },
-        Settled::Refused(n) => GossipDone {
-            state,
-            reply: reply::plain(n),
-        },
-    }
-}
-
-fn reserved(a: GossipReserved) -> GossipDone
-    ensures { result ≡ reserved_done a }
-{
-    let state = a.state;
-    let answer = a.answer;
-    GossipDone {
-        state,
-        reply: reply::delay(answer),
-    }
-}
-
-fn capacity(a: DelayedByteCapacity) -> Reply
+fn capacity(a: Option<u64>) -> Reply
     ensures { result ≡ capacity_reply a }
 {
     match a {
-        DelayedByteCapacity::Unlimited => reply::plain(reply::NO),
-        DelayedByteCapacity::Bytes(n) => reply::value(n),
+        None => Reply::plain(reply::NO),
+        Some(n) => Reply::value(n),
     }
 }
 
@@ -136,12 +80,11 @@ fn blamed(
 ) -> GossipDone
     ensures { BlameDoes (blame_of violation) s ban_table.old peer now_ms result ban_table.new }
 {
-    let blame = blame::blame_of(violation);
-    match blame {
-        Blame::Violation(v) => told(s.record_violation(ban_table, peer, v, now_ms)),
-        Blame::Unknown => GossipDone {
+    match blame::blame_of(violation) {
+        Some(v) => reply::replied(s.record_violation(ban_table, peer, v, now_ms)),
+        None => Answered {
             state: s,
-            reply: reply::plain(reply::UNKNOWN),
+            answer: Reply::plain(reply::UNKNOWN),
         },
     }
 }
@@ -161,76 +104,60 @@ fn done(
     match operation {
         GossipOperation::New => {
             let config = gossip_words::config_of(s);
-            settled(GossipPolicyState::new(config, ban_table, outbound_table))
+            reply::replied(GossipPolicyState::new(config, ban_table, outbound_table))
         }
-        GossipOperation::Default => settled(GossipPolicyState::default(ban_table, outbound_table)),
+        GossipOperation::Default => reply::replied(GossipPolicyState::default(
+            ban_table,
+            outbound_table,
+        )),
         GossipOperation::RecordViolation => blamed(s, ban_table, peer, violation, now_ms),
-        GossipOperation::IsBanned => told(s.is_banned(ban_table, peer, now_ms)),
-        GossipOperation::PruneBans => pruned(s.prune_bans(ban_table, now_ms)),
+        GossipOperation::IsBanned => reply::replied(s.is_banned(ban_table, peer, now_ms)),
+        GossipOperation::PruneBans => reply::replied(s.prune_bans(ban_table, now_ms)),
         GossipOperation::Allow => {
-            told(s.allow_outbound_message(outbound_table, peer, bytes, now_ms))
+            reply::replied(s.allow_outbound_message(outbound_table, peer, bytes, now_ms))
         }
-        GossipOperation::EstimateDelay => GossipDone {
+        GossipOperation::EstimateDelay => Answered {
             state: s,
-            reply: reply::delay(s.estimate_outbound_message_delay(
-                outbound_table,
-                peer,
-                bytes,
-                now_ms,
-            )),
+            answer: s
+                .estimate_outbound_message_delay(outbound_table, peer, bytes, now_ms)
+                .into(),
         },
-        GossipOperation::RemovePeer => settled(s.remove_outbound_peer(outbound_table, peer)),
+        GossipOperation::RemovePeer => reply::replied(s.remove_outbound_peer(outbound_table, peer)),
         GossipOperation::Reserve => {
-            reserved(s.reserve_outbound_message(outbound_table, peer, bytes, now_ms))
+            reply::replied(s.reserve_outbound_message(outbound_table, peer, bytes, now_ms))
         }
         GossipOperation::Refund => {
-            settled(s.refund_outbound_message(outbound_table, peer, bytes, now_ms))
+            reply::replied(s.refund_outbound_message(outbound_table, peer, bytes, now_ms))
         }
-        GossipOperation::ShouldBypass => GossipDone {
+        GossipOperation::ShouldBypass => Answered {
             state: s,
-            reply: reply::told(s.should_bypass_oversized_outbound_message(
-                outbound_table,
-                peer,
-                bytes,
-                now_ms,
-            )),
+            answer: s
+                .should_bypass_oversized_outbound_message(outbound_table, peer, bytes, now_ms)
+                .into(),
         },
-        GossipOperation::Exceeds => GossipDone {
+        GossipOperation::Exceeds => Answered {
             state: s,
-            reply: reply::truth(s.outbound_message_exceeds_single_message_capacity(bytes)),
+            answer: s
+                .outbound_message_exceeds_single_message_capacity(bytes)
+                .into(),
         },
-        GossipOperation::QueueCapacity => GossipDone {
+        GossipOperation::QueueCapacity => Answered {
             state: s,
-            reply: reply::value(s.outbound_delay_queue_capacity()),
+            answer: Reply::value(s.outbound_delay_queue_capacity()),
         },
-        GossipOperation::GlobalCapacity => GossipDone {
+        GossipOperation::GlobalCapacity => Answered {
             state: s,
-            reply: capacity(s.outbound_global_delayed_byte_capacity()),
+            answer: capacity(s.outbound_global_delayed_byte_capacity()),
         },
-        GossipOperation::PeerCapacity => GossipDone {
+        GossipOperation::PeerCapacity => Answered {
             state: s,
-            reply: capacity(s.outbound_peer_delayed_byte_capacity()),
+            answer: capacity(s.outbound_peer_delayed_byte_capacity()),
         },
-        GossipOperation::Unknown => GossipDone {
+        GossipOperation::Unknown => Answered {
             state: s,
-            reply: reply::plain(reply::UNKNOWN),
+            answer: Reply::plain(reply::UNKNOWN),
         },
     }
-}
-
-// On a refusal nothing is left.
-fn leave(longs: &mut [u64; 10], shorts: &mut [u32; 6], value: &mut [u64; 1], d: GossipDone) -> u32
-    ensures { GossipLeft d longs.old shorts.old value.old result longs.new shorts.new value.new }
-{
-    let reply = d.reply;
-    if reply.number < reply::ANSWERS {
-        return reply.number;
-    }
-    let s = d.state;
-    *longs = gossip_words::longs_of(s);
-    *shorts = gossip_words::shorts_of(s);
-    *value = [reply.value];
-    reply.number
 }
 
 #[unsafe(no_mangle)]
@@ -251,7 +178,7 @@ pub extern "C" fn uglezmir_gossip(
     let s = gossip_words::state_of(longs, shorts);
     let key = Pubkey { bytes: *peer };
     let d = done(
-        operation_of(operation),
+        operation.into(),
         s,
         ban_table,
         outbound_table,
@@ -260,5 +187,12 @@ pub extern "C" fn uglezmir_gossip(
         bytes,
         now_ms,
     );
-    leave(longs, shorts, value, d)
+    reply::leave(
+        d.answer,
+        gossip_words::longs_of(d.state),
+        gossip_words::shorts_of(d.state),
+        longs,
+        shorts,
+        value,
+    )
 }

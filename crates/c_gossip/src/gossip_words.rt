@@ -15,7 +15,6 @@ pub(crate) fn state_of(longs: &[u64; 10], shorts: &[u32; 6]) -> GossipPolicyStat
     ensures { result ≡ state_of longs.now shorts.now }
 {
     let words = [shorts[1], shorts[2], shorts[3], shorts[4], shorts[5]];
-    let available_bytes = amount_words::amount_of(&words);
     GossipPolicyState {
         ban_tracker: GossipBanTracker {
             config: GossipBanConfig {
@@ -30,7 +29,7 @@ pub(crate) fn state_of(longs: &[u64; 10], shorts: &[u32; 6]) -> GossipPolicyStat
                 rate_bytes_per_sec: longs[3],
                 burst_bytes: longs[4],
             },
-            available_bytes,
+            available_bytes: amount_words::amount_of(&words),
             last_refill_ms: longs[5],
         },
         rows: longs[8],
@@ -46,13 +45,10 @@ pub(crate) fn state_of(longs: &[u64; 10], shorts: &[u32; 6]) -> GossipPolicyStat
 pub(crate) fn config_of(s: GossipPolicyState) -> GossipPolicyConfig
     ensures { result ≡ config_of s }
 {
-    let ban = s.ban_tracker.config;
-    let outbound_global = s.global_outbound.config;
-    let outbound_peer = s.peer_outbound_config;
     GossipPolicyConfig {
-        ban,
-        outbound_global,
-        outbound_peer,
+        ban: s.ban_tracker.config,
+        outbound_global: s.global_outbound.config,
+        outbound_peer: s.peer_outbound_config,
         outbound_delay_queue_capacity: s.outbound_delay_queue_capacity,
         inbound_channel_update: ChannelUpdateRateLimitConfig::default(),
     }
@@ -61,20 +57,15 @@ pub(crate) fn config_of(s: GossipPolicyState) -> GossipPolicyConfig
 pub(crate) fn longs_of(s: GossipPolicyState) -> [u64; 10]
     ensures { result ≡ gossip_longs s }
 {
-    let t = s.ban_tracker;
-    let ban = t.config;
-    let global = s.global_outbound;
-    let global_config = global.config;
-    let peer_config = s.peer_outbound_config;
     [
-        ban.duration_ms,
-        t.max_entries,
-        t.rows,
-        global_config.rate_bytes_per_sec,
-        global_config.burst_bytes,
-        global.last_refill_ms,
-        peer_config.rate_bytes_per_sec,
-        peer_config.burst_bytes,
+        s.ban_tracker.config.duration_ms,
+        s.ban_tracker.max_entries,
+        s.ban_tracker.rows,
+        s.global_outbound.config.rate_bytes_per_sec,
+        s.global_outbound.config.burst_bytes,
+        s.global_outbound.last_refill_ms,
+        s.peer_outbound_config.rate_bytes_per_sec,
+        s.peer_outbound_config.burst_bytes,
         s.rows,
         s.outbound_delay_queue_capacity,
     ]
@@ -83,11 +74,9 @@ pub(crate) fn longs_of(s: GossipPolicyState) -> [u64; 10]
 pub(crate) fn shorts_of(s: GossipPolicyState) -> [u32; 6]
     ensures { result ≡ gossip_shorts s }
 {
-    let ban = s.ban_tracker.config;
-    let global = s.global_outbound;
-    let words = amount_words::words_of(global.available_bytes);
+    let words = amount_words::words_of(s.global_outbound.available_bytes);
     [
-        ban.threshold,
+        s.ban_tracker.config.threshold,
         words[0],
         words[1],
         words[2],

@@ -1,18 +1,18 @@
 -- The limiter of channel updates behind the C boundary. Definitions only.
-use Rattle.std.specs.Prelude.{◌≡◌, cond, List, [], ◌∷◌, ℕ, eqb, get_or}
+use Rattle.std.specs.Prelude.{◌≡◌, cond, List, [], ◌∷◌, ℕ, eqb, get_or, Result}
+use Rattle.refusal.specs.declared.Refusal.{Refusal}
 use Rattle.refusal.specs.Some.{Some}
 use Rattle.pubkey.specs.declared.ChannelUpdateLimiterKey.{ChannelUpdateLimiterKey}
 use Rattle.gossip_settings.specs.Settings.{max_tracked_keys}
 use Rattle.gossip_limiter.specs.declared.limiter.ChannelUpdateLimiter.{ChannelUpdateLimiter}
-use Rattle.gossip_limiter.specs.declared.answer.MadeLimiter.{MadeLimiter}
-use Rattle.gossip_limiter.specs.declared.answer.LimiterTold.{LimiterTold}
-use Rattle.gossip_limiter.specs.declared.answer.TrackedKeys.{TrackedKeys}
+use Rattle.gossip_limiter.specs.Handed.{LimiterTold}
 use Rattle.gossip_limiter.specs.Calls.{MadeMeets, TryAcquireMeets, TrackedKeysMeets}
 use Rattle.c_terms.specs.declared.reply.Reply.{Reply}
-use Rattle.c_terms.specs.Answers.{reply, told_reply}
+use Rattle.c_terms.specs.Answers.{reply, delay_reply, told_reply}
+use Rattle.c_terms.specs.Answers as terms
 use Rattle.c_limiter.specs.declared.limiter.LimiterOperation.{LimiterOperation}
 use Rattle.c_limiter.specs.declared.limiter.LimiterOperation.TheVariants.{New, WithMaxEntries, TryAcquire, TrackedKeys as Tracked, Unknown}
-use Rattle.c_limiter.specs.declared.limiter.LimiterDone.{LimiterDone}
+use Rattle.c_limiter.specs.Handed.{LimiterDone}
 use Rattle.c_terms.specs.Left.{Left, Untouched}
 use Rattle.c_terms.specs.Keys.{limiter_key_of}
 
@@ -43,21 +43,19 @@ limiter_shorts l = l.config.burst ∷ []
 -- ════ Answers ════
 
 abbrev pub limiter_done : ChannelUpdateLimiter → Reply → LimiterDone
-limiter_done l s = record { limiter = l; reply = s }
+limiter_done l s = record { state = l; answer = s }
 
 -- 261 and the limiter that was made; on a refusal the one that the words said
-abbrev pub made_done : ChannelUpdateLimiter → MadeLimiter → LimiterDone
-made_done l (MadeLimiter.Limiter q) = limiter_done q (reply 261 0)
-made_done l (MadeLimiter.Refused n) = limiter_done l (reply n 0)
+abbrev pub made_done : ChannelUpdateLimiter → Result ChannelUpdateLimiter Refusal → LimiterDone
+made_done = terms.made_done
 
 -- 260 for yes, 259 for no
 abbrev pub told_done : LimiterTold → LimiterDone
-told_done a = limiter_done a.limiter (told_reply a.answer)
+told_done a = limiter_done a.state (told_reply a.answer)
 
 -- 261 and how many keys have a bucket
-abbrev pub tracked_reply : TrackedKeys → Reply
-tracked_reply (TrackedKeys.Keys n) = reply 261 n
-tracked_reply (TrackedKeys.Refused n) = reply n 0
+abbrev pub tracked_reply : Result ℕ Refusal → Reply
+tracked_reply = delay_reply
 
 -- ════ The calls ════
 
@@ -74,7 +72,7 @@ LimiterDoes Unknown l before k now d after = Untouched d (limiter_done l (reply 
 
 -- the number returned, and the words and the value after the call
 abbrev pub LimiterLeft : LimiterDone → List ℕ → List ℕ → List ℕ → ℕ → List ℕ → List ℕ → List ℕ → Type 0
-LimiterLeft d = Left d.reply (limiter_longs d.limiter) (limiter_shorts d.limiter)
+LimiterLeft d = Left d.answer (limiter_longs d.state) (limiter_shorts d.state)
 
 -- uglezmir_limiter
 abbrev pub LimiterExported : ℕ → List ℕ → List ℕ → List ℕ → List ℕ → List ℕ → ℕ → ℕ → List ℕ → ℕ → List ℕ → List ℕ → List ℕ → List ℕ → Type 0

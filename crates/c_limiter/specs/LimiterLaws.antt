@@ -7,7 +7,7 @@ use Rattle.gossip_limiter.specs.declared.limiter.ChannelUpdateLimiter.{ChannelUp
 use Rattle.gossip_laws.specs.LimiterOutcomeLaws.{limiter_made_one, try_acquire_one, tracked_keys_one}
 use Rattle.c_terms.specs.SomeLaws.{some_one, some_alone}
 use Rattle.c_limiter.specs.declared.limiter.LimiterOperation.{LimiterOperation}
-use Rattle.c_limiter.specs.declared.limiter.LimiterDone.{LimiterDone}
+use Rattle.c_limiter.specs.Handed.{LimiterDone}
 use Rattle.c_terms.specs.LeftLaws.{Alike, left_one, untouched_one}
 use Rattle.c_terms.specs.Keys.{limiter_key_of}
 use Rattle.c_limiter.specs.Limiter.{limiter_operation, limiter_of, limiter_longs, limiter_shorts, LimiterDoes, LimiterExported}
@@ -32,4 +32,4 @@ pub uglezmir_limiter_outcome : (operation : ℕ) (longs shorts before k o : List
     → Alike r q longs' longs'' shorts' shorts'' value' value'' × (first ≡ second)
 uglezmir_limiter_outcome operation longs shorts before k o side now value {first = first} {second = second} =
     some_one (does_one before {first = first} {second = second} (limiter_of longs shorts) (limiter_key_of k o side) now (limiter_operation operation))
-    (λ d. left_one d.reply (limiter_longs d.limiter) (limiter_shorts d.limiter) longs shorts value)
+    (λ d. left_one d.answer (limiter_longs d.state) (limiter_shorts d.state) longs shorts value)

@@ -1,10 +1,12 @@
 -- The exported calls: there is an answer that meets the call's contract on the policy that the words say, and it is what the number
 -- and the words after the call say. Definitions only.
 use Rattle.std.specs.Prelude.{◌≡◌, List, [], ◌∷◌, ℕ}
+use Rattle.std.specs.Prelude.{Result, Ok, Err}
+use Rattle.refusal.specs.declared.Refusal.{Refusal}
+use Rattle.refusal.specs.Refusal.{number_of}
+use Rattle.peer_state.specs.declared.ingress.FiberIngressBudget.{FiberIngressBudget}
 use Rattle.refusal.specs.Some.{Some}
 use Rattle.pubkey.specs.declared.Pubkey.{Pubkey}
-use Rattle.peer_message_policy.specs.declared.answer.InFlight.{InFlight}
-use Rattle.peer_message_policy.specs.declared.answer.HeldTime.{HeldTime}
 use Rattle.peer_message_policy.specs.Calls.{NewMeets, AdmitMeets, RecordInvalidMeets, IsBannedMeets, OnDisconnectedMeets, ReleaseIngressMeets, InFlightMeets, HeldTimeMeets}
 use Rattle.peer_message_policy.specs.Merged.{merge}
 use Rattle.c_words.specs.Words.{config_of, policy_of, Leaves}
@@ -56,9 +58,9 @@ ReleaseIngressExported longs shorts size r longs' shorts' =
     Some (λ a. ReleaseIngressMeets (policy_of longs shorts) size a) (λ a. Leaves (changed_numbered a) longs shorts r longs' shorts')
 
 -- the numbers in flight are left with 261; on a refusal what stood there stays
-abbrev pub LeavesInFlight : InFlight → List ℕ → ℕ → List ℕ → Type 0
-LeavesInFlight (InFlight.Numbers messages bytes) numbers r numbers' = (r ≡ 261) × (numbers' ≡ messages ∷ bytes ∷ [])
-LeavesInFlight (InFlight.Refused n) numbers r numbers' = (r ≡ n) × (numbers' ≡ numbers)
+abbrev pub LeavesInFlight : Result FiberIngressBudget Refusal → List ℕ → ℕ → List ℕ → Type 0
+LeavesInFlight (Ok load) numbers r numbers' = (r ≡ 261) × (numbers' ≡ load.in_flight_messages ∷ load.in_flight_bytes ∷ [])
+LeavesInFlight (Err n) numbers r numbers' = (r ≡ number_of n) × (numbers' ≡ numbers)
 
 -- in_flight: the words are only read
 abbrev pub InFlightExported : List ℕ → List ℕ → List ℕ → ℕ → List ℕ → Type 0
@@ -66,9 +68,9 @@ InFlightExported longs shorts numbers r numbers' =
     Some (λ a. InFlightMeets (policy_of longs shorts) a) (λ a. LeavesInFlight a numbers r numbers')
 
 -- the time is left with 261; on a refusal what stood there stays
-abbrev pub LeavesTime : HeldTime → ℕ → ℕ → ℕ → Type 0
-LeavesTime (HeldTime.At t) held r held' = (r ≡ 261) × (held' ≡ t)
-LeavesTime (HeldTime.Refused n) held r held' = (r ≡ n) × (held' ≡ held)
+abbrev pub LeavesTime : Result ℕ Refusal → ℕ → ℕ → ℕ → Type 0
+LeavesTime (Ok t) held r held' = (r ≡ 261) × (held' ≡ t)
+LeavesTime (Err n) held r held' = (r ≡ number_of n) × (held' ≡ held)
 
 -- held_time: the words and the table are only read
 abbrev pub HeldTimeExported : List ℕ → List ℕ → List ℕ → List ℕ → ℕ → ℕ → ℕ → ℕ → Type 0

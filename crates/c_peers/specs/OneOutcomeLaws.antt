@@ -1,9 +1,10 @@
 -- At most one outcome satisfies the contract of each exported call: the same number, the same words, and the same memory where memory is
 -- lent. Assumes nothing.
 use Rattle.std.specs.Prelude.{◌≡◌, List, ℕ}
+use Rattle.std.specs.Prelude.{Result, Ok, Err}
+use Rattle.refusal.specs.declared.Refusal.{Refusal}
+use Rattle.peer_state.specs.declared.ingress.FiberIngressBudget.{FiberIngressBudget}
 use Rattle.refusal.specs.OneOutcomeLaws.{one_outcome}
-use Rattle.peer_message_policy.specs.declared.answer.InFlight.{InFlight}
-use Rattle.peer_message_policy.specs.declared.answer.HeldTime.{HeldTime}
 use Rattle.peer_laws.specs.OneOutcomeLaws as Calls
 use Rattle.c_terms.specs.SomeLaws.{some_one, some_alone}
 use Rattle.peer_message_policy.specs.Merged.{merge}
@@ -73,15 +74,15 @@ module _ (longs shorts : List ℕ) {r q : ℕ} {longs' longs'' shorts' shorts'' 
 
 -- ════ The calls that only read the words ════
 
-in_flight_left : (a : InFlight) (numbers : List ℕ) {r q : ℕ} {first second : List ℕ} → LeavesInFlight a numbers r first
+in_flight_left : (a : Result FiberIngressBudget Refusal) (numbers : List ℕ) {r q : ℕ} {first second : List ℕ} → LeavesInFlight a numbers r first
     → LeavesInFlight a numbers q second → (r ≡ q) × (first ≡ second)
-in_flight_left (InFlight.Numbers messages bytes) numbers h k = (one_outcome h.0 k.0, one_outcome h.1 k.1)
-in_flight_left (InFlight.Refused n) numbers h k = (one_outcome h.0 k.0, one_outcome h.1 k.1)
+in_flight_left (Ok load) numbers h k = (one_outcome h.0 k.0, one_outcome h.1 k.1)
+in_flight_left (Err n) numbers h k = (one_outcome h.0 k.0, one_outcome h.1 k.1)
 
-time_left : (a : HeldTime) (held : ℕ) {r q first second : ℕ} → LeavesTime a held r first → LeavesTime a held q second
+time_left : (a : Result ℕ Refusal) (held : ℕ) {r q first second : ℕ} → LeavesTime a held r first → LeavesTime a held q second
     → (r ≡ q) × (first ≡ second)
-time_left (HeldTime.At t) held h k = (one_outcome h.0 k.0, one_outcome h.1 k.1)
-time_left (HeldTime.Refused n) held h k = (one_outcome h.0 k.0, one_outcome h.1 k.1)
+time_left (Ok t) held h k = (one_outcome h.0 k.0, one_outcome h.1 k.1)
+time_left (Err n) held h k = (one_outcome h.0 k.0, one_outcome h.1 k.1)
 
 module _ (longs shorts : List ℕ) {r q : ℕ} where
   pub in_flight_one : (numbers : List ℕ) {first second : List ℕ} → InFlightExported longs shorts numbers r first

@@ -3,7 +3,6 @@ ghost use Rattle.std.specs.Prelude.{◌≡◌};
 ghost use Rattle.c_peers.specs.Exported.{key_of, NewExported, AdmitExported, AdmitExplainedExported, RecordInvalidExported, IsBannedExported, OnDisconnectedExported, ReleaseIngressExported, InFlightExported, HeldTimeExported};
 
 use c_words::{answers, cause, words};
-use peer_message_policy::answer::{HeldTime, InFlight};
 use peer_message_policy::policy::PeerMessagePolicy;
 use pubkey::Pubkey;
 
@@ -17,9 +16,8 @@ fn key_of(peer: &[u8; 33]) -> Pubkey
 pub extern "C" fn uglezmir_new(longs: &mut [u64; 8], shorts: &mut [u32; 4], table: &mut [u8]) -> u32
     ensures { NewExported longs.old shorts.old table.old result longs.new shorts.new table.new }
 {
-    let config = words::config_of(longs, shorts);
-    let answer = PeerMessagePolicy::new(config, table);
-    words::leave(longs, shorts, answers::numbered_made(answer))
+    let answer = PeerMessagePolicy::new(words::config_of(longs, shorts), table);
+    words::leave(longs, shorts, answers::numbered_changed(answer))
 }
 
 // The Rust's answer. The cause is left aside: one function has the call compiled into it, not two.
@@ -51,11 +49,8 @@ pub extern "C" fn uglezmir_admit_explained(
 ) -> u32
     ensures { AdmitExplainedExported longs.old shorts.old table.old peer.now bytes now_ms cause.old result longs.new shorts.new table.new cause.new }
 {
-    let p = words::policy_of(longs, shorts);
-    let key = key_of(peer);
-    let answer = p.admit(table, key, bytes, now_ms);
-    let why = answer.cause;
-    cause::leave(cause, why);
+    let answer = words::policy_of(longs, shorts).admit(table, key_of(peer), bytes, now_ms);
+    cause::leave(cause, answer.cause);
     words::leave(longs, shorts, answers::numbered_admission(answer.merge()))
 }
 
@@ -69,9 +64,7 @@ pub extern "C" fn uglezmir_record_invalid(
 ) -> u32
     ensures { RecordInvalidExported longs.old shorts.old table.old peer.now now_ms result longs.new shorts.new table.new }
 {
-    let p = words::policy_of(longs, shorts);
-    let key = key_of(peer);
-    let answer = p.record_invalid(table, key, now_ms);
+    let answer = words::policy_of(longs, shorts).record_invalid(table, key_of(peer), now_ms);
     words::leave(longs, shorts, answers::numbered_invalid(answer))
 }
 
@@ -85,9 +78,7 @@ pub extern "C" fn uglezmir_is_banned(
 ) -> u32
     ensures { IsBannedExported longs.old shorts.old table.old peer.now now_ms result longs.new shorts.new table.new }
 {
-    let p = words::policy_of(longs, shorts);
-    let key = key_of(peer);
-    let answer = p.is_banned(table, key, now_ms);
+    let answer = words::policy_of(longs, shorts).is_banned(table, key_of(peer), now_ms);
     words::leave(longs, shorts, answers::numbered_standing(answer))
 }
 
@@ -101,9 +92,7 @@ pub extern "C" fn uglezmir_on_disconnected(
 ) -> u32
     ensures { OnDisconnectedExported longs.old shorts.old table.old peer.now now_ms result longs.new shorts.new table.new }
 {
-    let p = words::policy_of(longs, shorts);
-    let key = key_of(peer);
-    let answer = p.on_disconnected(table, key, now_ms);
+    let answer = words::policy_of(longs, shorts).on_disconnected(table, key_of(peer), now_ms);
     words::leave(longs, shorts, answers::numbered_changed(answer))
 }
 
@@ -115,8 +104,7 @@ pub extern "C" fn uglezmir_release_ingress(
 ) -> u32
     ensures { ReleaseIngressExported longs.old shorts.old bytes result longs.new shorts.new }
 {
-    let p = words::policy_of(longs, shorts);
-    let answer = p.release_ingress(bytes);
+    let answer = words::policy_of(longs, shorts).release_ingress(bytes);
     words::leave(longs, shorts, answers::numbered_changed(answer))
 }
 
@@ -129,14 +117,12 @@ pub extern "C" fn uglezmir_in_flight(
 ) -> u32
     ensures { InFlightExported longs.now shorts.now numbers.old result numbers.new }
 {
-    let p = words::policy_of(longs, shorts);
-    let answer = p.in_flight();
-    match answer {
-        InFlight::Numbers(messages, bytes) => {
-            *numbers = [messages as u64, bytes];
+    match words::policy_of(longs, shorts).in_flight() {
+        Ok(load) => {
+            *numbers = [load.in_flight_messages as u64, load.in_flight_bytes];
             answers::DONE
         }
-        InFlight::Refused(number) => number,
+        Err(refusal) => refusal.number(),
     }
 }
 
@@ -152,14 +138,11 @@ pub extern "C" fn uglezmir_held_time(
 ) -> u32
     ensures { HeldTimeExported longs.now shorts.now table.now peer.now given_ms held.old result held.new }
 {
-    let p = words::policy_of(longs, shorts);
-    let key = key_of(peer);
-    let answer = p.held_time(table, key, given_ms);
-    match answer {
-        HeldTime::At(time) => {
+    match words::policy_of(longs, shorts).held_time(table, key_of(peer), given_ms) {
+        Ok(time) => {
             *held = time;
             answers::DONE
         }
-        HeldTime::Refused(number) => number,
+        Err(refusal) => refusal.number(),
     }
 }

@@ -1,22 +1,24 @@
 -- The exported calls: the answer that meets the call's contract is what the number and what is left say. Definitions only.
-use Rattle.std.specs.Prelude.{◌≡◌, cond, List, [], ◌∷◌, ◌++◌, ℕ, eqb}
+use Rattle.std.specs.Prelude.{◌≡◌, List, [], ◌∷◌, ◌++◌, ℕ, Option}
+use Rattle.std.specs.Prelude.{Result, Ok, Err}
+use Rattle.refusal.specs.declared.Refusal.{Refusal}
+use Rattle.refusal.specs.Refusal.{number_of}
+use Rattle.std.specs.declared.option.Option.TheVariants as option
 use Rattle.refusal.specs.Some.{Some}
 use Rattle.peer_rows.specs.Rows.{entry_words}
 use Rattle.c_words.specs.Words.{policy_of, Leaves}
 use Rattle.c_words.specs.Answers.{made_numbered}
-use Rattle.snapshot.specs.declared.answer.Written.{Written}
-use Rattle.snapshot.specs.declared.answer.PartPlace.{PartPlace}
 use Rattle.snapshot.specs.Form.{first}
 use Rattle.snapshot.specs.Snapshot.{WriteMeets, ReadMeets, part_place}
 use Rattle.snapshot_reader.specs.declared.row.RowStep.{RowStep}
-use Rattle.snapshot_reader.specs.Reader.{given, done, step_at}
+use Rattle.snapshot_reader.specs.Reader.{step_at}
 
 -- ════ A policy written and read ════
 
 -- the snapshot's length is left with 261; on a refusal what stood there stays
-abbrev pub LengthLeft : Written → ℕ → ℕ → ℕ → Type 0
-LengthLeft (Written.Length n) length r length' = (r ≡ 261) × (length' ≡ n)
-LengthLeft (Written.Refused n) length r length' = (r ≡ n) × (length' ≡ length)
+abbrev pub LengthLeft : Result ℕ Refusal → ℕ → ℕ → ℕ → Type 0
+LengthLeft (Ok n) length r length' = (r ≡ 261) × (length' ≡ n)
+LengthLeft (Err n) length r length' = (r ≡ number_of n) × (length' ≡ length)
 
 -- uglezmir_snapshot_write: the words and the table are only read
 abbrev pub WriteExported : List ℕ → List ℕ → List ℕ → List ℕ → ℕ → ℕ → List ℕ → ℕ → Type 0
@@ -31,27 +33,41 @@ ReadExported longs shorts snapshot before r longs' shorts' after =
 -- ════ A snapshot asked for its parts ════
 
 -- where the part begins and ends is left with 261; on a refusal what stood there stays
-abbrev pub PlaceLeft : PartPlace → List ℕ → ℕ → List ℕ → Type 0
-PlaceLeft (PartPlace.At a e) place r place' = (r ≡ 261) × (place' ≡ a ∷ e ∷ [])
-PlaceLeft (PartPlace.Refused n) place r place' = (r ≡ n) × (place' ≡ place)
+abbrev pub PlaceLeft : Result (ℕ × ℕ) Refusal → List ℕ → ℕ → List ℕ → Type 0
+PlaceLeft (Ok (a, e)) place r place' = (r ≡ 261) × (place' ≡ a ∷ e ∷ [])
+PlaceLeft (Err n) place r place' = (r ≡ number_of n) × (place' ≡ place)
 
 -- uglezmir_snapshot_place: a kind may be any number
 abbrev pub PlaceExported : List ℕ → ℕ → List ℕ → ℕ → List ℕ → Type 0
 PlaceExported snapshot kind place r place' = PlaceLeft (part_place first snapshot kind) place r place'
 
--- the number of a step: 261 for a row, 259 where all were given, else its mark, which is the refusal
-abbrev pub step_number : RowStep → ℕ
-step_number step = cond (eqb step.mark given) 261 (cond (eqb step.mark done) 259 step.mark)
+-- the number of a step: 261 for a row, 259 where all were given, else that of the refusal
+abbrev pub step_number : Result (Option RowStep) Refusal → ℕ
+step_number (Ok (option.Some step)) = 261
+step_number (Ok option.None) = 259
+step_number (Err n) = number_of n
 
 -- a row's eleven numbers in the row's order, then the next row's place
 abbrev pub step_numbers : RowStep → List ℕ
 step_numbers step = entry_words step.row.entry ++ (step.at ∷ [])
 
+-- the key of the row, or the one that stood there
+abbrev pub key_left : List ℕ → Result (Option RowStep) Refusal → List ℕ
+key_left key (Ok (option.Some step)) = step.row.key.bytes
+key_left key (Ok option.None) = key
+key_left key (Err n) = key
+
+-- the numbers of the step that gives a row, or those that stood there
+abbrev pub numbers_left : List ℕ → Result (Option RowStep) Refusal → List ℕ
+numbers_left numbers (Ok (option.Some step)) = step_numbers step
+numbers_left numbers (Ok option.None) = numbers
+numbers_left numbers (Err n) = numbers
+
 -- the row is left if there is one; else what stood there stays
-pub record StepLeft (step : RowStep) (key numbers : List ℕ) (r : ℕ) (key' numbers' : List ℕ) : Type 0 where
+pub record StepLeft (step : Result (Option RowStep) Refusal) (key numbers : List ℕ) (r : ℕ) (key' numbers' : List ℕ) : Type 0 where
   pub number : r ≡ step_number step
-  pub left_key : key' ≡ cond (eqb step.mark given) step.row.key.bytes key
-  pub left_numbers : numbers' ≡ cond (eqb step.mark given) (step_numbers step) numbers
+  pub left_key : key' ≡ key_left key step
+  pub left_numbers : numbers' ≡ numbers_left numbers step
 
 -- uglezmir_snapshot_row
 abbrev pub RowExported : List ℕ → ℕ → List ℕ → List ℕ → ℕ → List ℕ → List ℕ → Type 0

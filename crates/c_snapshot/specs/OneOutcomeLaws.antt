@@ -1,13 +1,13 @@
 -- At most one outcome satisfies the contract of each exported call: the same number, the same words, and the same memory where memory is
 -- lent. Assumes nothing.
 use Rattle.std.specs.Prelude.{◌≡◌, List, ℕ}
+use Rattle.std.specs.Prelude.{Result, Ok, Err}
+use Rattle.refusal.specs.declared.Refusal.{Refusal}
 use Rattle.refusal.specs.OneOutcomeLaws.{one_outcome}
 use Rattle.c_terms.specs.SomeLaws.{some_one}
 use Rattle.c_words.specs.Words.{policy_of}
 use Rattle.c_words.specs.Answers.{made_numbered}
 use Rattle.c_words.specs.LeavesLaws.{Alike, leaves_one}
-use Rattle.snapshot.specs.declared.answer.Written.{Written}
-use Rattle.snapshot.specs.declared.answer.PartPlace.{PartPlace}
 use Rattle.snapshot.specs.Form.{first}
 use Rattle.snapshot.specs.Snapshot.{part_place}
 use Rattle.snapshot.specs.ReadLaws as Read
@@ -16,10 +16,10 @@ use Rattle.c_snapshot.specs.Exported.{LengthLeft, WriteExported, ReadExported, P
 
 -- ════ A policy written and read ════
 
-length_left : (a : Written) (length : ℕ) {r q first second : ℕ} → LengthLeft a length r first → LengthLeft a length q second
+length_left : (a : Result ℕ Refusal) (length : ℕ) {r q first second : ℕ} → LengthLeft a length r first → LengthLeft a length q second
     → (r ≡ q) × (first ≡ second)
-length_left (Written.Length n) length h k = (one_outcome h.0 k.0, one_outcome h.1 k.1)
-length_left (Written.Refused n) length h k = (one_outcome h.0 k.0, one_outcome h.1 k.1)
+length_left (Ok n) length h k = (one_outcome h.0 k.0, one_outcome h.1 k.1)
+length_left (Err n) length h k = (one_outcome h.0 k.0, one_outcome h.1 k.1)
 
 module _ (longs shorts : List ℕ) {r q : ℕ} where
   pub write_one : (table before : List ℕ) (length : ℕ) {first second : List ℕ} {length' length'' : ℕ}
@@ -36,10 +36,10 @@ module _ (longs shorts : List ℕ) {r q : ℕ} where
 
 -- ════ A snapshot asked for its parts ════
 
-place_left : (a : PartPlace) (place : List ℕ) {r q : ℕ} {first second : List ℕ} → PlaceLeft a place r first → PlaceLeft a place q second
+place_left : (a : Result (ℕ × ℕ) Refusal) (place : List ℕ) {r q : ℕ} {first second : List ℕ} → PlaceLeft a place r first → PlaceLeft a place q second
     → (r ≡ q) × (first ≡ second)
-place_left (PartPlace.At a e) place h k = (one_outcome h.0 k.0, one_outcome h.1 k.1)
-place_left (PartPlace.Refused n) place h k = (one_outcome h.0 k.0, one_outcome h.1 k.1)
+place_left (Ok (a, e)) place h k = (one_outcome h.0 k.0, one_outcome h.1 k.1)
+place_left (Err n) place h k = (one_outcome h.0 k.0, one_outcome h.1 k.1)
 
 module _ (snapshot : List ℕ) {r q : ℕ} where
   pub place_one : (kind : ℕ) (place : List ℕ) {first second : List ℕ} → PlaceExported snapshot kind place r first

@@ -5,19 +5,18 @@ ghost use Rattle.snapshot.specs.Snapshot.{part_place};
 ghost use Rattle.c_snapshot.specs.Exported.{step_numbers, StepLeft, PlaceExported, RowExported};
 
 use c_words::answers;
-use snapshot::answer::PartPlace;
-use snapshot_reader::row;
-use snapshot_reader::row::RowStep;
+use refusal::Refusal;
+use snapshot_reader::row::{RowStep, row_at};
 
 // The largest number that a kind's 16 bits hold.
 const LARGEST_KIND: u32 = 0xffff;
 
 // Where the part of the kind stands. No snapshot has a kind above 16 bits.
-fn place_of(snapshot: &[u8], kind: u32) -> PartPlace
+fn place_of(snapshot: &[u8], kind: u32) -> Result<(usize, usize), Refusal>
     ensures { result ≡ part_place first snapshot.now kind }
 {
     if kind > LARGEST_KIND {
-        return PartPlace::Refused(refusal::WRONG_LAYOUT);
+        return Err(Refusal::WrongLayout);
     }
     snapshot::part::place_of_kind(snapshot, kind as u16)
 }
@@ -27,13 +26,12 @@ fn place_of(snapshot: &[u8], kind: u32) -> PartPlace
 pub extern "C" fn uglezmir_snapshot_place(snapshot: &[u8], kind: u32, place: &mut [u64; 2]) -> u32
     ensures { PlaceExported snapshot.now kind place.old result place.new }
 {
-    let found = place_of(snapshot, kind);
-    match found {
-        PartPlace::At(from, end) => {
+    match place_of(snapshot, kind) {
+        Ok((from, end)) => {
             *place = [from as u64, end as u64];
             answers::DONE
         }
-        PartPlace::Refused(number) => number,
+        Err(refusal) => refusal.number(),
     }
 }
 
@@ -41,9 +39,7 @@ pub extern "C" fn uglezmir_snapshot_place(snapshot: &[u8], kind: u32, place: &mu
 fn numbers_of(step: RowStep) -> [u64; 12]
     ensures { result ≡ step_numbers step }
 {
-    let row = step.row;
-    let entry = row.entry;
-    let words = peer_rows::row::words_of(entry);
+    let words = peer_rows::row::words_of(step.row.entry);
     [
         words[0],
         words[1],
@@ -61,22 +57,20 @@ fn numbers_of(step: RowStep) -> [u64; 12]
 }
 
 // Leaves the row of a step that gives one; the number says which step it is.
-fn leave(key: &mut [u8; 33], numbers: &mut [u64; 12], step: RowStep) -> u32
+fn leave(key: &mut [u8; 33], numbers: &mut [u64; 12], step: Result<Option<RowStep>, Refusal>) -> u32
     ensures { StepLeft step key.old numbers.old result key.new numbers.new }
 {
-    let mark = step.mark;
-    if mark == row::GIVEN {
-        let row = step.row;
-        let peer = row.key;
-        let bytes = peer.bytes;
-        *key = bytes;
-        *numbers = numbers_of(step);
-        return answers::DONE;
+    match step {
+        Ok(Some(given)) => {
+            // Kept: a field that is an array is stored through a variable, since the check does not cover it otherwise.
+            let bytes = given.row.key.bytes;
+            *key = bytes;
+            *numbers = numbers_of(given);
+            answers::DONE
+        }
+        Ok(None) => answers::NO,
+        Err(refusal) => refusal.number(),
     }
-    if mark == row::DONE {
-        return answers::NO;
-    }
-    mark
 }
 
 // 261, and the row at the place is left: its key in `key`, its eleven numbers and then the next row's place in `numbers`; 259 where all
@@ -90,6 +84,5 @@ pub extern "C" fn uglezmir_snapshot_row(
 ) -> u32
     ensures { RowExported snapshot.now at key.old numbers.old result key.new numbers.new }
 {
-    let step = row::row_at(snapshot, at as usize);
-    leave(key, numbers, step)
+    leave(key, numbers, row_at(snapshot, at as usize))
 }

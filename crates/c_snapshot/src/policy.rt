@@ -2,7 +2,6 @@
 ghost use Rattle.c_snapshot.specs.Exported.{WriteExported, ReadExported};
 
 use c_words::{answers, words};
-use snapshot::answer::Written;
 
 // 261, and how many bytes of the output became the snapshot is left in `length`; 3 or 1.
 #[unsafe(no_mangle)]
@@ -15,14 +14,12 @@ pub extern "C" fn uglezmir_snapshot_write(
 ) -> u32
     ensures { WriteExported longs.now shorts.now table.now output.old length.old result output.new length.new }
 {
-    let p = words::policy_of(longs, shorts);
-    let answer = snapshot::policy::write(p, table, output);
-    match answer {
-        Written::Length(size) => {
+    match snapshot::policy::write(words::policy_of(longs, shorts), table, output) {
+        Ok(size) => {
             *length = size as u64;
             answers::DONE
         }
-        Written::Refused(number) => number,
+        Err(refusal) => refusal.number(),
     }
 }
 
@@ -37,5 +34,5 @@ pub extern "C" fn uglezmir_snapshot_read(
     ensures { ReadExported longs.old shorts.old snapshot.now table.old result longs.new shorts.new table.new }
 {
     let answer = snapshot::policy::read(snapshot, table);
-    words::leave(longs, shorts, answers::numbered_made(answer))
+    words::leave(longs, shorts, answers::numbered_changed(answer))
 }

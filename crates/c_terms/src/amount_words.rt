@@ -7,25 +7,15 @@ use amount::Amount;
 pub fn amount_of(words: &[u32; 5]) -> Amount
     ensures { result ≡ amount_of_words words.now }
 {
-    let limbs = [words[1], words[2], words[3], words[4]];
-    if words[0] == 0 {
-        return Amount {
-            negative: false,
-            limbs,
-        };
-    }
     Amount {
-        negative: true,
-        limbs,
+        negative: words[0] != 0,
+        limbs: [words[1], words[2], words[3], words[4]],
     }
 }
 
 pub fn words_of(a: Amount) -> [u32; 5]
     ensures { result ≡ amount_words a }
 {
-    let limbs = a.limbs;
-    if a.negative {
-        return [1, limbs[0], limbs[1], limbs[2], limbs[3]];
-    }
-    [0, limbs[0], limbs[1], limbs[2], limbs[3]]
+    let [first, second, third, fourth] = a.limbs;
+    [a.negative as u32, first, second, third, fourth]
 }

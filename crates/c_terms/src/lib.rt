@@ -5,3 +5,4 @@
 
 pub mod amount_words;
 pub mod reply;
+pub mod settings_words;

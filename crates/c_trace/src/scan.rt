@@ -4,7 +4,7 @@ ghost use Rattle.c_trace.specs.Written.{LineLeft};
 ghost use Rattle.c_trace.specs.Private.{Written};
 
 use super::words;
-use trace::scan;
+use trace::scan::Scan;
 use trace_lines::line::{LINE_SIZE, TraceLine};
 
 fn write(line: &mut [u8; LINE_SIZE], written: TraceLine) -> u32
@@ -25,8 +25,7 @@ pub extern "C" fn uglezmir_trace_open(
 )
     ensures { OpenExported input.now place.new longs.new shorts.new }
 {
-    let opened = scan::open(input);
-    words::leave(place, longs, shorts, opened);
+    words::leave(place, longs, shorts, Scan::open(input));
 }
 
 // The line is left in `line`, zeros behind it; its length is handed out, 0 where the scan is done.
@@ -42,9 +41,15 @@ pub extern "C" fn uglezmir_trace_next(
     ensures { NextExported place.old longs.old shorts.old input.now table.old result place.new longs.new shorts.new table.new line.new }
 {
     let before = words::scan_of(place, longs, shorts);
-    let handed = scan::next(before, input, table);
-    let behind = handed.scan;
-    words::leave(place, longs, shorts, behind);
-    let written = handed.line;
-    write(line, written)
+    match before.next(input, table) {
+        Some(handed) => {
+            words::leave(place, longs, shorts, handed.scan);
+            write(line, handed.line)
+        }
+        None => {
+            words::leave(place, longs, shorts, before);
+            *line = [0; LINE_SIZE];
+            0
+        }
+    }
 }

@@ -1,9 +1,10 @@
 -- A policy as the words that cross the C boundary. Definitions only.
 use Rattle.std.specs.Prelude.{◌≡◌, List, [], ◌∷◌, ℕ, get_or}
+use Rattle.std.specs.Prelude.{Result, Ok, Err}
+use Rattle.refusal.specs.declared.Refusal.{Refusal}
+use Rattle.refusal.specs.Refusal.{number_of}
 use Rattle.peer_settings.specs.declared.config.PeerMessagePolicyConfig.{PeerMessagePolicyConfig}
 use Rattle.peer_message_policy.specs.declared.policy.PeerMessagePolicy.{PeerMessagePolicy}
-use Rattle.c_words.specs.declared.answers.Numbered.{Numbered}
-use Rattle.c_words.specs.declared.answers.Numbered.TheVariants.{Answered, Refused}
 
 -- the settings that these words say
 abbrev pub config_of : List ℕ → List ℕ → PeerMessagePolicyConfig
@@ -52,6 +53,6 @@ shorts_of p =
     ∷ []
 
 -- the number returned is the answer's, and the words after the call are those of its policy; on a refusal they stay
-abbrev pub Leaves : Numbered → List ℕ → List ℕ → ℕ → List ℕ → List ℕ → Type 0
-Leaves (Answered n p) longs shorts r longs' shorts' = (r ≡ n) × (longs' ≡ longs_of p) × (shorts' ≡ shorts_of p)
-Leaves (Refused n) longs shorts r longs' shorts' = (r ≡ n) × (longs' ≡ longs) × (shorts' ≡ shorts)
+abbrev pub Leaves : Result (ℕ × PeerMessagePolicy) Refusal → List ℕ → List ℕ → ℕ → List ℕ → List ℕ → Type 0
+Leaves (Ok (n, p)) longs shorts r longs' shorts' = (r ≡ n) × (longs' ≡ longs_of p) × (shorts' ≡ shorts_of p)
+Leaves (Err n) longs shorts r longs' shorts' = (r ≡ number_of n) × (longs' ≡ longs) × (shorts' ≡ shorts)

@@ -5,6 +5,7 @@ ghost use Rattle.c_words.specs.Private.{ShortageWords};
 
 use peer_verdict::verdict::{Cause, Shortage};
 
+// Kept: the C interface has numbers for causes.
 pub const ALLOWED: u64 = 0;
 
 pub const MESSAGES: u64 = 1;

@@ -1,4 +1,5 @@
 -- One round of the loops of `decimal`: a digit read, a digit counted, a digit written. Assumes nothing.
+use Rattle.std.specs.Prelude.{Option, Some, None}
 use mathlib.Core.Bool.{Bool, true, false, cond}
 use mathlib.Core.Path.{◌≡◌, refl, sym, ap, ◌∙◌}
 use mathlib.Core.List.{List, [], ◌∷◌, ◌++◌}
@@ -13,18 +14,16 @@ use Rattle.lent_bytes.specs.LentBytesLaws.{set_put, put_under_at}
 use Rattle.decimal.specs.Ascii.{code}
 use Rattle.decimal.specs.Decimal.{digits_within, digits_at_front, value_from, bounded, number_of}
 use Rattle.decimal.specs.DecimalLaws.{digits_more, is_digit_lem, value_grows, zero_number, plain_number, low_digits, length_low}
-use Rattle.decimal.specs.declared.Scanned.{Scanned}
-use Rattle.decimal.specs.declared.Scanned.TheVariants.{Number, Bad}
 
 -- ════ Reading ════
 
 -- what the digits from the place i on make of the number v
-abbrev pub outcome : List ℕ → ℕ → ℕ → ℕ → Scanned
+abbrev pub outcome : List ℕ → ℕ → ℕ → ℕ → Option (ℕ × ℕ)
 outcome text i v most = bounded (value_from v (digits_at_front (drop i text))) (i + length (digits_at_front (drop i text))) most
 
 module _ (text : List ℕ) (i v most : ℕ) where
   -- no digit is left
-  pub outcome_ended : digits_at_front (drop i text) ≡ [] → v ≤ most → outcome text i v most ≡ Number v i
+  pub outcome_ended : digits_at_front (drop i text) ≡ [] → v ≤ most → outcome text i v most ≡ Some (v, i)
   outcome_ended e h = rw (e, le-leb v most h, add-zero)
 
   pub outcome_more : i < length text → code "0" ≤ get_or text i 0 → get_or text i 0 ≤ code "9"
@@ -35,7 +34,7 @@ module _ (text : List ℕ) (i v most : ℕ) where
 
   -- a number that passes the bound stays above it
   pub outcome_large : i < length text → code "0" ≤ get_or text i 0 → get_or text i 0 ≤ code "9"
-      → most < v * 10 + (get_or text i 0 - code "0") → outcome text i v most ≡ Bad
+      → most < v * 10 + (get_or text i 0 - code "0") → outcome text i v most ≡ None
   outcome_large h low high large =
       let w : ℕ = v * 10 + (get_or text i 0 - code "0") in
       let ds : List ℕ = digits_at_front (drop (i + 1) text) in
@@ -49,12 +48,12 @@ module _ (text : List ℕ) (at : ℕ) (there : at < length text) (zero-digit : g
       ∙ ap (λ (b : ℕ). b ∷ digits_at_front (drop (at + 1) text)) zero-digit
 
   -- a zero and no digit behind it
-  pub zero_then_none : digits_at_front (drop (at + 1) text) ≡ [] → number_of (digits_at_front (drop at text)) at 0 ≡ Number 0 (at + 1)
+  pub zero_then_none : digits_at_front (drop (at + 1) text) ≡ [] → number_of (digits_at_front (drop at text)) at 0 ≡ Some (0, at + 1)
   zero_then_none e = rw (zero_first, e)
 
   -- a zero before another digit
   pub zero_then_digit : at + 1 < length text → code "0" ≤ get_or text (at + 1) 0 → get_or text (at + 1) 0 ≤ code "9"
-      → number_of (digits_at_front (drop at text)) at 0 ≡ Bad
+      → number_of (digits_at_front (drop at text)) at 0 ≡ None
   zero_then_digit h low high = rw (zero_first, digits_more text (at + 1) h (is_digit_lem (get_or text (at + 1) 0) low high))
 
   -- a zero is small enough for any bound

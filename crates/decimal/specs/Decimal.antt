@@ -1,10 +1,9 @@
 -- Numbers as decimal text: the only spelling of a number, and what stands at a place of a text. Definitions only; their laws
 -- are in `DecimalLaws`.
 use Rattle.std.specs.Prelude.{Bool, cond, ◌&&◌, List, [], ◌∷◌, ◌++◌, ℕ, zero, suc, ◌+◌, ◌-◌, ◌*◌, ◌/◌, ◌%◌, leb, ltb, eqb, length, drop}
+use Rattle.std.specs.Prelude.{Option, Some, None}
 use Rattle.refusal.specs.Refusal.{Said, gives}
 use Rattle.decimal.specs.Ascii.{code}
-use Rattle.decimal.specs.declared.Scanned.{Scanned}
-use Rattle.decimal.specs.declared.Scanned.TheVariants.{Number, Bad}
 
 -- whether a byte is one of `0` to `9`
 abbrev pub is_digit : ℕ → Bool
@@ -34,20 +33,20 @@ value_from v [] = v
 value_from v (d ∷ ds) = value_from (v * 10 + (d - code "0")) ds
 
 -- a number that ends at a place, if it is at most `most`
-abbrev pub bounded : ℕ → ℕ → ℕ → Scanned
-bounded v end most = cond (leb v most) (Number v end) Bad
+abbrev pub bounded : ℕ → ℕ → ℕ → Option (ℕ × ℕ)
+bounded v end most = cond (leb v most) (Some (v, end)) None
 
 -- the number of a run of digits that begins at a place: none is bad, and so is a zero before others
-abbrev pub number_of : List ℕ → ℕ → ℕ → Scanned
-number_of [] at most = Bad
+abbrev pub number_of : List ℕ → ℕ → ℕ → Option (ℕ × ℕ)
+number_of [] at most = None
 number_of (d ∷ []) at most = bounded (d - code "0") (at + 1) most
-number_of (d ∷ e ∷ ds) at most = cond (eqb d (code "0")) Bad (bounded (value_from 0 (d ∷ e ∷ ds)) (at + length (d ∷ e ∷ ds)) most)
+number_of (d ∷ e ∷ ds) at most = cond (eqb d (code "0")) None (bounded (value_from 0 (d ∷ e ∷ ds)) (at + length (d ∷ e ∷ ds)) most)
 
 -- the number at a place of a text, of all the digits that stand there, and the place behind it
-unfoldable pub scan_of : List ℕ → ℕ → ℕ → Scanned
+unfoldable pub scan_of : List ℕ → ℕ → ℕ → Option (ℕ × ℕ)
 scan_of text at most = number_of (digits_at_front (drop at text)) at most
 
 -- what the answer says: the number and the place behind it, or nothing
-abbrev pub scanned_says : Scanned → Said
-scanned_says (Number v end) = gives (v ∷ end ∷ [])
-scanned_says Bad = gives []
+abbrev pub scanned_says : Option (ℕ × ℕ) → Said
+scanned_says (Some (v, end)) = gives (v ∷ end ∷ [])
+scanned_says None = gives []

@@ -3,15 +3,15 @@
 -- In order: digits of a text; the value of digits; the digits of a number; what is written reads back; the only spelling;
 -- at most one outcome.
 use Rattle.std.specs.Prelude.{Bool, true, false, cond, ◌&&◌, ◌≡◌, refl, List, [], ◌∷◌, ◌++◌, ℕ, zero, suc, ◌+◌, ◌-◌, ◌*◌, ◌/◌, ◌%◌, ◌^◌, ◌≤◌, ◌<◌, leb, ltb, eqb, length, drop, take, get_or}
+use Rattle.std.specs.Prelude.{Option, Some, None}
 use Prim.{Unit, tt}
 use Rattle.std.proofs.Common.{sym, ap, ◌∙◌, append_assoc, append-nil, pow-suc, mul-le-mul_right, zero-add, add-zero, add-one, arith, ltb-true, ltb-false, leb-true, leb-false, lt-ltb, le-ltb, le-leb, ne_eqb, length-append, drop_of_length-le, drop-cons, drop_at, length-take-le}
 use Rattle.std.proofs.lemmas.Bool.{eqb-false, lt-leb}
+use Rattle.std.proofs.lemmas.Option.{some_pair_parts}
 use Rattle.lent_bytes.specs.LentBytes.{put}
 use Rattle.refusal.specs.OneOutcomeLaws.{one_outcome}
 use Rattle.decimal.specs.Ascii.{code}
 use Rattle.decimal.specs.Decimal.{is_digit, digits_within, most_digits, digits_of, digits_at_front, value_from, bounded, number_of, scan_of}
-use Rattle.decimal.specs.declared.Scanned.{Scanned}
-use Rattle.decimal.specs.declared.Scanned.TheVariants.{Number, Bad}
 
 -- ════ Digits of a text ════
 
@@ -201,7 +201,7 @@ pub zero_number : (ds : List ℕ) (at most : ℕ) → number_of (code "0" ∷ ds
 zero_number [] at most = rw (le-leb 0 most (omega arith))
 zero_number (e ∷ ds) at most = refl
 
-bounded_number : (v end most : ℕ) → v ≤ most → bounded v end most ≡ Number v end
+bounded_number : (v end most : ℕ) → v ≤ most → bounded v end most ≡ Some (v, end)
 bounded_number v end most h = rw (le-leb v most h)
 
 -- a number that was read is at most what was asked for, and is the run's
@@ -210,21 +210,20 @@ pub record Bounded (v end most n place : ℕ) : Type 0 where
   pub same_end : place ≡ end
   pub small : n ≤ most
 
-within_bound : (v end most n place : ℕ) → bounded v end most ≡ Number n place → Bounded v end most n place
+within_bound : (v end most n place : ℕ) → bounded v end most ≡ Some (n, place) → Bounded v end most n place
 within_bound v end most n place h = go (leb v most) refl h
   where
-    go : (b : Bool) → leb v most ≡ b → cond b (Number v end) Bad ≡ Number n place → Bounded v end most n place
+    go : (b : Bool) → leb v most ≡ b → cond {A = Option (ℕ × ℕ)} b (Some (v, end)) None ≡ Some (n, place) → Bounded v end most n place
     go true p q =
-        let e : v ≡ n = cc in
-        let f : end ≡ place = cc in
-        record { same_value = sym e; same_end = sym f; small = omega (arith, leb-true v most p) }
+        let e = some_pair_parts v n end place q in
+        record { same_value = sym e.0; same_end = sym e.1; small = omega (arith, leb-true v most p) }
     go false p q = let z : ◌≡◌ {A = ℕ} 0 1 = cc in absurd (omega arith)
 
 -- ════ What is written reads back ════
 
 -- the text of a number, before a text that begins with no digit, reads as that number
 pub reads_back : (before rest : List ℕ) (n most : ℕ) → digits_at_front rest ≡ [] → n ≤ most → n < 10 ^ 20
-    → scan_of (before ++ (digits_of n ++ rest)) (length before) most ≡ Number n (length before + length (digits_of n))
+    → scan_of (before ++ (digits_of n ++ rest)) (length before) most ≡ Some (n, length before + length (digits_of n))
 unfolding scan_of digits_of
 reads_back before rest n most ended small below =
     let ds : List ℕ = digits_within most_digits n in
@@ -234,7 +233,7 @@ reads_back before rest n most ended small below =
     ∙ ap (λ (l : List ℕ). number_of l at most) front
     ∙ go (ltb 0 n) refl
   where
-    go : (b : Bool) → ltb 0 n ≡ b → number_of (digits_within most_digits n) (length before) most ≡ Number n (length before + length (digits_within most_digits n))
+    go : (b : Bool) → ltb 0 n ≡ b → number_of (digits_within most_digits n) (length before) most ≡ Some (n, length before + length (digits_within most_digits n))
     go true p =
         plain_number (digits_within most_digits n) (length before) most (first_within most_digits n (ltb-true 0 n p) below)
         ∙ rw (value_within most_digits n below) (bounded_number n (length before + length (digits_within most_digits n)) most small)
@@ -244,14 +243,14 @@ reads_back before rest n most ended small below =
 
 -- the same of a number that was written over a text
 pub written_reads_back : (s : List ℕ) (at n most : ℕ) → at ≤ length s → digits_at_front (drop (at + length (digits_of n)) s) ≡ []
-    → n ≤ most → n < 10 ^ 20 → scan_of (put s at (digits_of n)) at most ≡ Number n (at + length (digits_of n))
+    → n ≤ most → n < 10 ^ 20 → scan_of (put s at (digits_of n)) at most ≡ Some (n, at + length (digits_of n))
 unfolding put
 written_reads_back s at n most h ended small below =
     let e : length (take at s) ≡ at = length-take-le at s h in
     let rest : List ℕ = drop (at + length (digits_of n)) s in
     ap (λ (k : ℕ). scan_of (take at s ++ (digits_of n ++ rest)) k most) (sym e)
     ∙ reads_back (take at s) rest n most ended small below
-    ∙ ap (λ (k : ℕ). Number n (k + length (digits_of n))) e
+    ∙ ap (λ (k : ℕ). Some (n, k + length (digits_of n))) e
 
 -- ════ The only spelling ════
 
@@ -301,7 +300,7 @@ pub record Spelled (text : List ℕ) (at most n end : ℕ) : Type 0 where
   pub end_is : end ≡ at + length (digits_of n)
   pub small : n ≤ most
 
-run_number : (ds : List ℕ) (at most n end : ℕ) → AllDigits ds → most < 10 ^ 20 → number_of ds at most ≡ Number n end
+run_number : (ds : List ℕ) (at most n end : ℕ) → AllDigits ds → most < 10 ^ 20 → number_of ds at most ≡ Some (n, end)
     → (ds ≡ digits_of n) × ((end ≡ at + length ds) × (n ≤ most))
 unfolding digits_of
 run_number [] at most n end a m h = let z : ◌≡◌ {A = ℕ} 0 1 = cc in absurd (omega arith)
@@ -313,7 +312,7 @@ run_number (d ∷ []) at most n end a m h =
 run_number (d ∷ e ∷ ds) at most n end a m h = go (eqb d (code "0")) refl h
   where
     go : (b : Bool) → eqb d (code "0") ≡ b
-        → cond b Bad (bounded (value_from 0 (d ∷ e ∷ ds)) (at + length (d ∷ e ∷ ds)) most) ≡ Number n end
+        → cond b None (bounded (value_from 0 (d ∷ e ∷ ds)) (at + length (d ∷ e ∷ ds)) most) ≡ Some (n, end)
         → (d ∷ e ∷ ds ≡ digits_within most_digits n) × ((end ≡ at + length (d ∷ e ∷ ds)) × (n ≤ most))
     go true p q = let z : ◌≡◌ {A = ℕ} 0 1 = cc in absurd (omega arith)
     go false p q =
@@ -325,7 +324,7 @@ run_number (d ∷ e ∷ ds) at most n end a m h = go (eqb d (code "0")) refl h
         )
 
 -- where a number is read, its text stands: no other spelling is taken
-pub only_spelling : (text : List ℕ) (at most n end : ℕ) → most < 10 ^ 20 → scan_of text at most ≡ Number n end → Spelled text at most n end
+pub only_spelling : (text : List ℕ) (at most n end : ℕ) → most < 10 ^ 20 → scan_of text at most ≡ Some (n, end) → Spelled text at most n end
 unfolding scan_of
 only_spelling text at most n end m h =
     let ds : List ℕ = digits_at_front (drop at text) in
@@ -339,7 +338,7 @@ only_spelling text at most n end m h =
 
 -- ════ At most one outcome ════
 
-pub scan_outcome : (text : List ℕ) (at most : ℕ) {r s : Scanned} → r ≡ scan_of text at most → s ≡ scan_of text at most → r ≡ s
+pub scan_outcome : (text : List ℕ) (at most : ℕ) {r s : Option (ℕ × ℕ)} → r ≡ scan_of text at most → s ≡ scan_of text at most → r ≡ s
 scan_outcome text at most = one_outcome
 
 pub width_outcome : (n : ℕ) {r s : ℕ} → r ≡ length (digits_of n) → s ≡ length (digits_of n) → r ≡ s

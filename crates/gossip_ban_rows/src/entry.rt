@@ -1,7 +1,7 @@
 // What is kept of one peer: the four numbers of its row, behind its key.
 //
 // In a row every number is a u64, so a score handed in may be anything: no function here asks for a sound entry.
-ghost use Rattle.std.specs.Prelude.{◌≡◌, ◌+◌, min};
+ghost use Rattle.std.specs.Prelude.{◌≡◌};
 ghost use Rattle.gossip_ban_rows.specs.Entry.{entry_default, expires_at_ms, is_expired, is_currently_banned, entry_sound};
 ghost use Rattle.gossip_ban_rows.specs.Entry.{raised as raisedBy, reaches as reachedBy, banned_if_reached};
 ghost use Rattle.gossip_ban_rows.specs.Private.{unexpired_or_default};
@@ -9,25 +9,12 @@ ghost use Rattle.gossip_ban_rows.specs.Private.{unexpired_or_default};
 use gossip_settings::ban::GossipBanConfig;
 
 // `mark` and `until_ms` are the Rust's `banned_until_ms: Option<u64>`: a mark, 1 where there is a ban, beside its end.
-#[derive(Clone, Copy)]
+#[derive(Clone, Copy, Debug, PartialEq, Eq)]
 pub struct GossipBanEntry {
     pub score: u64,
     pub mark: u64,
     pub until_ms: u64,
     pub last_updated_ms: u64,
-}
-
-// The sum, or the most that is allowed where that is less.
-fn capped_sum(a: u64, b: u64, most: u64) -> u64
-    ensures { result ≡ min (a + b) most }
-{
-    if a > most {
-        return most;
-    }
-    if b > most - a {
-        return most;
-    }
-    a + b
 }
 
 impl GossipBanEntry {
@@ -46,11 +33,7 @@ impl GossipBanEntry {
     fn expires_at_ms(self, duration_ms: u64) -> u64
         ensures { result ≡ expires_at_ms self duration_ms }
     {
-        capped_sum(
-            self.last_updated_ms,
-            duration_ms,
-            18_446_744_073_709_551_615,
-        )
+        self.last_updated_ms.saturating_add(duration_ms)
     }
 
     // Whether the entry is to be forgotten: as long as a ban after its last update, and from then on.
@@ -68,30 +51,24 @@ impl GossipBanEntry {
     }
 
     // The entry's rules: a score within 32 bits, a mark of 0 or 1, and no end without a ban.
+    #[tactic(auto, unfolding(crate::specs::Entry::entry_sound))]
     pub fn is_sound(self) -> bool
         ensures { result ≡ entry_sound self }
     {
-        if self.score > 4_294_967_295 {
-            return false;
-        }
-        if self.mark == 1 {
-            return true;
-        }
-        if self.mark != 0 {
-            return false;
-        }
-        self.until_ms == 0
+        self.score <= u32::MAX as u64 && (self.mark == 1 || (self.mark == 0 && self.until_ms == 0))
     }
 }
 
 // The entry that a violation adds to: as it is, or a new one where it is expired.
+#[tactic(auto, unfolding(crate::specs::Private::unexpired_or_default))]
 pub fn unexpired_or_default(e: GossipBanEntry, duration_ms: u64, now_ms: u64) -> GossipBanEntry
     ensures { result ≡ unexpired_or_default e duration_ms now_ms }
 {
     if e.is_expired(duration_ms, now_ms) {
-        return GossipBanEntry::default();
+        GossipBanEntry::default()
+    } else {
+        e
     }
-    e
 }
 
 // The entry with some points more, updated now.
@@ -99,10 +76,9 @@ pub fn raised(e: GossipBanEntry, points: u32, now_ms: u64) -> GossipBanEntry
     ensures { result ≡ raisedBy e points now_ms }
 {
     GossipBanEntry {
-        score: capped_sum(e.score, points as u64, 4_294_967_295),
-        mark: e.mark,
-        until_ms: e.until_ms,
+        score: e.score.saturating_add(points as u64).min(u32::MAX as u64),
         last_updated_ms: now_ms,
+        ..e
     }
 }
 
@@ -114,6 +90,7 @@ pub fn reaches(config: GossipBanConfig, e: GossipBanEntry) -> bool
 }
 
 // The entry with a ban from now on where its score is one that bans, else as it is.
+#[tactic(auto, unfolding(crate::specs::Entry::banned_if_reached))]
 pub fn banned_if_reached(config: GossipBanConfig, e: GossipBanEntry, now_ms: u64) -> GossipBanEntry
     ensures { result ≡ banned_if_reached config e now_ms }
 {
@@ -121,9 +98,8 @@ pub fn banned_if_reached(config: GossipBanConfig, e: GossipBanEntry, now_ms: u64
         return e;
     }
     GossipBanEntry {
-        score: e.score,
         mark: 1,
-        until_ms: capped_sum(now_ms, config.duration_ms, 18_446_744_073_709_551_615),
-        last_updated_ms: e.last_updated_ms,
+        until_ms: now_ms.saturating_add(config.duration_ms),
+        ..e
     }
 }

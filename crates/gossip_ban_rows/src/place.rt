@@ -8,7 +8,8 @@ ghost use Rattle.table_laws.specs.Private.{Counted};
 ghost use Rattle.gossip_ban_rows.specs.Rows.{row_width, ban_layout};
 
 use crate::entry::GossipBanEntry;
-use crate::row::{KEY_WIDTH, ROW_WIDTH, words_of};
+use crate::row::BanRows;
+use keyed_rows::kind;
 use pubkey::Pubkey;
 
 // Takes the row at the index out.
@@ -17,7 +18,7 @@ pub fn remove_at(table: &mut [u8], count: usize, index: usize)
     requires count_in_bounds { row_width * count ≤ length table.old }
     ensures { Holds ban_layout table.old table.new count (remove_at index (rows ban_layout table.old count)) }
 {
-    table::rows::remove_row(table, ROW_WIDTH, count, index);
+    kind::remove_at::<BanRows, 4>(table, count, index);
 }
 
 // Writes an entry over that of the row at the index, which keeps its key.
@@ -26,8 +27,7 @@ pub fn overwrite_at(table: &mut [u8], count: usize, index: usize, e: GossipBanEn
     requires count_in_bounds { row_width * count ≤ length table.old }
     ensures { Holds ban_layout table.old table.new count (over ban_layout table.old count index e) }
 {
-    let words = words_of(e);
-    table::rows::put_words(table, ROW_WIDTH * index + KEY_WIDTH, &words);
+    kind::overwrite_at::<BanRows, 4>(table, count, index, e);
 }
 
 // Stores an entry under its key. Answers how many rows there are then.
@@ -35,7 +35,5 @@ pub fn store(table: &mut [u8], count: usize, key: Pubkey, e: GossipBanEntry) -> 
     requires { row_width * (count + 1) ≤ length table.old }
     ensures { Counted ban_layout table.old table.new count result (stored key.bytes e (rows ban_layout table.old count)) }
 {
-    let words = words_of(e);
-    let bytes = key.bytes;
-    keyed_rows::change::store(table, ROW_WIDTH, count, &bytes, &words)
+    kind::store::<BanRows, 4>(table, count, &key.bytes, e)
 }

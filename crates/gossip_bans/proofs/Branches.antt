@@ -1,5 +1,7 @@
 -- Each call by its cases, over plain lists and numbers: what was judged, found and written is what the contract says. In order: any call;
 -- making; record_violation; is_banned; score; prune_expired. Assumes nothing.
+use Rattle.std.specs.Prelude.{Result, Ok, Err}
+use Rattle.refusal.specs.declared.Refusal.{Refusal}
 use mathlib.Core.Path.{◌≡◌, refl, sym, ap, ◌∙◌, subst}
 use mathlib.Core.Bool.{Bool, true, false, cond}
 use mathlib.Core.List.{List, []}
@@ -11,8 +13,6 @@ use lib.ListN.{length}
 use Rattle.truths.specs.TruthLaws.{by_test}
 use Rattle.lent_bytes.specs.LentBytes.{put, zeros, Bytes}
 use Rattle.pubkey.specs.declared.Pubkey.{Pubkey}
-use Rattle.refusal.specs.Refusal.{too_short, limit_too_large, unsound}
-use Rattle.bucket_terms.specs.declared.answer.Told.{Told}
 use Rattle.bucket_terms.specs.Answers.{told}
 use Rattle.table.specs.Table.{look, store, erase}
 use Rattle.table.specs.MemoryLaws.{length_rows, holds, put_clear}
@@ -24,15 +24,11 @@ use Rattle.gossip_settings.specs.declared.violation.GossipViolation.{GossipViola
 use Rattle.gossip_settings.specs.Settings.{gossip_ban_disabled, violation_score}
 use Rattle.gossip_ban_rows.specs.declared.entry.GossipBanEntry.{GossipBanEntry}
 use Rattle.gossip_ban_rows.specs.Entry.{entry_default, is_expired, is_currently_banned, raised, reaches, banned_if_reached}
-use Rattle.gossip_ban_rows.specs.Private.{unexpired_or_default}
+use Rattle.gossip_ban_rows.specs.Private.{unexpired_or_default, room_for}
 use Rattle.gossip_ban_rows.specs.Rows.{Bans, ban_layout}
 use Rattle.gossip_ban_rows.specs.RowsLaws.{ban_faithful}
 use Rattle.gossip_ban_rows.specs.Room.{prune_expired}
-use Rattle.gossip_ban_rows.specs.Private.{room_for}
 use Rattle.gossip_bans.specs.declared.tracker.GossipBanTracker.{GossipBanTracker}
-use Rattle.gossip_bans.specs.declared.answer.MadeTracker.TheVariants as MadeTracker
-use Rattle.gossip_bans.specs.declared.answer.Scored.TheVariants as Scored
-use Rattle.gossip_bans.specs.declared.answer.Pruned.TheVariants as Pruned
 use Rattle.gossip_bans.specs.Tracker.{rows_of, limit_of, sound, turn, recorded_over, record_violation}
 use Rattle.gossip_bans.specs.TrackerLaws.{violation_off, violation_known, violation_new, banned_off, banned_absent, banned_expired, banned_live, score_absent, score_expired, score_live}
 use Rattle.gossip_bans.specs.Calls.{carried, fresh, made_outcome, MadeMeets, ban_told, record_violation_outcome, RecordViolationMeets, is_banned_outcome, IsBannedMeets, ban_scored, score_outcome, ScoreMeets, ban_pruned, prune_expired_outcome, PruneExpiredMeets}
@@ -75,16 +71,16 @@ module _ {R P : Type 0} (pair : GossipBanTracker → R → P) (t : GossipBanTrac
 -- ════ Making ════
 
 module _ (c : GossipBanConfig) (limit : ℕ) (s : List ℕ) where
-  pub made_large : 1024 < limit → MadeMeets c limit s (MadeTracker.Refused limit_too_large) s
+  pub made_large : 1024 < limit → MadeMeets c limit s (Err Refusal.LimitTooLarge) s
   unfolding MadeMeets made_outcome
   made_large h = rw (lt-ltb 1024 limit h) (record { answers = refl; leaves = refl })
 
   module _ (h : limit ≤ 1024) where
-    pub made_short : length s / 65 < limit_of limit → MadeMeets c limit s (MadeTracker.Refused too_short) s
+    pub made_short : length s / 65 < limit_of limit → MadeMeets c limit s (Err Refusal.TooShort) s
     unfolding MadeMeets made_outcome
     made_short l = rw (le-ltb 1024 limit h, too_short_lem ban_layout (limit_of limit) s (omega arith) l) (record { answers = refl; leaves = refl })
 
-    pub made_fresh : limit_of limit ≤ length s / 65 → (u : List ℕ) → u ≡ put s 0 (zeros (65 * limit_of limit)) → MadeMeets c limit s (MadeTracker.Tracker (fresh c limit)) u
+    pub made_fresh : limit_of limit ≤ length s / 65 → (u : List ℕ) → u ≡ put s 0 (zeros (65 * limit_of limit)) → MadeMeets c limit s (Ok (fresh c limit)) u
     unfolding MadeMeets made_outcome
     made_fresh l u e =
         rw (le-ltb 1024 limit h, long_enough_lem ban_layout (limit_of limit) s (omega arith) l)
@@ -93,7 +89,7 @@ module _ (c : GossipBanConfig) (limit : ℕ) (s : List ℕ) where
 -- ════ record_violation ════
 
 module _ (t : GossipBanTracker) (s : List ℕ) (k : Pubkey) (v : GossipViolation) (now : ℕ) where
-  pub violation_unsound : sound t s ≡ false → RecordViolationMeets t s k v now (record { tracker = t; answer = Told.Refused unsound }) s
+  pub violation_unsound : sound t s ≡ false → RecordViolationMeets t s k v now (record { state = t; answer = Err Refusal.Unsound }) s
   unfolding RecordViolationMeets record_violation_outcome
   violation_unsound h = refuses _ t s _ h
 
@@ -106,11 +102,11 @@ module _ (t : GossipBanTracker) (s : List ℕ) (k : Pubkey) (v : GossipViolation
 
     module _ (on : gossip_ban_disabled t.config ≡ false) (q : GossipBanTracker) (u : List ℕ) (points : ℕ) (is : points ≡ violation_score v) where
       -- the entry was raised, the answer is whether it bans, and it was stored among these rows
-      module _ (before x y : GossipBanEntry) (bans : Bool) (answer : Told) (rs : Bans)
+      module _ (before x y : GossipBanEntry) (bans : Bool) (answer : Result Bool Refusal) (rs : Bans)
           (step : record_violation t.config (limit_of t.max_entries) k.bytes (violation_score v) now (rows_of t s) ≡ recorded_over t.config k.bytes (violation_score v) now rs before)
           (raised_is : x ≡ raised before points now) (bans-is : bans ≡ reaches t.config x) (answer_is : answer ≡ told bans)
           (ban-is : y ≡ banned_if_reached t.config x now) where
-        violated_over : Left t s (store k.bytes y rs) q u → RecordViolationMeets t s k v now (record { tracker = q; answer = answer }) u
+        violated_over : Left t s (store k.bytes y rs) q u → RecordViolationMeets t s k v now (record { state = q; answer = answer }) u
         unfolding RecordViolationMeets record_violation_outcome
         violated_over left =
             let z : GossipBanEntry = raised before (violation_score v) now in
@@ -121,23 +117,23 @@ module _ (t : GossipBanTracker) (s : List ℕ) (k : Pubkey) (v : GossipViolation
             subst (λ (e : GossipBanEntry). Left t s (store k.bytes e rs) q u) stored left in
             met ban_told _ t s u h step
             (record {
-              answers = ap (λ (a : Told). record { tracker = q; answer = a }) said ∙ ap (λ (w : GossipBanTracker). ban_told w (reaches t.config z)) here.tracker;
+              answers = ap (λ (a : Result Bool Refusal). record { state = q; answer = a }) said ∙ ap (λ (w : GossipBanTracker). ban_told w (reaches t.config z)) here.tracker;
               leaves = here.memory;
             })
 
-      pub violated_known : (e kept x y : GossipBanEntry) (bans : Bool) (answer : Told) → look k.bytes (rows_of t s) ≡ some e
+      pub violated_known : (e kept x y : GossipBanEntry) (bans : Bool) (answer : Result Bool Refusal) → look k.bytes (rows_of t s) ≡ some e
           → kept ≡ unexpired_or_default e t.config.duration_ms now → x ≡ raised kept points now → bans ≡ reaches t.config x → answer ≡ told bans
           → y ≡ banned_if_reached t.config x now → Left t s (store k.bytes y (rows_of t s)) q u
-          → RecordViolationMeets t s k v now (record { tracker = q; answer = answer }) u
+          → RecordViolationMeets t s k v now (record { state = q; answer = answer }) u
       violated_known e kept x y bans answer found kept-is raised_is =
           violated_over (unexpired_or_default e t.config.duration_ms now) x y bans answer (rows_of t s)
           (violation_known t.config k.bytes now (rows_of t s) (limit_of t.max_entries) (violation_score v) on (order t s h) (few_rows t s h) e found)
           (raised_is ∙ ap (λ (b : GossipBanEntry). raised b points now) kept-is)
 
-      pub violated_new : (first x y : GossipBanEntry) (bans : Bool) (answer : Told) → look k.bytes (rows_of t s) ≡ none → first ≡ entry_default
+      pub violated_new : (first x y : GossipBanEntry) (bans : Bool) (answer : Result Bool Refusal) → look k.bytes (rows_of t s) ≡ none → first ≡ entry_default
           → x ≡ raised first points now → bans ≡ reaches t.config x → answer ≡ told bans → y ≡ banned_if_reached t.config x now
           → Left t s (store k.bytes y (room_for (limit_of t.max_entries) t.config.duration_ms now (rows_of t s))) q u
-          → RecordViolationMeets t s k v now (record { tracker = q; answer = answer }) u
+          → RecordViolationMeets t s k v now (record { state = q; answer = answer }) u
       violated_new first x y bans answer found first-is raised_is =
           violated_over entry_default x y bans answer (room_for (limit_of t.max_entries) t.config.duration_ms now (rows_of t s))
           (violation_new t.config k.bytes now (rows_of t s) (limit_of t.max_entries) (violation_score v) on (order t s h) (few_rows t s h) (omega arith) found)
@@ -146,7 +142,7 @@ module _ (t : GossipBanTracker) (s : List ℕ) (k : Pubkey) (v : GossipViolation
 -- ════ is_banned ════
 
 module _ (t : GossipBanTracker) (s : List ℕ) (k : Pubkey) (now : ℕ) where
-  pub standing_unsound : sound t s ≡ false → IsBannedMeets t s k now (record { tracker = t; answer = Told.Refused unsound }) s
+  pub standing_unsound : sound t s ≡ false → IsBannedMeets t s k now (record { state = t; answer = Err Refusal.Unsound }) s
   unfolding IsBannedMeets is_banned_outcome
   standing_unsound h = refuses _ t s _ h
 
@@ -176,7 +172,7 @@ module _ (t : GossipBanTracker) (s : List ℕ) (k : Pubkey) (now : ℕ) where
 
   -- ════ Score ════
 
-  pub scored_unsound : sound t s ≡ false → ScoreMeets t s k now (record { tracker = t; answer = Scored.Refused unsound }) s
+  pub scored_unsound : sound t s ≡ false → ScoreMeets t s k now (record { state = t; answer = Err Refusal.Unsound }) s
   unfolding ScoreMeets score_outcome
   scored_unsound h = refuses _ t s _ h
 
@@ -199,11 +195,11 @@ module _ (t : GossipBanTracker) (s : List ℕ) (k : Pubkey) (now : ℕ) where
 -- ════ prune_expired ════
 
 module _ (t : GossipBanTracker) (s : List ℕ) (now : ℕ) where
-  pub pruned_unsound : sound t s ≡ false → PruneExpiredMeets t s now (ban_pruned t (Pruned.Refused unsound)) s
+  pub pruned_unsound : sound t s ≡ false → PruneExpiredMeets t s now (ban_pruned t (Err Refusal.Unsound)) s
   unfolding PruneExpiredMeets prune_expired_outcome
   pruned_unsound h = refuses _ t s _ h
 
   pub pruned_done_lem : sound t s ≡ true → (q : GossipBanTracker) (u : List ℕ) → Left t s (prune_expired t.config.duration_ms now (rows_of t s)) q u
-      → PruneExpiredMeets t s now (ban_pruned q Pruned.Done) u
+      → PruneExpiredMeets t s now (ban_pruned q (Ok tt)) u
   unfolding PruneExpiredMeets prune_expired_outcome
-  pruned_done_lem h q u left = met ban_pruned _ t s u h refl (becomes ban_pruned t s Pruned.Done _ q u left)
+  pruned_done_lem h q u left = met ban_pruned _ t s u h refl (becomes ban_pruned t s (Ok tt) _ q u left)

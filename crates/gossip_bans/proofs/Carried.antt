@@ -10,8 +10,7 @@ use Rattle.table.specs.Memory.{rows, Holds}
 use Rattle.table.specs.TableLaws.{Sub, sub_length}
 use Rattle.table.specs.MemoryLaws.{AllFit, length_rows, fit_rows, sub_fit}
 use Rattle.table_laws.specs.ChangeLaws.{stored_at, erased_at}
-use Rattle.table_laws.specs.Private.{over}
-use Rattle.table_laws.specs.Private.{Counted}
+use Rattle.table_laws.specs.Private.{over, Counted}
 use Rattle.table_laws.specs.StoreLaws.{counted_then}
 use Rattle.gossip_ban_rows.specs.declared.entry.GossipBanEntry.{GossipBanEntry}
 use Rattle.gossip_ban_rows.specs.Rows.{Bans, ban_layout}

@@ -21,9 +21,8 @@ use Rattle.gossip_ban_rows.specs.Entry.{entry_sound}
 use Rattle.gossip_ban_rows.specs.Rows.{ban_layout, ban_sound}
 use Rattle.gossip_bans.specs.declared.tracker.GossipBanTracker.{GossipBanTracker}
 use Rattle.gossip_bans.specs.Tracker.{rows_of, limit_of, tracker_sound, sound}
-use Rattle.gossip_bans.specs.Private.{sought_in}
+use Rattle.gossip_bans.specs.Private.{sought_in, Known, Unknown}
 use Rattle.gossip_bans.specs.TrackerLaws.{rows_within}
-use Rattle.gossip_bans.specs.Private.{Known, Unknown}
 
 module _ (t : GossipBanTracker) (s : List ℕ) where
   module _ (k : List ℕ) where

@@ -1,3 +1,4 @@
+pub mod Handed
 pub mod Tracker
 pub mod Private
 pub mod Calls

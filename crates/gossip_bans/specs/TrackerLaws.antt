@@ -18,10 +18,9 @@ use Rattle.gossip_settings.specs.declared.ban.GossipBanConfig.{GossipBanConfig}
 use Rattle.gossip_settings.specs.Settings.{gossip_ban_disabled}
 use Rattle.gossip_ban_rows.specs.declared.entry.GossipBanEntry.{GossipBanEntry}
 use Rattle.gossip_ban_rows.specs.Entry.{entry_default, is_expired, is_currently_banned, raised, reaches, banned_if_reached}
-use Rattle.gossip_ban_rows.specs.Private.{unexpired_or_default}
+use Rattle.gossip_ban_rows.specs.Private.{unexpired_or_default, room_for}
 use Rattle.gossip_ban_rows.specs.Rows.{Bans}
 use Rattle.gossip_ban_rows.specs.Room.{maybe_expire, make_room}
-use Rattle.gossip_ban_rows.specs.Private.{room_for}
 use Rattle.gossip_ban_rows.specs.RoomLaws.{expire_absent, expire_expired, expire_live, make_free, make_present, room_absent, sub_room}
 use Rattle.gossip_bans.specs.declared.tracker.GossipBanTracker.{GossipBanTracker}
 use Rattle.gossip_bans.specs.Tracker.{limit_of, tracker_sound, turn, or_default, recorded_over, recorded_among, record_violation, is_live, banned_among, is_banned, score_or, score_among, score}

@@ -1,50 +1,10 @@
-// What the calls answer: the tracker first, as it was where the answer is `Refused`, which carries the number of the refusal.
+// What the calls answer: the tracker first, as it was where the answer is an `Err` with the refusal.
 use super::tracker::GossipBanTracker;
-use bucket_terms::answer::Told;
-
-// A tracker was made.
-#[derive(Clone, Copy)]
-pub enum MadeTracker {
-    Tracker(GossipBanTracker),
-    Refused(u32),
-}
+use refusal::{Answered, Refusal};
 
 // Whether a peer is banned.
-#[derive(Clone, Copy)]
-pub struct BanTold {
-    pub tracker: GossipBanTracker,
-    pub answer: Told,
-}
+pub type BanTold = Answered<GossipBanTracker, Result<bool, Refusal>>;
 
-// A peer's score.
-#[derive(Clone, Copy)]
-pub enum Scored {
-    Score(u32),
-    Refused(u32),
-}
+pub type BanScored = Answered<GossipBanTracker, Result<u32, Refusal>>;
 
-#[derive(Clone, Copy)]
-pub struct BanScored {
-    pub tracker: GossipBanTracker,
-    pub answer: Scored,
-}
-
-// The expired entries have gone.
-#[derive(Clone, Copy)]
-pub enum Pruned {
-    Done,
-    Refused(u32),
-}
-
-#[derive(Clone, Copy)]
-pub struct BanPruned {
-    pub tracker: GossipBanTracker,
-    pub answer: Pruned,
-}
-
-// How many peers have an entry.
-#[derive(Clone, Copy)]
-pub enum Tracked {
-    Peers(u64),
-    Refused(u32),
-}
+pub type BanPruned = Answered<GossipBanTracker, Result<(), Refusal>>;

@@ -3,18 +3,18 @@ ghost use Rattle.std.specs.Prelude.{◌≡◌};
 ghost use Rattle.gossip_settings.specs.Settings.{max_tracked_peers};
 ghost use Rattle.gossip_bans.specs.Calls.{MadeMeets, RecordViolationMeets, IsBannedMeets, ScoreMeets, PruneExpiredMeets, TrackedPeersMeets};
 
-use super::answer::{BanPruned, BanScored, BanTold, MadeTracker, Pruned, Scored, Tracked};
-use super::{calls, carry, judge};
-use bucket_terms::answer::Told;
+use super::answer::{BanPruned, BanScored, BanTold};
+use gossip_ban_rows::room;
 use gossip_ban_rows::row::ROW_WIDTH;
 use gossip_settings::ban::GossipBanConfig;
 use gossip_settings::violation::GossipViolation;
 use pubkey::Pubkey;
+use refusal::{Answered, Refusal};
 use table::seek::Seek;
 
 // Settings, how many peers have an entry at most (the limit as it was given; 0 counts as 1), and how many rows of the lent memory are
 // in use.
-#[derive(Clone, Copy)]
+#[derive(Clone, Copy, Debug, PartialEq, Eq)]
 pub struct GossipBanTracker {
     pub config: GossipBanConfig,
     pub max_entries: u64,
@@ -23,7 +23,7 @@ pub struct GossipBanTracker {
 
 impl GossipBanTracker {
     // A tracker of 1,024 peers.
-    pub fn new(config: GossipBanConfig, table: &mut [u8]) -> MadeTracker
+    pub fn new(config: GossipBanConfig, table: &mut [u8]) -> Result<GossipBanTracker, Refusal>
         ensures { MadeMeets config max_tracked_peers table.old result table.new }
     {
         GossipBanTracker::with_max_entries(config, GossipBanConfig::MAX_TRACKED_PEERS, table)
@@ -35,18 +35,18 @@ impl GossipBanTracker {
         config: GossipBanConfig,
         max_entries: u64,
         table: &mut [u8],
-    ) -> MadeTracker
+    ) -> Result<GossipBanTracker, Refusal>
         ensures { MadeMeets config max_entries table.old result table.new }
     {
         if max_entries > GossipBanConfig::MAX_TRACKED_PEERS {
-            return MadeTracker::Refused(refusal::LIMIT_TOO_LARGE);
+            return Err(Refusal::LimitTooLarge);
         }
-        let limit = judge::limit_of(max_entries);
+        let limit = max_entries.max(1);
         if ((table.len() / ROW_WIDTH) as u64) < limit {
-            return MadeTracker::Refused(refusal::TOO_SHORT);
+            return Err(Refusal::TooShort);
         }
         table::rows::zero_rows(table, ROW_WIDTH, 0, limit as usize);
-        MadeTracker::Tracker(GossipBanTracker {
+        Ok(GossipBanTracker {
             config,
             max_entries,
             rows: 0,
@@ -63,14 +63,13 @@ impl GossipBanTracker {
     ) -> BanTold
         ensures { RecordViolationMeets self table.old peer violation now_ms result table.new }
     {
-        let found = judge::sought(self, table, peer);
-        match found {
-            Seek::Unsound => BanTold {
-                tracker: self,
-                answer: Told::Refused(refusal::UNSOUND),
+        match self.sought(table, peer) {
+            Seek::Unsound => Answered {
+                state: self,
+                answer: Err(Refusal::Unsound),
             },
-            Seek::At(index) => calls::violation_known(self, table, peer, index, violation, now_ms),
-            Seek::Gap(gap) => calls::violation_new(self, table, peer, gap, violation, now_ms),
+            Seek::At(index) => self.violation_known(table, peer, index, violation, now_ms),
+            Seek::Gap(gap) => self.violation_new(table, peer, gap, violation, now_ms),
         }
     }
 
@@ -78,16 +77,15 @@ impl GossipBanTracker {
     pub fn is_banned(self, table: &mut [u8], peer: Pubkey, now_ms: u64) -> BanTold
         ensures { IsBannedMeets self table.old peer now_ms result table.new }
     {
-        let found = judge::sought(self, table, peer);
-        match found {
-            Seek::Unsound => BanTold {
-                tracker: self,
-                answer: Told::Refused(refusal::UNSOUND),
+        match self.sought(table, peer) {
+            Seek::Unsound => Answered {
+                state: self,
+                answer: Err(Refusal::Unsound),
             },
-            Seek::At(index) => calls::standing_known(self, table, peer, index, now_ms),
-            Seek::Gap(_) => BanTold {
-                tracker: self,
-                answer: Told::No,
+            Seek::At(index) => self.standing_known(table, peer, index, now_ms),
+            Seek::Gap(_) => Answered {
+                state: self,
+                answer: Ok(false),
             },
         }
     }
@@ -96,16 +94,15 @@ impl GossipBanTracker {
     pub fn score(self, table: &mut [u8], peer: Pubkey, now_ms: u64) -> BanScored
         ensures { ScoreMeets self table.old peer now_ms result table.new }
     {
-        let found = judge::sought(self, table, peer);
-        match found {
-            Seek::Unsound => BanScored {
-                tracker: self,
-                answer: Scored::Refused(refusal::UNSOUND),
+        match self.sought(table, peer) {
+            Seek::Unsound => Answered {
+                state: self,
+                answer: Err(Refusal::Unsound),
             },
-            Seek::At(index) => calls::score_known(self, table, peer, index, now_ms),
-            Seek::Gap(_) => BanScored {
-                tracker: self,
-                answer: Scored::Score(0),
+            Seek::At(index) => self.score_known(table, peer, index, now_ms),
+            Seek::Gap(_) => Answered {
+                state: self,
+                answer: Ok(0),
             },
         }
     }
@@ -114,39 +111,33 @@ impl GossipBanTracker {
     pub fn prune_expired(self, table: &mut [u8], now_ms: u64) -> BanPruned
         ensures { PruneExpiredMeets self table.old now_ms result table.new }
     {
-        if !judge::is_sound_in(self, table) {
-            return BanPruned {
-                tracker: self,
-                answer: Pruned::Refused(refusal::UNSOUND),
+        if !self.is_sound_in(table) {
+            return Answered {
+                state: self,
+                answer: Err(Refusal::Unsound),
             };
         }
         let duration_ms = self.config.duration_ms;
-        let left = gossip_ban_rows::room::prune_expired(
-            table,
-            self.rows as usize,
-            duration_ms,
-            now_ms,
-        );
-        let tracker = carry::with_rows(self, left as u64);
-        BanPruned {
-            tracker,
-            answer: Pruned::Done,
+        let left = room::prune_expired(table, self.rows as usize, duration_ms, now_ms);
+        Answered {
+            state: self.with_rows(left as u64),
+            answer: Ok(()),
         }
     }
 
     // How many peers have an entry, expired ones counted. No table is lent, so the record alone is judged.
-    pub fn tracked_peers(self) -> Tracked
+    pub fn tracked_peers(self) -> Result<u64, Refusal>
         ensures { TrackedPeersMeets self result }
     {
-        if !judge::is_sound(self) {
-            return Tracked::Refused(refusal::UNSOUND);
+        if !self.is_sound() {
+            return Err(Refusal::Unsound);
         }
-        Tracked::Peers(self.rows)
+        Ok(self.rows)
     }
 }
 
 // GossipBanConfig::build_tracker
-pub fn build_tracker(config: GossipBanConfig, table: &mut [u8]) -> MadeTracker
+pub fn build_tracker(config: GossipBanConfig, table: &mut [u8]) -> Result<GossipBanTracker, Refusal>
     ensures { MadeMeets config max_tracked_peers table.old result table.new }
 {
     GossipBanTracker::new(config, table)
@@ -157,7 +148,7 @@ pub fn build_tracker_with_max_entries(
     config: GossipBanConfig,
     max_entries: u64,
     table: &mut [u8],
-) -> MadeTracker
+) -> Result<GossipBanTracker, Refusal>
     ensures { MadeMeets config max_entries table.old result table.new }
 {
     GossipBanTracker::with_max_entries(config, max_entries, table)

@@ -1,22 +1,19 @@
 -- At most one outcome satisfies the contract of each call on the gossip bans: the same answer, and the same memory where memory is lent.
 -- Assumes nothing.
-use Rattle.std.specs.Prelude.{◌≡◌, List, ℕ}
+use Rattle.std.specs.Prelude.{◌≡◌, List, ℕ, Result}
+use Rattle.refusal.specs.declared.Refusal.{Refusal}
 use Rattle.pubkey.specs.declared.Pubkey.{Pubkey}
 use Rattle.refusal.specs.OneOutcomeLaws.{one_outcome}
 use Rattle.table.specs.OutcomeLaws.{one_meets}
 use Rattle.gossip_settings.specs.declared.ban.GossipBanConfig.{GossipBanConfig}
 use Rattle.gossip_settings.specs.declared.violation.GossipViolation.{GossipViolation}
 use Rattle.gossip_bans.specs.declared.tracker.GossipBanTracker.{GossipBanTracker}
-use Rattle.gossip_bans.specs.declared.answer.MadeTracker.{MadeTracker}
-use Rattle.gossip_bans.specs.declared.answer.BanTold.{BanTold}
-use Rattle.gossip_bans.specs.declared.answer.BanScored.{BanScored}
-use Rattle.gossip_bans.specs.declared.answer.BanPruned.{BanPruned}
-use Rattle.gossip_bans.specs.declared.answer.Tracked.{Tracked}
+use Rattle.gossip_bans.specs.Handed.{BanTold, BanScored, BanPruned}
 use Rattle.gossip_bans.specs.Calls.{MadeMeets, RecordViolationMeets, IsBannedMeets, ScoreMeets, PruneExpiredMeets, TrackedPeersMeets}
 
 module _ (before : List ℕ) {first second : List ℕ} where
   -- the makers of a tracker share one contract
-  pub made_one : (c : GossipBanConfig) (limit : ℕ) {r q : MadeTracker} → MadeMeets c limit before r first → MadeMeets c limit before q second
+  pub made_one : (c : GossipBanConfig) (limit : ℕ) {r q : Result GossipBanTracker Refusal} → MadeMeets c limit before r first → MadeMeets c limit before q second
       → (r ≡ q) × (first ≡ second)
   unfolding MadeMeets
   made_one c limit m n = one_meets m n
@@ -42,6 +39,6 @@ module _ (before : List ℕ) {first second : List ℕ} where
     unfolding PruneExpiredMeets
     prune_expired_one m n = one_meets m n
 
-pub tracked_peers_one : (t : GossipBanTracker) {r q : Tracked} → TrackedPeersMeets t r → TrackedPeersMeets t q → r ≡ q
+pub tracked_peers_one : (t : GossipBanTracker) {r q : Result ℕ Refusal} → TrackedPeersMeets t r → TrackedPeersMeets t q → r ≡ q
 unfolding TrackedPeersMeets
 tracked_peers_one t m n = one_outcome m n

@@ -1,9 +1,11 @@
 -- A fresh tracker is sound, and every call on a sound tracker leaves a sound one, the settings, and the memory's length. In order: entries;
 -- a change kept; what each call makes of the rows; making; the calls. Assumes nothing.
-use Rattle.std.specs.Prelude.{◌≡◌, Bool, false, ◌&&◌, ◌||◌, cond, ℕ, ◌+◌, ◌*◌, ◌≤◌, ◌<◌, min, ltb, leb, eqb}
+use Rattle.std.specs.Prelude.{◌≡◌, Bool, false, ◌&&◌, ◌||◌, cond, ℕ, ◌+◌, ◌*◌, ◌≤◌, ◌<◌, min, ltb, leb, eqb, Result, Ok, Err}
 use Rattle.std.proofs.Math.Path.{refl, ap}
 use Rattle.std.proofs.Common.{sym, ◌∙◌, subst, arith}
 use Rattle.std.proofs.Math.Bool.{true}
+use Rattle.refusal.specs.declared.Refusal.{Refusal}
+use Rattle.refusal.specs.declared.Refusal.TheVariants as Refusal
 use mathlib.Core.List.{List, []}
 use Rattle.std.proofs.Math.Option.{Option, none, some}
 use borrow.Author.Tests.{leb-true, le-leb, ltb-false}
@@ -26,17 +28,12 @@ use Rattle.gossip_settings.specs.declared.violation.GossipViolation.{GossipViola
 use Rattle.gossip_settings.specs.Settings.{gossip_ban_disabled, violation_score}
 use Rattle.gossip_ban_rows.specs.declared.entry.GossipBanEntry.{GossipBanEntry}
 use Rattle.gossip_ban_rows.specs.Entry.{entry_default, raised, reaches, banned_if_reached, is_expired, entry_sound}
-use Rattle.gossip_ban_rows.specs.Private.{unexpired_or_default}
+use Rattle.gossip_ban_rows.specs.Private.{unexpired_or_default, room_for}
 use Rattle.gossip_ban_rows.specs.Rows.{key_width, row_width, Bans, ban_numbers, ban_layout, ban_sound}
 use Rattle.gossip_ban_rows.specs.Room.{maybe_expire, prune_expired}
-use Rattle.gossip_ban_rows.specs.Private.{room_for}
 use Rattle.gossip_ban_rows.specs.RoomLaws.{sub_expire, sub_prune, sub_room, room_for_one}
 use Rattle.gossip_bans.specs.declared.tracker.GossipBanTracker.{GossipBanTracker}
-use Rattle.gossip_bans.specs.declared.answer.MadeTracker.{MadeTracker}
-use Rattle.gossip_bans.specs.declared.answer.BanTold.{BanTold}
-use Rattle.gossip_bans.specs.declared.answer.BanScored.{BanScored}
-use Rattle.gossip_bans.specs.declared.answer.BanPruned.{BanPruned}
-use Rattle.gossip_bans.specs.declared.answer.Pruned.TheVariants as Pruned
+use Rattle.gossip_bans.specs.Handed.{BanTold, BanScored, BanPruned}
 use Rattle.gossip_bans.specs.Tracker.{rows_of, limit_of, tracker_sound, sound, turn, record_violation, is_banned, score}
 use Rattle.gossip_bans.specs.TrackerLaws.{limit_within, rows_within, within_sound, violation_off, violation_known, violation_new}
 use Rattle.gossip_bans.specs.Calls.{tracker_after, carried, refuse, fresh, made_outcome, MadeMeets, ban_told, record_violation_outcome, RecordViolationMeets, is_banned_outcome, IsBannedMeets, ban_scored, score_outcome, ScoreMeets, ban_pruned, prune_expired_outcome, PruneExpiredMeets}
@@ -172,15 +169,15 @@ module _ (c : GossipBanConfig) (limit now : ℕ) (k : List ℕ) (rs : Bans) (h :
 -- ════ Making ════
 
 module _ (c : GossipBanConfig) (limit : ℕ) (s u : List ℕ) where
-  made_as : {r : MadeTracker} {t : GossipBanTracker} (large long : Bool) → r ≡ MadeTracker.Tracker t
-      → Meets ban_layout r s u (limit_of limit) (cond large (refuse (MadeTracker.Refused 2)) (cond long (turn (MadeTracker.Tracker (fresh c limit)) (become [])) (refuse (MadeTracker.Refused 1))))
+  made_as : {r : Result GossipBanTracker Refusal} {t : GossipBanTracker} (large long : Bool) → r ≡ Ok t
+      → Meets ban_layout r s u (limit_of limit) (cond large (refuse (Err Refusal.LimitTooLarge)) (cond long (turn (Ok (fresh c limit)) (become [])) (refuse (Err Refusal.TooShort))))
       → (t ≡ fresh c limit) × ((large ≡ false) × ((long ≡ true) × Memory ban_layout s u (limit_of limit) (become [])))
   made_as true long e m = absurd (let z : ◌≡◌ {A = ℕ} 0 1 = cc m.answers in omega arith)
   made_as false false e m = absurd (let z : ◌≡◌ {A = ℕ} 0 1 = cc m.answers in omega arith)
   made_as false true e m = (cc m.answers, (refl, (refl, m.leaves)))
 
   -- a tracker that was made is sound in its memory, which keeps its length
-  pub fresh_sound : (t : GossipBanTracker) → Bytes s → MadeMeets c limit s (MadeTracker.Tracker t) u
+  pub fresh_sound : (t : GossipBanTracker) → Bytes s → MadeMeets c limit s (Ok t) u
       → (sound t u ≡ true) × ((length u ≡ length s) × (t ≡ fresh c limit))
   unfolding MadeMeets made_outcome every ascending rows
   fresh_sound t b m =
@@ -198,28 +195,28 @@ module _ (c : GossipBanConfig) (limit : ℕ) (s u : List ℕ) where
 
 module _ (t : GossipBanTracker) (s u : List ℕ) (now : ℕ) (h : sound t s ≡ true) (b : Bytes s) where
   module _ (k : Pubkey) where
-    pub record_violation_kept : (v : GossipViolation) (r : BanTold) → Key ban_layout k.bytes → RecordViolationMeets t s k v now r u → BanKept t s r.tracker u
+    pub record_violation_kept : (v : GossipViolation) (r : BanTold) → Key ban_layout k.bytes → RecordViolationMeets t s k v now r u → BanKept t s r.state u
     unfolding RecordViolationMeets record_violation_outcome
     record_violation_kept v r key m =
-        carried_kept t s h b ban_told (λ (p : BanTold). p.tracker) (λ q a. refl) u r
+        carried_kept t s h b ban_told (λ (p : BanTold). p.state) (λ q a. refl) u r
         (record_violation t.config (limit_of t.max_entries) k.bytes (violation_score v) now (rows_of t s)) (rw h)
         (violation_holds t.config (limit_of t.max_entries) now k.bytes (rows_of t s) (tracked_hold t s h b) (violation_score v) key (omega arith)) m
 
-    pub is_banned_kept : (r : BanTold) → IsBannedMeets t s k now r u → BanKept t s r.tracker u
+    pub is_banned_kept : (r : BanTold) → IsBannedMeets t s k now r u → BanKept t s r.state u
     unfolding IsBannedMeets is_banned_outcome
     is_banned_kept r m =
-        carried_kept t s h b ban_told (λ (p : BanTold). p.tracker) (λ q a. refl) u r (is_banned t.config k.bytes now (rows_of t s)) (rw h)
+        carried_kept t s h b ban_told (λ (p : BanTold). p.state) (λ q a. refl) u r (is_banned t.config k.bytes now (rows_of t s)) (rw h)
         (is_banned_holds t.config (limit_of t.max_entries) now k.bytes (rows_of t s) (tracked_hold t s h b)) m
 
-    pub score_kept : (r : BanScored) → ScoreMeets t s k now r u → BanKept t s r.tracker u
+    pub score_kept : (r : BanScored) → ScoreMeets t s k now r u → BanKept t s r.state u
     unfolding ScoreMeets score_outcome
     score_kept r m =
-        carried_kept t s h b ban_scored (λ (p : BanScored). p.tracker) (λ q a. refl) u r (score t.config k.bytes now (rows_of t s)) (rw h)
+        carried_kept t s h b ban_scored (λ (p : BanScored). p.state) (λ q a. refl) u r (score t.config k.bytes now (rows_of t s)) (rw h)
         (score_holds t.config (limit_of t.max_entries) now k.bytes (rows_of t s) (tracked_hold t s h b)) m
 
-  pub prune_expired_kept : (r : BanPruned) → PruneExpiredMeets t s now r u → BanKept t s r.tracker u
+  pub prune_expired_kept : (r : BanPruned) → PruneExpiredMeets t s now r u → BanKept t s r.state u
   unfolding PruneExpiredMeets prune_expired_outcome
   prune_expired_kept r m =
-      carried_kept t s h b ban_pruned (λ (p : BanPruned). p.tracker) (λ q a. refl) u r
-      (turn Pruned.Done (become (prune_expired t.config.duration_ms now (rows_of t s)))) (rw h)
+      carried_kept t s h b ban_pruned (λ (p : BanPruned). p.state) (λ q a. refl) u r
+      (turn (Ok tt) (become (prune_expired t.config.duration_ms now (rows_of t s)))) (rw h)
       (prune_holds t.config (limit_of t.max_entries) now [] (rows_of t s) (tracked_hold t s h b)) m

@@ -1,9 +1,11 @@
 -- A fresh limiter is sound, and try_acquire on a sound limiter leaves a sound one, the settings, and the memory's length. In order: a row
 -- stored; what the call makes of the rows; a change kept; making; the call. Assumes nothing.
-use Rattle.std.specs.Prelude.{◌≡◌, Bool, false, cond, ℕ, ◌+◌, ◌*◌, ◌≤◌, ◌<◌, ltb, leb, get_or}
+use Rattle.std.specs.Prelude.{◌≡◌, Bool, false, cond, ℕ, ◌+◌, ◌*◌, ◌≤◌, ◌<◌, ltb, leb, get_or, Result, Ok, Err}
 use Rattle.std.proofs.Math.Path.{refl, ap, subst}
 use Rattle.std.proofs.Common.{sym, ◌∙◌, arith, get_or-append-add}
 use Rattle.std.proofs.Math.Bool.{true}
+use Rattle.refusal.specs.declared.Refusal.{Refusal}
+use Rattle.refusal.specs.declared.Refusal.TheVariants as Refusal
 use mathlib.Core.List.{List, [], ◌∷◌, ◌++◌}
 use Rattle.std.proofs.Math.Option.{Option, none, some}
 use borrow.Author.Tests.{leb-true, leb-false, le-leb, ltb-false}
@@ -28,7 +30,6 @@ use Rattle.table_laws.specs.MapLaws.{map_hold}
 use Rattle.table_laws.specs.WordsLaws.{OfNumbers, of_numbers, length_encode, encode_bytes}
 use Rattle.table_laws.specs.Kept.{Key, Encodes, RowsHold, ChangeHolds, LentHolds, LentKept}
 use Rattle.table_laws.specs.KeptLaws.{sub_hold, store_hold, lent_holds, holds_lent, rows_hold, change_kept, length_laid_keyed}
-use Rattle.bucket_terms.specs.declared.answer.Told.{Told}
 use Rattle.bucket_discrete.specs.declared.discrete.DiscreteTokenBucket.{DiscreteTokenBucket}
 use Rattle.bucket_discrete.specs.DiscreteBucket.{discrete_new}
 use Rattle.gossip_settings.specs.declared.channel_update.ChannelUpdateRateLimitConfig.{ChannelUpdateRateLimitConfig}
@@ -40,8 +41,7 @@ use Rattle.gossip_limiter_rows.specs.RowsLaws.{sound_level, refilled_sound, aske
 use Rattle.gossip_limiter_rows.specs.Prune.{not_full, room_for}
 use Rattle.gossip_limiter_rows.specs.PruneLaws.{by_room}
 use Rattle.gossip_limiter.specs.declared.limiter.ChannelUpdateLimiter.{ChannelUpdateLimiter}
-use Rattle.gossip_limiter.specs.declared.answer.MadeLimiter.{MadeLimiter}
-use Rattle.gossip_limiter.specs.declared.answer.LimiterTold.{LimiterTold}
+use Rattle.gossip_limiter.specs.Handed.{LimiterTold}
 use Rattle.gossip_limiter.specs.Limiter.{rows_of, limit_of, limiter_record_sound, sound, turn, try_acquire}
 use Rattle.gossip_limiter.specs.LimiterLaws.{limit_within, rows_within, within_sound, acquire_off, acquire_known, acquire_full, acquire_new}
 use Rattle.gossip_limiter.specs.Calls.{limiter_after, carried, refuse, fresh, made_outcome, MadeMeets, try_acquire_outcome, TryAcquireMeets}
@@ -95,9 +95,9 @@ module _ (c : ChannelUpdateRateLimitConfig) (limit now : ℕ) (k : List ℕ) (rs
 
   module _ (key : Key limiter_layout k) (side : get_or k side_place 0 ≤ 1) where
     -- the call's change, by an equation of what it comes to
-    comes : (o : Outcome ChannelUpdateLimiterEntry Told) → try_acquire c limit k now rs ≡ o
+    comes : (o : Outcome ChannelUpdateLimiterEntry (Result Bool Refusal)) → try_acquire c limit k now rs ≡ o
         → ChangeHolds limiter_layout (limiter_sound c) limit o.change → ChangeHolds limiter_layout (limiter_sound c) limit (try_acquire c limit k now rs).change
-    comes o e held = subst (λ (x : Outcome ChannelUpdateLimiterEntry Told). ChangeHolds limiter_layout (limiter_sound c) limit x.change) (sym e) held
+    comes o e held = subst (λ (x : Outcome ChannelUpdateLimiterEntry (Result Bool Refusal)). ChangeHolds limiter_layout (limiter_sound c) limit x.change) (sym e) held
 
     acquire_by : channel_update_disabled c ≡ false → (found : Option ChannelUpdateLimiterEntry) → look k rs ≡ found
         → ChangeHolds limiter_layout (limiter_sound c) limit (try_acquire c limit k now rs).change
@@ -170,15 +170,15 @@ module _ (l : ChannelUpdateLimiter) (s : List ℕ) (h : sound l s ≡ true) (b :
 -- ════ Making ════
 
 module _ (c : ChannelUpdateRateLimitConfig) (limit : ℕ) (s u : List ℕ) where
-  made_as : {r : MadeLimiter} {l : ChannelUpdateLimiter} (large long : Bool) → r ≡ MadeLimiter.Limiter l
-      → Meets limiter_layout r s u (limit_of limit) (cond large (refuse (MadeLimiter.Refused 2)) (cond long (turn (MadeLimiter.Limiter (fresh c limit)) (become [])) (refuse (MadeLimiter.Refused 1))))
+  made_as : {r : Result ChannelUpdateLimiter Refusal} {l : ChannelUpdateLimiter} (large long : Bool) → r ≡ Ok l
+      → Meets limiter_layout r s u (limit_of limit) (cond large (refuse (Err Refusal.LimitTooLarge)) (cond long (turn (Ok (fresh c limit)) (become [])) (refuse (Err Refusal.TooShort))))
       → (l ≡ fresh c limit) × ((large ≡ false) × ((long ≡ true) × Memory limiter_layout s u (limit_of limit) (become [])))
   made_as true long e m = absurd (let z : ◌≡◌ {A = ℕ} 0 1 = cc m.answers in omega arith)
   made_as false false e m = absurd (let z : ◌≡◌ {A = ℕ} 0 1 = cc m.answers in omega arith)
   made_as false true e m = (cc m.answers, (refl, (refl, m.leaves)))
 
   -- a limiter that was made is sound in its memory, which keeps its length
-  pub fresh_limiter_sound : (l : ChannelUpdateLimiter) → MadeMeets c limit s (MadeLimiter.Limiter l) u
+  pub fresh_limiter_sound : (l : ChannelUpdateLimiter) → MadeMeets c limit s (Ok l) u
       → (sound l u ≡ true) × ((length u ≡ length s) × (l ≡ fresh c limit))
   unfolding MadeMeets made_outcome every ascending rows
   fresh_limiter_sound l m =
@@ -196,12 +196,12 @@ module _ (c : ChannelUpdateRateLimitConfig) (limit : ℕ) (s u : List ℕ) where
 
 module _ (l : ChannelUpdateLimiter) (s u : List ℕ) (now : ℕ) (h : sound l s ≡ true) (b : Bytes s) where
   pub try_acquire_kept : (k : ChannelUpdateLimiterKey) → Whole k → Bytes k.peer.bytes → Bytes k.channel_outpoint.bytes → (r : LimiterTold)
-      → TryAcquireMeets l s k now r u → LimiterKept l s r.limiter u
+      → TryAcquireMeets l s k now r u → LimiterKept l s r.state u
   unfolding TryAcquireMeets try_acquire_outcome
   try_acquire_kept k w peer outpoint r m =
-      let o : Outcome ChannelUpdateLimiterEntry Told = try_acquire l.config (limit_of l.max_entries) (limiter_key_bytes k) now (rows_of l s) in
+      let o : Outcome ChannelUpdateLimiterEntry (Result Bool Refusal) = try_acquire l.config (limit_of l.max_entries) (limiter_key_bytes k) now (rows_of l s) in
       let met : Meets limiter_layout r s u l.rows (carried l o) = rw h at m in
-      subst (λ (q : ChannelUpdateLimiter). LimiterKept l s q u) (sym (ap (λ (p : LimiterTold). p.limiter) met.answers))
+      subst (λ (q : ChannelUpdateLimiter). LimiterKept l s q u) (sym (ap (λ (p : LimiterTold). p.state) met.answers))
       (changed l s h b u o.change
       (acquire_holds l.config (limit_of l.max_entries) now (limiter_key_bytes k) (rows_of l s) (limited_hold l s h b)
       (key_held k w peer outpoint) (side_last k w)) met.leaves)

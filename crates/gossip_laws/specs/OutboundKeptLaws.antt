@@ -1,13 +1,13 @@
 -- Every outbound call on a sound state leaves a sound one, the memory's length, and the settings; and a fresh state is sound. In order:
 -- a fresh state; a change kept; a peer's bucket; allow; remove; reserve; refund. The calls that are lent the memory to read leave no
 -- state. Assumes nothing.
-use Rattle.std.specs.Prelude.{◌≡◌, Bool, cond, List, ℕ, ◌^◌, ◌≤◌, ◌<◌, length}
+use Rattle.std.specs.Prelude.{◌≡◌, Bool, cond, List, ℕ, ◌^◌, ◌≤◌, ◌<◌, length, Ok, Err, Option, None, Some}
 use Rattle.std.proofs.Math.Path.{refl}
 use Rattle.std.proofs.Common.{ap, arith, leb-false}
 use Rattle.std.proofs.Math.Bool.{true, false}
-use Rattle.std.proofs.Math.Option.{Option, none, some}
+use Rattle.std.proofs.Math.Option.{Option as Found, none, some}
+use Rattle.refusal.specs.declared.Refusal.TheVariants as Refusal
 use Rattle.pubkey.specs.declared.Pubkey.{Pubkey}
-use Rattle.refusal.specs.Refusal.{no_row}
 use Rattle.table.specs.Table.{every, ascending, look, store, erase}
 use Rattle.table.specs.Memory.{rows}
 use Rattle.table.specs.Outcome.{Change, same, become, Memory, count_after, Meets}
@@ -19,8 +19,6 @@ use Rattle.table_laws.specs.Kept.{Encodes, RowsHold, ChangeHolds, LentHolds}
 use Rattle.table_laws.specs.KeptLaws.{sub_hold, store_hold, lent_holds, holds_lent, rows_hold, change_kept}
 use Rattle.table_laws.specs.LentLaws.{own_sound_lem}
 use Rattle.table_laws.specs.WordsLaws.{of_numbers, length_encode, encode_bytes}
-use Rattle.bucket_terms.specs.declared.answer.Told.TheVariants as Told
-use Rattle.bucket_terms.specs.declared.answer.Delay.TheVariants as Delay
 use Rattle.bucket_terms.specs.declared.limit.ByteRateLimitConfig.{ByteRateLimitConfig}
 use Rattle.bucket_terms.specs.Limit.{byte_disabled}
 use Rattle.bucket_bytes.specs.declared.bytes.ByteTokenBucket.{ByteTokenBucket}
@@ -34,11 +32,8 @@ use Rattle.gossip_outbound_state.specs.declared.state.Outbound.{Outbound}
 use Rattle.gossip_outbound_state.specs.declared.charge.Charged.{Charged}
 use Rattle.gossip_outbound_state.specs.State.{rows_of, own_sound, sound, bucket_or_fresh, full, is_yes, charged, charge_both, promise_both, outbound_with}
 use Rattle.gossip_outbound_state.specs.CarryLaws.{rows_within, own_global, within_own}
-use Rattle.gossip_outbound.specs.declared.answer.OutboundTold.{OutboundTold}
-use Rattle.gossip_outbound.specs.declared.answer.OutboundReserved.{OutboundReserved}
-use Rattle.gossip_outbound.specs.declared.answer.OutboundSettled.{OutboundSettled}
-use Rattle.gossip_outbound.specs.declared.answer.Settled.TheVariants as Settled
-use Rattle.gossip_outbound.specs.Outbound.{turn, refuse, outbound_told, outbound_reserved, outbound_settled, kept, removed}
+use Rattle.gossip_outbound.specs.Handed.{OutboundTold, OutboundReserved, OutboundSettled}
+use Rattle.gossip_outbound.specs.Outbound.{turn, refuse, outbound_told, outbound_reserved, outbound_settled, kept, allowed, removed}
 use Rattle.gossip_outbound.specs.Calls.{AllowMeets, allow_outcome, RemoveMeets, remove_outcome, ReserveMeets, reserve_outcome, RefundMeets, refund_outcome}
 use Rattle.gossip_laws.specs.OutboundKept.{Given, Kept, fresh}
 
@@ -99,7 +94,7 @@ module _ (o : Outbound) (s : List ℕ) (k : Pubkey) (h : sound o s ≡ true) (gi
   peer_stands : Stands o.peer_outbound_config (bucket_or_fresh o.peer_outbound_config (look k.bytes (rows_of o s)))
   peer_stands = by (look k.bytes (rows_of o s)) refl
     where
-      by : (found : Option OutboundEntry) → look k.bytes (rows_of o s) ≡ found → Stands o.peer_outbound_config (bucket_or_fresh o.peer_outbound_config found)
+      by : (found : Found OutboundEntry) → look k.bytes (rows_of o s) ≡ found → Stands o.peer_outbound_config (bucket_or_fresh o.peer_outbound_config found)
       by none e = fresh_stands o.peer_outbound_config given.peers_fit
       by (some x) e =
           known_stands o.peer_outbound_config x
@@ -112,7 +107,7 @@ module _ (o : Outbound) (s : List ℕ) (k : Pubkey) (h : sound o s ≡ true) (gi
       store_hold outbound_layout (outbound_sound o.peer_outbound_config) 1024 k.bytes (entry_of b) (rows_of o s) given.key
       (stands_entry o.peer_outbound_config b st) holding (by (look k.bytes (rows_of o s)) refl room)
     where
-      by : (found : Option OutboundEntry) → look k.bytes (rows_of o s) ≡ found → full o.rows found ≡ false
+      by : (found : Found OutboundEntry) → look k.bytes (rows_of o s) ≡ found → full o.rows found ≡ false
           → length (store k.bytes (entry_of b) (rows_of o s)) ≤ 1024
       by none e f =
           omega (arith, length_store_none k.bytes (rows_of o s) (entry_of b) e, length_rows outbound_layout s o.rows, leb-false 1024 o.rows f)
@@ -128,89 +123,84 @@ module _ (o : Outbound) (s : List ℕ) (k : Pubkey) (h : sound o s ≡ true) (gi
   -- ════ Allow ════
 
   module _ (bytes now : ℕ) where
-    -- both buckets as they were, or both charged
-    charge_by : (P : Charged → Type 0) → P (charged o.global_outbound peer false)
-        → P (charged (byte_try_consume o.global_outbound bytes now).bucket (byte_try_consume peer bytes now).bucket true)
-        → P (charge_both o.global_outbound peer bytes now)
+    -- both buckets, where both gave
+    abbrev both : Charged
+    both = charged (byte_try_consume o.global_outbound bytes now).state (byte_try_consume peer bytes now).state
+
+    -- none is charged, or both are
+    charge_by : (P : Option Charged → Type 0) → P None → P (Some both) → P (charge_both o.global_outbound peer bytes now)
     unfolding charge_both
-    charge_by P stay both = by (is_yes (byte_try_consume o.global_outbound bytes now).answer) (is_yes (byte_try_consume peer bytes now).answer)
+    charge_by P stay gave = by (is_yes (byte_try_consume o.global_outbound bytes now).answer) (is_yes (byte_try_consume peer bytes now).answer)
       where
         by : (x y : Bool)
-            → P (cond x (cond y (charged (byte_try_consume o.global_outbound bytes now).bucket (byte_try_consume peer bytes now).bucket true) (charged o.global_outbound peer false)) (charged o.global_outbound peer false))
-        by true true = both
+            → P (cond x (cond y (Some both) None) None)
+        by true true = gave
         by true false = stay
         by false y = stay
 
-    charge_global : Left o.global_outbound (charge_both o.global_outbound peer bytes now).global
-    charge_global =
-        charge_by (λ (c : Charged). Left o.global_outbound c.global) (as_it_was refl)
-        (try_consume_left o.global_outbound given.global_fits (own_global o own) bytes now)
+    charge_global : Left o.global_outbound both.global
+    charge_global = try_consume_left o.global_outbound given.global_fits (own_global o own) bytes now
 
-    charge_peer : Stands o.peer_outbound_config (charge_both o.global_outbound peer bytes now).peer
-    charge_peer =
-        charge_by (λ (c : Charged). Stands o.peer_outbound_config c.peer) peer_stands
-        (left_stands o.peer_outbound_config peer_stands (try_consume_left peer peer_left_fits peer_stands.sound bytes now))
+    charge_peer : Stands o.peer_outbound_config both.peer
+    charge_peer = left_stands o.peer_outbound_config peer_stands (try_consume_left peer peer_left_fits peer_stands.sound bytes now)
 
-    pub allow_kept : (r : OutboundTold) (t : List ℕ) → AllowMeets o s k bytes now r t → Kept o s r.outbound t
+    pub allow_kept : (r : OutboundTold) (t : List ℕ) → AllowMeets o s k bytes now r t → Kept o s r.state t
     unfolding AllowMeets allow_outcome
-    allow_kept r t m = by both.yes (full o.rows (look k.bytes (rows_of o s))) refl (rw h at m)
+    allow_kept r t m =
+        charge_by (λ (x : Option Charged). Meets outbound_layout r s t o.rows (allowed o k.bytes (rows_of o s) x) → Kept o s r.state t)
+        (λ met. unchanged r.state t (ap (λ (x : OutboundTold). x.state) met.answers) met.leaves)
+        (by (full o.rows (look k.bytes (rows_of o s))) refl) (rw h at m)
       where
-        both : Charged
-        both = charge_both o.global_outbound peer bytes now
-
-        by : (y f : Bool) → full o.rows (look k.bytes (rows_of o s)) ≡ f
+        by : (f : Bool) → full o.rows (look k.bytes (rows_of o s)) ≡ f
             → Meets outbound_layout r s t o.rows
-            (cond y
-            (cond f (refuse (outbound_told o (Told.Refused no_row)))
-            (turn (outbound_told (outbound_with o both.global (count_after o.rows (become (kept k.bytes both.peer (rows_of o s))))) Told.Yes)
+            (cond f (refuse (outbound_told o (Err Refusal.NoRow)))
+            (turn (outbound_told (outbound_with o both.global (count_after o.rows (become (kept k.bytes both.peer (rows_of o s))))) (Ok true))
             (become (kept k.bytes both.peer (rows_of o s)))))
-            (refuse (outbound_told o Told.No)))
-            → Kept o s r.outbound t
-        by true true e met = unchanged r.outbound t (ap (λ (x : OutboundTold). x.outbound) met.answers) met.leaves
-        by true false e met =
-            changed r.outbound t both.global (become (kept k.bytes both.peer (rows_of o s)))
-            (ap (λ (x : OutboundTold). x.outbound) met.answers) charge_global (written both.peer charge_peer e) met.leaves
-        by false f e met = unchanged r.outbound t (ap (λ (x : OutboundTold). x.outbound) met.answers) met.leaves
+            → Kept o s r.state t
+        by true e met = unchanged r.state t (ap (λ (x : OutboundTold). x.state) met.answers) met.leaves
+        by false e met =
+            changed r.state t both.global (become (kept k.bytes both.peer (rows_of o s)))
+            (ap (λ (x : OutboundTold). x.state) met.answers) charge_global (written both.peer charge_peer e) met.leaves
 
   -- ════ Remove ════
 
-  pub remove_kept : (r : OutboundSettled) (t : List ℕ) → RemoveMeets o s k r t → Kept o s r.outbound t
+  pub remove_kept : (r : OutboundSettled) (t : List ℕ) → RemoveMeets o s k r t → Kept o s r.state t
   unfolding RemoveMeets remove_outcome
   remove_kept r t m =
       let met : Meets outbound_layout r s t o.rows (removed o k.bytes (rows_of o s)) = rw h at m in
-      changed r.outbound t o.global_outbound (become (erase k.bytes (rows_of o s)))
-      (ap (λ (x : OutboundSettled). x.outbound) met.answers) (as_it_was refl)
+      changed r.state t o.global_outbound (become (erase k.bytes (rows_of o s)))
+      (ap (λ (x : OutboundSettled). x.state) met.answers) (as_it_was refl)
       (sub_hold outbound_layout (outbound_sound o.peer_outbound_config) 1024 (sub_erase k.bytes (rows_of o s)) holding) met.leaves
 
   -- ════ Reserve ════
 
   module _ (bytes now : ℕ) where
-    pub reserve_kept : (r : OutboundReserved) (t : List ℕ) → ReserveMeets o s k bytes now r t → Kept o s r.outbound t
+    pub reserve_kept : (r : OutboundReserved) (t : List ℕ) → ReserveMeets o s k bytes now r t → Kept o s r.state t
     unfolding ReserveMeets reserve_outcome promise_both
     reserve_kept r t m = by (full o.rows (look k.bytes (rows_of o s))) refl (rw h at m)
       where
         g : ByteTokenBucket
-        g = (byte_reserve o.global_outbound bytes now).bucket
+        g = (byte_reserve o.global_outbound bytes now).state
 
         p : ByteTokenBucket
-        p = (byte_reserve peer bytes now).bucket
+        p = (byte_reserve peer bytes now).state
 
         by : (f : Bool) → full o.rows (look k.bytes (rows_of o s)) ≡ f
             → Meets outbound_layout r s t o.rows
-            (cond f (refuse (outbound_reserved o (Delay.Refused no_row)))
-            (turn (outbound_reserved (outbound_with o g (count_after o.rows (become (kept k.bytes p (rows_of o s))))) (Delay.Wait (promise_both o.global_outbound peer bytes now).delay_ms))
+            (cond f (refuse (outbound_reserved o (Err Refusal.NoRow)))
+            (turn (outbound_reserved (outbound_with o g (count_after o.rows (become (kept k.bytes p (rows_of o s))))) (Ok (promise_both o.global_outbound peer bytes now).delay_ms))
             (become (kept k.bytes p (rows_of o s)))))
-            → Kept o s r.outbound t
-        by true e met = unchanged r.outbound t (ap (λ (x : OutboundReserved). x.outbound) met.answers) met.leaves
+            → Kept o s r.state t
+        by true e met = unchanged r.state t (ap (λ (x : OutboundReserved). x.state) met.answers) met.leaves
         by false e met =
-            changed r.outbound t g (become (kept k.bytes p (rows_of o s)))
-            (ap (λ (x : OutboundReserved). x.outbound) met.answers)
+            changed r.state t g (become (kept k.bytes p (rows_of o s)))
+            (ap (λ (x : OutboundReserved). x.state) met.answers)
             (reserve_left o.global_outbound given.global_fits (own_global o own) bytes now)
             (written p (left_stands o.peer_outbound_config peer_stands (reserve_left peer peer_left_fits peer_stands.sound bytes now)) e) met.leaves
 
     -- ════ Refund ════
 
-    pub refund_kept : (r : OutboundSettled) (t : List ℕ) → RefundMeets o s k bytes now r t → Kept o s r.outbound t
+    pub refund_kept : (r : OutboundSettled) (t : List ℕ) → RefundMeets o s k bytes now r t → Kept o s r.state t
     unfolding RefundMeets refund_outcome
     refund_kept r t m = by (byte_disabled o.peer_outbound_config) (full o.rows (look k.bytes (rows_of o s))) refl (rw h at m)
       where
@@ -225,14 +215,14 @@ module _ (o : Outbound) (s : List ℕ) (k : Pubkey) (h : sound o s ≡ true) (gi
 
         by : (off f : Bool) → full o.rows (look k.bytes (rows_of o s)) ≡ f
             → Meets outbound_layout r s t o.rows
-            (cond off (refuse (outbound_settled (outbound_with o g o.rows) Settled.Done))
-            (cond f (refuse (outbound_settled o (Settled.Refused no_row)))
-            (turn (outbound_settled (outbound_with o g (count_after o.rows (become (kept k.bytes p (rows_of o s))))) Settled.Done)
+            (cond off (refuse (outbound_settled (outbound_with o g o.rows) (Ok tt)))
+            (cond f (refuse (outbound_settled o (Err Refusal.NoRow)))
+            (turn (outbound_settled (outbound_with o g (count_after o.rows (become (kept k.bytes p (rows_of o s))))) (Ok tt))
             (become (kept k.bytes p (rows_of o s))))))
-            → Kept o s r.outbound t
-        by true f e met = changed r.outbound t g same (ap (λ (x : OutboundSettled). x.outbound) met.answers) left tt met.leaves
-        by false true e met = unchanged r.outbound t (ap (λ (x : OutboundSettled). x.outbound) met.answers) met.leaves
+            → Kept o s r.state t
+        by true f e met = changed r.state t g same (ap (λ (x : OutboundSettled). x.state) met.answers) left tt met.leaves
+        by false true e met = unchanged r.state t (ap (λ (x : OutboundSettled). x.state) met.answers) met.leaves
         by false false e met =
-            changed r.outbound t g (become (kept k.bytes p (rows_of o s)))
-            (ap (λ (x : OutboundSettled). x.outbound) met.answers) left
+            changed r.state t g (become (kept k.bytes p (rows_of o s)))
+            (ap (λ (x : OutboundSettled). x.state) met.answers) left
             (written p (left_stands o.peer_outbound_config peer_stands (refund_left peer peer_left_fits peer_stands.sound bytes now)) e) met.leaves

@@ -1,15 +1,12 @@
 -- At most one outcome for each outbound call: one answer, and one memory after it. Assumes nothing.
-use Rattle.std.specs.Prelude.{◌≡◌, Bool, List, ℕ}
+use Rattle.std.specs.Prelude.{◌≡◌, Bool, List, ℕ, Result}
+use Rattle.refusal.specs.declared.Refusal.{Refusal}
 use Rattle.pubkey.specs.declared.Pubkey.{Pubkey}
 use Rattle.refusal.specs.OneOutcomeLaws.{one_outcome}
 use Rattle.table.specs.OutcomeLaws.{one_meets}
-use Rattle.bucket_terms.specs.declared.answer.Delay.{Delay}
-use Rattle.bucket_terms.specs.declared.answer.Told.{Told}
 use Rattle.gossip_outbound_state.specs.declared.state.Outbound.{Outbound}
 use Rattle.gossip_outbound_state.specs.State.{exceeds}
-use Rattle.gossip_outbound.specs.declared.answer.OutboundTold.{OutboundTold}
-use Rattle.gossip_outbound.specs.declared.answer.OutboundReserved.{OutboundReserved}
-use Rattle.gossip_outbound.specs.declared.answer.OutboundSettled.{OutboundSettled}
+use Rattle.gossip_outbound.specs.Handed.{OutboundTold, OutboundReserved, OutboundSettled}
 use Rattle.gossip_outbound.specs.Calls.{AllowMeets, EstimateMeets, RemoveMeets, ReserveMeets, RefundMeets, BypassMeets}
 
 module _ (o : Outbound) (before : List ℕ) (k : Pubkey) {first second : List ℕ} where
@@ -34,11 +31,11 @@ module _ (o : Outbound) (before : List ℕ) (k : Pubkey) {first second : List �
 
 -- the calls that are lent the memory to read
 module _ (o : Outbound) (s : List ℕ) (k : Pubkey) (bytes now : ℕ) where
-  pub estimate_outcome : {r q : Delay} → EstimateMeets o s k bytes now r → EstimateMeets o s k bytes now q → r ≡ q
+  pub estimate_outcome : {r q : Result ℕ Refusal} → EstimateMeets o s k bytes now r → EstimateMeets o s k bytes now q → r ≡ q
   unfolding EstimateMeets
   estimate_outcome = one_outcome
 
-  pub bypass_outcome : {r q : Told} → BypassMeets o s k bytes now r → BypassMeets o s k bytes now q → r ≡ q
+  pub bypass_outcome : {r q : Result Bool Refusal} → BypassMeets o s k bytes now r → BypassMeets o s k bytes now q → r ≡ q
   unfolding BypassMeets
   bypass_outcome = one_outcome
 

@@ -10,22 +10,16 @@ use Rattle.bucket_terms.specs.declared.limit.ByteRateLimitConfig.{ByteRateLimitC
 use Rattle.gossip_settings.specs.declared.violation.GossipViolation.{GossipViolation}
 use Rattle.gossip_ban_rows.specs.Rows.{ban_layout}
 use Rattle.gossip_bans.specs.declared.tracker.GossipBanTracker.{GossipBanTracker}
-use Rattle.gossip_bans.specs.declared.answer.BanTold.{BanTold}
-use Rattle.gossip_bans.specs.declared.answer.BanPruned.{BanPruned}
+use Rattle.gossip_bans.specs.Handed.{BanTold, BanPruned}
 use Rattle.gossip_bans.specs.Tracker as bans
 use Rattle.gossip_bans.specs.Calls.{record_violation_outcome, is_banned_outcome, prune_expired_outcome, PruneExpiredMeets}
 use Rattle.gossip_bans.specs.Calls as bans-calls
 use Rattle.gossip_outbound_state.specs.declared.state.Outbound.{Outbound}
 use Rattle.gossip_outbound_state.specs.State as outbound
-use Rattle.gossip_outbound.specs.declared.answer.OutboundTold.{OutboundTold}
-use Rattle.gossip_outbound.specs.declared.answer.OutboundReserved.{OutboundReserved}
-use Rattle.gossip_outbound.specs.declared.answer.OutboundSettled.{OutboundSettled}
+use Rattle.gossip_outbound.specs.Handed.{OutboundTold, OutboundReserved, OutboundSettled}
 use Rattle.gossip_outbound.specs.Calls as outbound-calls
 use Rattle.gossip_policy.specs.declared.state.GossipPolicyState.{GossipPolicyState}
-use Rattle.gossip_policy.specs.declared.answer.GossipTold.{GossipTold}
-use Rattle.gossip_policy.specs.declared.answer.GossipPruned.{GossipPruned}
-use Rattle.gossip_policy.specs.declared.answer.GossipSettled.{GossipSettled}
-use Rattle.gossip_policy.specs.declared.answer.GossipReserved.{GossipReserved}
+use Rattle.gossip_policy.specs.Handed.{GossipTold, GossipPruned, GossipSettled, GossipReserved}
 use Rattle.gossip_policy.specs.State.{outbound_of, with_tracker, with_outbound}
 use Rattle.gossip_policy.specs.Calls.{RecordViolationMeets, IsBannedMeets, PruneBansMeets, AllowMeets, RemoveMeets, ReserveMeets, RefundMeets}
 use Rattle.gossip_laws.specs.BanSoundLaws.{BanKept, record_violation_kept, is_banned_kept, prune_expired_kept}
@@ -45,21 +39,21 @@ module _ (s : GossipPolicyState) (before after : List ℕ) (now : ℕ) (h : bans
   policy_record_violation_kept k v r key m =
       let a : BanTold = (record_violation_outcome s.ban_tracker before k v now).answer in
       subst (λ (x : GossipTold). BansKept s before x.state after) (sym m.answers)
-      (with_tracker_lem a.tracker (record_violation_kept s.ban_tracker before after now h b k v a key (record { answers = refl; leaves = m.leaves })))
+      (with_tracker_lem a.state (record_violation_kept s.ban_tracker before after now h b k v a key (record { answers = refl; leaves = m.leaves })))
 
   pub policy_is_banned_kept : (k : Pubkey) (r : GossipTold) → IsBannedMeets s before k now r after → BansKept s before r.state after
   unfolding IsBannedMeets bans-calls.IsBannedMeets
   policy_is_banned_kept k r m =
       let a : BanTold = (is_banned_outcome s.ban_tracker before k now).answer in
       subst (λ (x : GossipTold). BansKept s before x.state after) (sym m.answers)
-      (with_tracker_lem a.tracker (is_banned_kept s.ban_tracker before after now h b k a (record { answers = refl; leaves = m.leaves })))
+      (with_tracker_lem a.state (is_banned_kept s.ban_tracker before after now h b k a (record { answers = refl; leaves = m.leaves })))
 
   pub prune_bans_kept : (r : GossipPruned) → PruneBansMeets s before now r after → BansKept s before r.state after
   unfolding PruneBansMeets PruneExpiredMeets
   prune_bans_kept r m =
       let a : BanPruned = (prune_expired_outcome s.ban_tracker before now).answer in
       subst (λ (x : GossipPruned). BansKept s before x.state after) (sym m.answers)
-      (with_tracker_lem a.tracker (prune_expired_kept s.ban_tracker before after now h b a (record { answers = refl; leaves = m.leaves })))
+      (with_tracker_lem a.state (prune_expired_kept s.ban_tracker before after now h b a (record { answers = refl; leaves = m.leaves })))
 
 -- ════ Outbound messages ════
 
@@ -80,7 +74,7 @@ module _ (s : GossipPolicyState) (before : List ℕ) (k : Pubkey) (h : outbound.
   remove_outbound_peer_kept r after m =
       let a : OutboundSettled = (outbound-calls.remove_outcome (outbound_of s) before k).answer in
       subst (λ (x : GossipSettled). OutboundKept s before x.state after) (sym m.answers)
-      (with_outbound_lem a.outbound (remove_kept (outbound_of s) before k h given a after (record { answers = refl; leaves = m.leaves })))
+      (with_outbound_lem a.state (remove_kept (outbound_of s) before k h given a after (record { answers = refl; leaves = m.leaves })))
 
   module _ (bytes now : ℕ) where
     pub allow_outbound_message_kept : (r : GossipTold) (after : List ℕ) → AllowMeets s before k bytes now r after → OutboundKept s before r.state after
@@ -88,7 +82,7 @@ module _ (s : GossipPolicyState) (before : List ℕ) (k : Pubkey) (h : outbound.
     allow_outbound_message_kept r after m =
         let a : OutboundTold = (outbound-calls.allow_outcome (outbound_of s) before k bytes now).answer in
         subst (λ (x : GossipTold). OutboundKept s before x.state after) (sym m.answers)
-        (with_outbound_lem a.outbound (allow_kept (outbound_of s) before k h given bytes now a after (record { answers = refl; leaves = m.leaves })))
+        (with_outbound_lem a.state (allow_kept (outbound_of s) before k h given bytes now a after (record { answers = refl; leaves = m.leaves })))
 
     pub reserve_outbound_message_kept : (r : GossipReserved) (after : List ℕ) → ReserveMeets s before k bytes now r after
         → OutboundKept s before r.state after
@@ -96,7 +90,7 @@ module _ (s : GossipPolicyState) (before : List ℕ) (k : Pubkey) (h : outbound.
     reserve_outbound_message_kept r after m =
         let a : OutboundReserved = (outbound-calls.reserve_outcome (outbound_of s) before k bytes now).answer in
         subst (λ (x : GossipReserved). OutboundKept s before x.state after) (sym m.answers)
-        (with_outbound_lem a.outbound (reserve_kept (outbound_of s) before k h given bytes now a after (record { answers = refl; leaves = m.leaves })))
+        (with_outbound_lem a.state (reserve_kept (outbound_of s) before k h given bytes now a after (record { answers = refl; leaves = m.leaves })))
 
     pub refund_outbound_message_kept : (r : GossipSettled) (after : List ℕ) → RefundMeets s before k bytes now r after
         → OutboundKept s before r.state after
@@ -104,4 +98,4 @@ module _ (s : GossipPolicyState) (before : List ℕ) (k : Pubkey) (h : outbound.
     refund_outbound_message_kept r after m =
         let a : OutboundSettled = (outbound-calls.refund_outcome (outbound_of s) before k bytes now).answer in
         subst (λ (x : GossipSettled). OutboundKept s before x.state after) (sym m.answers)
-        (with_outbound_lem a.outbound (refund_kept (outbound_of s) before k h given bytes now a after (record { answers = refl; leaves = m.leaves })))
+        (with_outbound_lem a.state (refund_kept (outbound_of s) before k h given bytes now a after (record { answers = refl; leaves = m.leaves })))

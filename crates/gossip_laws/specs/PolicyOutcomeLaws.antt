@@ -1,20 +1,15 @@
 -- At most one outcome satisfies the contract of each call on the gossip state: the same answer, and the same memory where memory is lent.
 -- Assumes nothing.
-use Rattle.std.specs.Prelude.{◌≡◌, List, Bool, ℕ}
+use Rattle.std.specs.Prelude.{◌≡◌, List, Bool, ℕ, Result, Option}
+use Rattle.refusal.specs.declared.Refusal.{Refusal}
 use Rattle.pubkey.specs.declared.Pubkey.{Pubkey}
 use Rattle.refusal.specs.OneOutcomeLaws.{one_outcome}
 use Rattle.table.specs.OutcomeLaws.{one_meets}
-use Rattle.bucket_terms.specs.declared.answer.Delay.{Delay}
-use Rattle.bucket_terms.specs.declared.answer.Told.{Told}
 use Rattle.gossip_settings.specs.declared.policy.GossipPolicyConfig.{GossipPolicyConfig}
 use Rattle.gossip_settings.specs.declared.violation.GossipViolation.{GossipViolation}
 use Rattle.gossip_outbound_state.specs.State.{exceeds}
 use Rattle.gossip_policy.specs.declared.state.GossipPolicyState.{GossipPolicyState}
-use Rattle.gossip_policy.specs.declared.answer.GossipTold.{GossipTold}
-use Rattle.gossip_policy.specs.declared.answer.GossipPruned.{GossipPruned}
-use Rattle.gossip_policy.specs.declared.answer.GossipSettled.{GossipSettled}
-use Rattle.gossip_policy.specs.declared.answer.GossipReserved.{GossipReserved}
-use Rattle.gossip_policy.specs.declared.answer.DelayedByteCapacity.{DelayedByteCapacity}
+use Rattle.gossip_policy.specs.Handed.{GossipTold, GossipPruned, GossipSettled, GossipReserved}
 use Rattle.gossip_policy.specs.State.{outbound_of, delayed_byte_capacity}
 use Rattle.gossip_policy.specs.Calls.{NewMeets, RecordViolationMeets, IsBannedMeets, PruneBansMeets, AllowMeets, EstimateMeets, RemoveMeets, ReserveMeets, RefundMeets, BypassMeets}
 use Rattle.gossip_laws.specs.OutboundOutcomeLaws.{estimate_outcome, bypass_outcome}
@@ -68,10 +63,10 @@ module _ (s : GossipPolicyState) (before : List ℕ) {first second : List ℕ} w
 
 module _ (s : GossipPolicyState) where
   module _ (lent : List ℕ) (k : Pubkey) (bytes now : ℕ) where
-    pub estimate_outbound_message_delay_one : {r q : Delay} → EstimateMeets s lent k bytes now r → EstimateMeets s lent k bytes now q → r ≡ q
+    pub estimate_outbound_message_delay_one : {r q : Result ℕ Refusal} → EstimateMeets s lent k bytes now r → EstimateMeets s lent k bytes now q → r ≡ q
     estimate_outbound_message_delay_one = estimate_outcome (outbound_of s) lent k bytes now
 
-    pub should_bypass_one : {r q : Told} → BypassMeets s lent k bytes now r → BypassMeets s lent k bytes now q → r ≡ q
+    pub should_bypass_one : {r q : Result Bool Refusal} → BypassMeets s lent k bytes now r → BypassMeets s lent k bytes now q → r ≡ q
     should_bypass_one = bypass_outcome (outbound_of s) lent k bytes now
 
   pub exceeds_capacity_one : (bytes : ℕ) {r q : Bool} → r ≡ exceeds (outbound_of s) bytes → q ≡ exceeds (outbound_of s) bytes → r ≡ q
@@ -80,10 +75,10 @@ module _ (s : GossipPolicyState) where
   pub delay_queue_capacity_one : {r q : ℕ} → r ≡ s.outbound_delay_queue_capacity → q ≡ s.outbound_delay_queue_capacity → r ≡ q
   delay_queue_capacity_one = one_outcome
 
-  pub global_capacity_one : {r q : DelayedByteCapacity} → r ≡ delayed_byte_capacity s.global_outbound.config
+  pub global_capacity_one : {r q : Option ℕ} → r ≡ delayed_byte_capacity s.global_outbound.config
       → q ≡ delayed_byte_capacity s.global_outbound.config → r ≡ q
   global_capacity_one = one_outcome
 
-  pub peer_capacity_one : {r q : DelayedByteCapacity} → r ≡ delayed_byte_capacity s.peer_outbound_config
+  pub peer_capacity_one : {r q : Option ℕ} → r ≡ delayed_byte_capacity s.peer_outbound_config
       → q ≡ delayed_byte_capacity s.peer_outbound_config → r ≡ q
   peer_capacity_one = one_outcome

@@ -1,4 +1,7 @@
 -- The ways out of try_acquire: what it answers and leaves is its outcome. Over plain values. Assumes nothing.
+use Rattle.std.specs.Prelude.{Result, Ok, Err, Bool}
+use Rattle.refusal.specs.declared.Refusal.{Refusal}
+use Rattle.refusal.specs.declared.Refusal.TheVariants as Refusal
 use mathlib.Core.Path.{◌≡◌, refl, sym, ap, ◌∙◌}
 use mathlib.Core.Bool.{true, false}
 use mathlib.Core.List.{List}
@@ -9,17 +12,14 @@ use lib.ListN.{length}
 use Rattle.lent_bytes.specs.LentBytes.{part, Bytes}
 use Rattle.pubkey.specs.declared.ChannelUpdateLimiterKey.{ChannelUpdateLimiterKey}
 use Rattle.pubkey.specs.Order.{limiter_key_bytes}
-use Rattle.refusal.specs.Refusal.{unsound}
 use Rattle.table.specs.Table.{look, store}
 use Rattle.table.specs.Memory.{row_of, rows, Holds}
 use Rattle.table.specs.MemoryLaws.{length_rows}
 use Rattle.table.specs.Outcome.{same, become, Memory, Outcome}
 use Rattle.table_laws.specs.ChangeLaws.{stored_at}
-use Rattle.table_laws.specs.Private.{over}
+use Rattle.table_laws.specs.Private.{over, Counted}
 use Rattle.table_laws.specs.LentLaws.{own_sound_lem, rows_fit, limit_fits, known_look, unknown_look}
-use Rattle.table_laws.specs.Private.{Counted}
 use Rattle.table_laws.specs.StoreLaws.{counted_then}
-use Rattle.bucket_terms.specs.declared.answer.Told.{Told}
 use Rattle.bucket_discrete.specs.declared.discrete.DiscreteTokenBucket.{DiscreteTokenBucket}
 use Rattle.bucket_discrete.specs.DiscreteBucket.{discrete_new}
 use Rattle.gossip_settings.specs.declared.channel_update.ChannelUpdateRateLimitConfig.{ChannelUpdateRateLimitConfig}
@@ -32,7 +32,7 @@ use Rattle.gossip_limiter_rows.specs.RowsLaws.{limiter_faithful}
 use Rattle.gossip_limiter_rows.specs.Prune.{room_for}
 use Rattle.gossip_limiter_rows.specs.PruneLaws.{length_room, room_fit}
 use Rattle.gossip_limiter.specs.declared.limiter.ChannelUpdateLimiter.{ChannelUpdateLimiter}
-use Rattle.gossip_limiter.specs.declared.answer.LimiterTold.{LimiterTold}
+use Rattle.gossip_limiter.specs.Handed.{LimiterTold}
 use Rattle.gossip_limiter.specs.Limiter.{rows_of, limit_of, limiter_record_sound, sound, turn, try_acquire}
 use Rattle.gossip_limiter.specs.Calls.{limiter_with, limiter_after, limiter_told, try_acquire_outcome, TryAcquireMeets}
 use Rattle.gossip_limiter.specs.Private.{Known, Unknown}
@@ -57,28 +57,28 @@ module _ (l : ChannelUpdateLimiter) (s : List ℕ) (h : sound l s ≡ true) wher
 
 module _ (l : ChannelUpdateLimiter) (s : List ℕ) (key : ChannelUpdateLimiterKey) (now : ℕ) where
   -- what the call comes to on the rows
-  abbrev outcome : Outcome ChannelUpdateLimiterEntry Told
+  abbrev outcome : Outcome ChannelUpdateLimiterEntry (Result Bool Refusal)
   outcome = try_acquire l.config (limit_of l.max_entries) (limiter_key_bytes key) now (rows_of l s)
 
   -- the rows that a new key finds
   abbrev room : Limits
   room = room_for (limit_of l.max_entries) l.config now (rows_of l s)
 
-  pub told_unsound : sound l s ≡ false → TryAcquireMeets l s key now (limiter_told l (Told.Refused unsound)) s
+  pub told_unsound : sound l s ≡ false → TryAcquireMeets l s key now (limiter_told l (Err Refusal.Unsound)) s
   unfolding TryAcquireMeets try_acquire_outcome
   told_unsound h = rw h (record { answers = refl; leaves = refl })
 
   -- a call that was carried out
-  told_carried : sound l s ≡ true → (o : Outcome ChannelUpdateLimiterEntry Told) → outcome ≡ o → (r : LimiterTold) (t : List ℕ)
+  told_carried : sound l s ≡ true → (o : Outcome ChannelUpdateLimiterEntry (Result Bool Refusal)) → outcome ≡ o → (r : LimiterTold) (t : List ℕ)
       → r ≡ limiter_told (limiter_after l o.change) o.answer → Memory limiter_layout s t l.rows o.change → TryAcquireMeets l s key now r t
   unfolding TryAcquireMeets try_acquire_outcome
   told_carried h o e r t answers leaves = rw (h, e) (record { answers = answers; leaves = leaves })
 
   -- the limit is off
-  pub told_off : sound l s ≡ true → channel_update_disabled l.config ≡ true → TryAcquireMeets l s key now (limiter_told l Told.Yes) s
+  pub told_off : sound l s ≡ true → channel_update_disabled l.config ≡ true → TryAcquireMeets l s key now (limiter_told l (Ok true)) s
   told_off h off =
-      told_carried h (turn Told.Yes same)
-      (acquire_off l.config (limit_of l.max_entries) (limiter_key_bytes key) now (rows_of l s) off) (limiter_told l Told.Yes) s refl refl
+      told_carried h (turn (Ok true) same)
+      (acquire_off l.config (limit_of l.max_entries) (limiter_key_bytes key) now (rows_of l s) off) (limiter_told l (Ok true)) s refl refl
 
   -- a key that has a row: its bucket was asked and written over the row
   pub told_known : (i : ℕ) → Known l s (limiter_key_bytes key) i → channel_update_disabled l.config ≡ false → (found : ChannelUpdateLimiterEntry)
@@ -103,12 +103,12 @@ module _ (l : ChannelUpdateLimiter) (s : List ℕ) (key : ChannelUpdateLimiterKe
     missing = unknown_look limiter_layout (limiter_sound l.config) (limiter_record_sound l) (limit_of l.max_entries) s l.rows (limiter_key_bytes key) gap unknown
 
     -- the table is full still
-    pub told_full : limit_of l.max_entries ≤ left → q ≡ limiter_with l left → TryAcquireMeets l s key now (limiter_told q Told.No) t
+    pub told_full : limit_of l.max_entries ≤ left → q ≡ limiter_with l left → TryAcquireMeets l s key now (limiter_told q (Ok false)) t
     told_full full e =
-        told_carried unknown.is_sound (turn Told.No (become room))
+        told_carried unknown.is_sound (turn (Ok false) (become room))
         (acquire_full l.config (limit_of l.max_entries) (limiter_key_bytes key) now (rows_of l s) on missing (omega (arith, made.1)))
-        (limiter_told q Told.No) t
-        (ap (λ (x : ChannelUpdateLimiter). limiter_told x Told.No) (e ∙ ap (limiter_with l) made.1)) made.0
+        (limiter_told q (Ok false)) t
+        (ap (λ (x : ChannelUpdateLimiter). limiter_told x (Ok false)) (e ∙ ap (limiter_with l) made.1)) made.0
 
     -- there is room: a fresh bucket was asked and stored
     pub told_new : left < limit_of l.max_entries → l.config.burst < 2 ^ 64 → now < 2 ^ 64 → Bytes s → (b : DiscreteTokenBucket)

@@ -1,11 +1,11 @@
 -- ChannelUpdateLimiter of gossip_policy.rs, on settings, a limit and a list of rows. Definitions only.
-use Rattle.std.specs.Prelude.{Bool, ◌&&◌, cond, List, ℕ, max, leb, length}
+use Rattle.std.specs.Prelude.{Bool, ◌&&◌, cond, List, ℕ, max, leb, length, Result, Ok, true, false}
 use Rattle.std.proofs.Math.Option.{Option, none, some}
+use Rattle.refusal.specs.declared.Refusal.{Refusal}
 use Rattle.table.specs.Table.{look, store}
 use Rattle.table.specs.Memory.{rows}
 use Rattle.table.specs.Outcome.{Change, same, become, Outcome}
 use Rattle.table_laws.specs.Lent.{lent_sound}
-use Rattle.bucket_terms.specs.declared.answer.Told.{Told}
 use Rattle.bucket_discrete.specs.declared.discrete.DiscreteTokenBucket.{DiscreteTokenBucket}
 use Rattle.bucket_discrete.specs.DiscreteBucket.{discrete_new}
 use Rattle.gossip_settings.specs.declared.channel_update.ChannelUpdateRateLimitConfig.{ChannelUpdateRateLimitConfig}
@@ -41,19 +41,19 @@ abbrev pub turn : {R : Type 0} → R → Change ChannelUpdateLimiterEntry → Ou
 turn answer change = record { answer = answer; change = change }
 
 -- a key's bucket asked for a token; it is kept as it then is, also on a no
-abbrev pub acquire_from : DiscreteTokenBucket → List ℕ → ℕ → Limits → Outcome ChannelUpdateLimiterEntry Told
+abbrev pub acquire_from : DiscreteTokenBucket → List ℕ → ℕ → Limits → Outcome ChannelUpdateLimiterEntry (Result Bool Refusal)
 acquire_from b k now rs = turn (asked_of b now).answer (become (store k (asked_of b now).entry rs))
 
 -- a key without a row, once idle entries have gone where the table was full: no where it is full still
-abbrev pub acquire_among : ChannelUpdateRateLimitConfig → ℕ → List ℕ → ℕ → Limits → Outcome ChannelUpdateLimiterEntry Told
+abbrev pub acquire_among : ChannelUpdateRateLimitConfig → ℕ → List ℕ → ℕ → Limits → Outcome ChannelUpdateLimiterEntry (Result Bool Refusal)
 acquire_among c limit k now rs =
-    cond (leb limit (length rs)) (turn Told.No (become rs)) (acquire_from (discrete_new c.interval_ms c.burst) k now rs)
+    cond (leb limit (length rs)) (turn (Ok false) (become rs)) (acquire_from (discrete_new c.interval_ms c.burst) k now rs)
 
 -- by what is found for the key
-abbrev pub acquire_found : ChannelUpdateRateLimitConfig → ℕ → List ℕ → ℕ → Limits → Option ChannelUpdateLimiterEntry → Outcome ChannelUpdateLimiterEntry Told
+abbrev pub acquire_found : ChannelUpdateRateLimitConfig → ℕ → List ℕ → ℕ → Limits → Option ChannelUpdateLimiterEntry → Outcome ChannelUpdateLimiterEntry (Result Bool Refusal)
 acquire_found c limit k now rs none = acquire_among c limit k now (room_for limit c now rs)
 acquire_found c limit k now rs (some e) = acquire_from (bucket_of c e) k now rs
 
 -- try_acquire
-unfoldable pub try_acquire : ChannelUpdateRateLimitConfig → ℕ → List ℕ → ℕ → Limits → Outcome ChannelUpdateLimiterEntry Told
-try_acquire c limit k now rs = cond (channel_update_disabled c) (turn Told.Yes same) (acquire_found c limit k now rs (look k rs))
+unfoldable pub try_acquire : ChannelUpdateRateLimitConfig → ℕ → List ℕ → ℕ → Limits → Outcome ChannelUpdateLimiterEntry (Result Bool Refusal)
+try_acquire c limit k now rs = cond (channel_update_disabled c) (turn (Ok true) same) (acquire_found c limit k now rs (look k rs))

@@ -1,11 +1,10 @@
 -- What the Rust's steps come to, by what is found for the key, and soundness of the record. Assumes nothing.
-use Rattle.std.specs.Prelude.{true, false, ◌≡◌, List, ℕ, ◌≤◌, ◌<◌, leb, length}
+use Rattle.std.specs.Prelude.{true, false, ◌≡◌, List, ℕ, ◌≤◌, ◌<◌, leb, length, Ok}
 use Rattle.std.proofs.Math.Option.{none, some}
 use borrow.Author.Tests.{leb-true, le-leb, lt-leb}
 use Rattle.truths.specs.TruthLaws.{both, both_parts}
 use Rattle.table.specs.Table.{look}
 use Rattle.table.specs.Outcome.{same, become}
-use Rattle.bucket_terms.specs.declared.answer.Told.TheVariants as Told
 use Rattle.bucket_discrete.specs.DiscreteBucket.{discrete_new}
 use Rattle.gossip_settings.specs.declared.channel_update.ChannelUpdateRateLimitConfig.{ChannelUpdateRateLimitConfig}
 use Rattle.gossip_settings.specs.Settings.{channel_update_disabled}
@@ -37,7 +36,7 @@ module _ (l : ChannelUpdateLimiter) where
 
 module _ (c : ChannelUpdateRateLimitConfig) (limit : ℕ) (k : List ℕ) (now : ℕ) (rs : Limits) where
   -- the limit is off
-  pub acquire_off : channel_update_disabled c ≡ true → try_acquire c limit k now rs ≡ turn Told.Yes same
+  pub acquire_off : channel_update_disabled c ≡ true → try_acquire c limit k now rs ≡ turn (Ok true) same
   unfolding try_acquire
   acquire_off h = rw h
 
@@ -49,7 +48,7 @@ module _ (c : ChannelUpdateRateLimitConfig) (limit : ℕ) (k : List ℕ) (now : 
 
     -- it has none, and the table is full of keys that have used their tokens
     pub acquire_full : look k rs ≡ none → limit ≤ length (room_for limit c now rs)
-        → try_acquire c limit k now rs ≡ turn Told.No (become (room_for limit c now rs))
+        → try_acquire c limit k now rs ≡ turn (Ok false) (become (room_for limit c now rs))
     unfolding try_acquire
     acquire_full found full = rw (on, found, le-leb limit (length (room_for limit c now rs)) full)
 

@@ -1,24 +1,6 @@
-// What the calls answer: the limiter first, as it was where the answer is `Refused`, which carries the number of the refusal.
+// What the calls answer: the limiter first, as it was where the answer is an `Err` with the refusal.
 use super::limiter::ChannelUpdateLimiter;
-use bucket_terms::answer::Told;
-
-// A limiter was made.
-#[derive(Clone, Copy)]
-pub enum MadeLimiter {
-    Limiter(ChannelUpdateLimiter),
-    Refused(u32),
-}
+use refusal::{Answered, Refusal};
 
 // Whether an update is let in.
-#[derive(Clone, Copy)]
-pub struct LimiterTold {
-    pub limiter: ChannelUpdateLimiter,
-    pub answer: Told,
-}
-
-// How many keys have a bucket.
-#[derive(Clone, Copy)]
-pub enum TrackedKeys {
-    Keys(u64),
-    Refused(u32),
-}
+pub type LimiterTold = Answered<ChannelUpdateLimiter, Result<bool, Refusal>>;

@@ -2,17 +2,16 @@
 ghost use Rattle.gossip_settings.specs.Settings.{max_tracked_keys};
 ghost use Rattle.gossip_limiter.specs.Calls.{MadeMeets, TryAcquireMeets, TrackedKeysMeets};
 
-use super::answer::{LimiterTold, MadeLimiter, TrackedKeys};
-use super::{calls, judge};
-use bucket_terms::answer::Told;
+use super::answer::LimiterTold;
 use gossip_limiter_rows::row::ROW_WIDTH;
 use gossip_settings::channel_update::ChannelUpdateRateLimitConfig;
 use pubkey::ChannelUpdateLimiterKey;
+use refusal::{Answered, Refusal};
 use table::seek::Seek;
 
 // Settings, how many keys have a bucket at most (the limit as it was given; 0 counts as 1), and how many rows of the lent memory are
 // in use.
-#[derive(Clone, Copy)]
+#[derive(Clone, Copy, Debug, PartialEq, Eq)]
 pub struct ChannelUpdateLimiter {
     pub config: ChannelUpdateRateLimitConfig,
     pub max_entries: u64,
@@ -21,7 +20,10 @@ pub struct ChannelUpdateLimiter {
 
 impl ChannelUpdateLimiter {
     // A limiter of 1,024 keys.
-    pub fn new(config: ChannelUpdateRateLimitConfig, table: &mut [u8]) -> MadeLimiter
+    pub fn new(
+        config: ChannelUpdateRateLimitConfig,
+        table: &mut [u8],
+    ) -> Result<ChannelUpdateLimiter, Refusal>
         ensures { MadeMeets config max_tracked_keys table.old result table.new }
     {
         ChannelUpdateLimiter::with_max_entries(
@@ -37,18 +39,18 @@ impl ChannelUpdateLimiter {
         config: ChannelUpdateRateLimitConfig,
         max_entries: u64,
         table: &mut [u8],
-    ) -> MadeLimiter
+    ) -> Result<ChannelUpdateLimiter, Refusal>
         ensures { MadeMeets config max_entries table.old result table.new }
     {
         if max_entries > ChannelUpdateRateLimitConfig::MAX_TRACKED_KEYS {
-            return MadeLimiter::Refused(refusal::LIMIT_TOO_LARGE);
+            return Err(Refusal::LimitTooLarge);
         }
-        let limit = judge::limit_of(max_entries);
+        let limit = max_entries.max(1);
         if ((table.len() / ROW_WIDTH) as u64) < limit {
-            return MadeLimiter::Refused(refusal::TOO_SHORT);
+            return Err(Refusal::TooShort);
         }
         table::rows::zero_rows(table, ROW_WIDTH, 0, limit as usize);
-        MadeLimiter::Limiter(ChannelUpdateLimiter {
+        Ok(ChannelUpdateLimiter {
             config,
             max_entries,
             rows: 0,
@@ -65,30 +67,32 @@ impl ChannelUpdateLimiter {
     ) -> LimiterTold
         ensures { TryAcquireMeets self table.old key now_ms result table.new }
     {
-        let found = judge::sought(self, table, key);
-        match found {
-            Seek::Unsound => LimiterTold {
-                limiter: self,
-                answer: Told::Refused(refusal::UNSOUND),
+        match self.sought(table, key) {
+            Seek::Unsound => Answered {
+                state: self,
+                answer: Err(Refusal::Unsound),
             },
-            Seek::At(index) => calls::acquire_known(self, table, key, index, now_ms),
-            Seek::Gap(gap) => calls::acquire_new(self, table, key, gap, now_ms),
+            Seek::At(index) => self.acquire_known(table, key, index, now_ms),
+            Seek::Gap(gap) => self.acquire_new(table, key, gap, now_ms),
         }
     }
 
     // How many keys have a bucket, full ones counted. No table is lent, so the record alone is judged.
-    pub fn tracked_keys(self) -> TrackedKeys
+    pub fn tracked_keys(self) -> Result<u64, Refusal>
         ensures { TrackedKeysMeets self result }
     {
-        if !judge::is_sound(self) {
-            return TrackedKeys::Refused(refusal::UNSOUND);
+        if !self.is_sound() {
+            return Err(Refusal::Unsound);
         }
-        TrackedKeys::Keys(self.rows)
+        Ok(self.rows)
     }
 }
 
 // ChannelUpdateRateLimitConfig::build_limiter
-pub fn build_limiter(config: ChannelUpdateRateLimitConfig, table: &mut [u8]) -> MadeLimiter
+pub fn build_limiter(
+    config: ChannelUpdateRateLimitConfig,
+    table: &mut [u8],
+) -> Result<ChannelUpdateLimiter, Refusal>
     ensures { MadeMeets config max_tracked_keys table.old result table.new }
 {
     ChannelUpdateLimiter::new(config, table)
@@ -99,7 +103,7 @@ pub fn build_limiter_with_max_entries(
     config: ChannelUpdateRateLimitConfig,
     max_entries: u64,
     table: &mut [u8],
-) -> MadeLimiter
+) -> Result<ChannelUpdateLimiter, Refusal>
     ensures { MadeMeets config max_entries table.old result table.new }
 {
     ChannelUpdateLimiter::with_max_entries(config, max_entries, table)

@@ -1,6 +1,7 @@
 -- ChannelUpdateLimiterEntry of gossip_policy.rs, and its bucket under the limiter's settings. Definitions only.
 use Rattle.std.specs.Prelude.{Bool, true, false, ℕ}
-use Rattle.bucket_terms.specs.declared.answer.Consumed.{Consumed}
+use Rattle.std.specs.Prelude.{Result, Ok, Err}
+use Rattle.bucket_terms.specs.declared.answer.NotGiven.{NotGiven}
 use Rattle.bucket_terms.specs.Answers.{told}
 use Rattle.bucket_discrete.specs.declared.discrete.DiscreteTokenBucket.{DiscreteTokenBucket}
 use Rattle.bucket_discrete.specs.DiscreteBucket.{discrete_refill, discrete_try_consume, discrete_is_full}
@@ -35,15 +36,15 @@ abbrev pub is_full : ChannelUpdateRateLimitConfig → ChannelUpdateLimiterEntry 
 is_full c e = discrete_is_full (bucket_of c e)
 
 -- whether a token was there
-abbrev pub is_yes : Consumed → Bool
-is_yes Consumed.Yes = true
-is_yes (Consumed.No short) = false
-is_yes (Consumed.Refused n) = false
+abbrev pub is_yes : Result (Unit {0}) NotGiven → Bool
+is_yes (Ok tt) = true
+is_yes (Err (NotGiven.Short short)) = false
+is_yes (Err (NotGiven.Refused n)) = false
 
 -- a bucket asked for a token now: the entry that it leaves, and whether there was one
 unfoldable pub asked_of : DiscreteTokenBucket → ℕ → Asked
 asked_of b now =
     record {
-      entry = entry_of (discrete_try_consume b now).bucket now;
+      entry = entry_of (discrete_try_consume b now).state now;
       answer = told (is_yes (discrete_try_consume b now).answer);
     }

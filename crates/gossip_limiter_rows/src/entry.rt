@@ -1,15 +1,14 @@
 // What is kept for one key: the numbers of its bucket, whose settings all rows share, and when it was last used.
 ghost use Rattle.std.specs.Prelude.{◌≡◌, ◌≤◌};
-ghost use Rattle.gossip_limiter_rows.specs.Entry.{bucket_of, entry_of, is_full, is_yes, asked_of};
+ghost use Rattle.gossip_limiter_rows.specs.Entry.{bucket_of, entry_of, is_full, asked_of};
 ghost use Rattle.gossip_limiter_rows.specs.Entry.{refilled as refilledBy};
-ghost use Rattle.bucket_terms.specs.Answers.{told as toldBy};
 
 use bucket_discrete::discrete::DiscreteTokenBucket;
-use bucket_terms::answer::{Consumed, Told};
 use gossip_settings::channel_update::ChannelUpdateRateLimitConfig;
+use refusal::Refusal;
 
 // In a row every number is a u64, so more may be available than the burst allows: then the row is unsound.
-#[derive(Clone, Copy)]
+#[derive(Clone, Copy, Debug, PartialEq, Eq)]
 pub struct ChannelUpdateLimiterEntry {
     pub available: u64,
     pub last_refill_ms: u64,
@@ -17,10 +16,10 @@ pub struct ChannelUpdateLimiterEntry {
 }
 
 // An entry after its bucket was asked for a token, and whether there was one.
-#[derive(Clone, Copy)]
+#[derive(Clone, Copy, Debug, PartialEq, Eq)]
 pub struct Asked {
     pub entry: ChannelUpdateLimiterEntry,
-    pub answer: Told,
+    pub answer: Result<bool, Refusal>,
 }
 
 // The entry's bucket under the settings.
@@ -59,10 +58,7 @@ pub fn refilled(
     requires { e.available ≤ config.burst }
     ensures { result ≡ refilledBy config now_ms e }
 {
-    let bucket = bucket_of(config, e);
-    let after = bucket.refill(now_ms);
-    let left = after.bucket;
-    entry_of(left, e.last_used_ms)
+    entry_of(bucket_of(config, e).refill(now_ms).state, e.last_used_ms)
 }
 
 // Whether no token is missing.
@@ -72,26 +68,15 @@ pub fn is_full(config: ChannelUpdateRateLimitConfig, e: ChannelUpdateLimiterEntr
     e.available == config.burst as u64
 }
 
-// Asks a bucket for a token: its entry is then last used now, also where there was none.
+// Asks a bucket for a token: its entry is then last used now, also where there was none. A refusal, which a sound bucket never gives,
+// is a no.
 pub fn ask(bucket: DiscreteTokenBucket, now_ms: u64) -> Asked
     requires { bucket.available ≤ bucket.capacity }
     ensures { result ≡ asked_of bucket now_ms }
 {
     let after = bucket.try_consume(now_ms);
-    let left = after.bucket;
-    let given = after.answer;
-    let entry = entry_of(left, now_ms);
-    let answer = told(given);
-    Asked { entry, answer }
-}
-
-// Whether a token was there. A refusal, which a sound bucket never gives, is a no.
-fn told(answer: Consumed) -> Told
-    ensures { result ≡ toldBy (is_yes answer) }
-{
-    match answer {
-        Consumed::Yes => Told::Yes,
-        Consumed::No(_) => Told::No,
-        Consumed::Refused(_) => Told::No,
+    Asked {
+        entry: entry_of(after.state, now_ms),
+        answer: Ok(after.answer.is_ok()),
     }
 }

@@ -14,6 +14,8 @@ use crate::entry::ChannelUpdateLimiterEntry;
 use crate::row::{KEY_WIDTH, ROW_WIDTH, entry_at, words_of};
 use gossip_settings::channel_update::ChannelUpdateRateLimitConfig;
 
+// Kept: not `keyed_rows::kind::retain`, since each entry is rewritten on the way, which no other table does.
+
 // Moves the row at the index `from` down to `to`, with another entry.
 fn move_with(table: &mut [u8], from: usize, to: usize, e: ChannelUpdateLimiterEntry)
     requires to_le_from { to ≤ from }
@@ -60,10 +62,8 @@ fn gather_busy(
     ensures { Gathered limiter_layout table.old table.new result (prune_idle config now_ms (rows limiter_layout table.old count)) }
 {
     let mut kept: usize = 0;
-    let mut i: usize = 0;
-    while i < count {
+    for i in 0..count {
         kept = keep_busy(table, i, kept, config, now_ms);
-        i += 1;
     }
     kept
 }

@@ -1,3 +1,4 @@
+pub mod Handed
 pub mod Outbound
 pub mod Calls
 pub mod CallLaws

@@ -3,11 +3,11 @@ ghost use Rattle.std.specs.Prelude.{◌≡◌};
 ghost use Rattle.gossip_outbound_state.specs.State.{exceeds};
 ghost use Rattle.gossip_outbound.specs.Calls.{AllowMeets, EstimateMeets, RemoveMeets, ReserveMeets, RefundMeets, BypassMeets};
 
-use super::answer::{OutboundReserved, OutboundSettled, OutboundTold, Settled};
-use bucket_terms::answer::{Delay, Told};
+use super::answer::{OutboundReserved, OutboundSettled, OutboundTold};
 use gossip_outbound_state::state::Outbound;
-use gossip_outbound_state::{carry, charge, judge};
+use gossip_outbound_state::{charge, judge};
 use pubkey::Pubkey;
+use refusal::{Answered, Refusal};
 
 // Whether a message may be sent now. It is charged to both buckets only where both have the bytes.
 pub fn allow_outbound_message(
@@ -19,36 +19,30 @@ pub fn allow_outbound_message(
 ) -> OutboundTold
     ensures { AllowMeets o table.old peer bytes now_ms result table.new }
 {
-    let found = judge::sought(o, table, peer);
+    let found = o.sought(table, peer);
     if judge::is_unsound(found) {
-        return OutboundTold {
-            outbound: o,
-            answer: Told::Refused(refusal::UNSOUND),
+        return Answered {
+            state: o,
+            answer: Err(Refusal::Unsound),
         };
     }
-    let bucket = carry::peer_bucket(o, table, peer, found);
-    let global = o.global_outbound;
-    let both = charge::charge_both(global, bucket, bytes, now_ms);
-    let yes = both.yes;
-    if !yes {
-        return OutboundTold {
-            outbound: o,
-            answer: Told::No,
+    let bucket = o.peer_bucket(table, peer, found);
+    let Some(both) = charge::charge_both(o.global_outbound, bucket, bytes, now_ms) else {
+        return Answered {
+            state: o,
+            answer: Ok(false),
+        };
+    };
+    if o.is_full(found) {
+        return Answered {
+            state: o,
+            answer: Err(Refusal::NoRow),
         };
     }
-    if judge::is_full(o, found) {
-        return OutboundTold {
-            outbound: o,
-            answer: Told::Refused(refusal::NO_ROW),
-        };
-    }
-    let charged_global = both.global;
-    let charged_peer = both.peer;
-    let rows = carry::write_row(o, table, peer, found, charged_peer);
-    let outbound = carry::with(o, charged_global, rows);
-    OutboundTold {
-        outbound,
-        answer: Told::Yes,
+    let rows = o.write_row(table, peer, found, both.peer);
+    Answered {
+        state: o.with(both.global, rows),
+        answer: Ok(true),
     }
 }
 
@@ -59,36 +53,33 @@ pub fn estimate_outbound_message_delay(
     peer: Pubkey,
     bytes: u64,
     now_ms: u64,
-) -> Delay
+) -> Result<u64, Refusal>
     ensures { EstimateMeets o table.now peer bytes now_ms result }
 {
-    let found = judge::sought(o, table, peer);
+    let found = o.sought(table, peer);
     if judge::is_unsound(found) {
-        return Delay::Refused(refusal::UNSOUND);
+        return Err(Refusal::Unsound);
     }
-    let global = o.global_outbound;
-    let global_ms = charge::delay_of(global, bytes, now_ms);
-    let peer_ms = carry::peer_delay(o, table, peer, found, bytes, now_ms);
-    Delay::Wait(charge::longer(global_ms, peer_ms))
+    let global_ms = charge::delay_of(o.global_outbound, bytes, now_ms);
+    let peer_ms = o.peer_delay(table, peer, found, bytes, now_ms);
+    Ok(global_ms.max(peer_ms))
 }
 
 // Forgets a peer's bucket.
 pub fn remove_outbound_peer(o: Outbound, table: &mut [u8], peer: Pubkey) -> OutboundSettled
     ensures { RemoveMeets o table.old peer result table.new }
 {
-    let found = judge::sought(o, table, peer);
+    let found = o.sought(table, peer);
     if judge::is_unsound(found) {
-        return OutboundSettled {
-            outbound: o,
-            answer: Settled::Refused(refusal::UNSOUND),
+        return Answered {
+            state: o,
+            answer: Err(Refusal::Unsound),
         };
     }
-    let global = o.global_outbound;
-    let rows = carry::drop_row(o, table, peer, found);
-    let outbound = carry::with(o, global, rows);
-    OutboundSettled {
-        outbound,
-        answer: Settled::Done,
+    let rows = o.drop_row(table, peer, found);
+    Answered {
+        state: o.with(o.global_outbound, rows),
+        answer: Ok(()),
     }
 }
 
@@ -102,30 +93,25 @@ pub fn reserve_outbound_message(
 ) -> OutboundReserved
     ensures { ReserveMeets o table.old peer bytes now_ms result table.new }
 {
-    let found = judge::sought(o, table, peer);
+    let found = o.sought(table, peer);
     if judge::is_unsound(found) {
-        return OutboundReserved {
-            outbound: o,
-            answer: Delay::Refused(refusal::UNSOUND),
+        return Answered {
+            state: o,
+            answer: Err(Refusal::Unsound),
         };
     }
-    if judge::is_full(o, found) {
-        return OutboundReserved {
-            outbound: o,
-            answer: Delay::Refused(refusal::NO_ROW),
+    if o.is_full(found) {
+        return Answered {
+            state: o,
+            answer: Err(Refusal::NoRow),
         };
     }
-    let bucket = carry::peer_bucket(o, table, peer, found);
-    let global = o.global_outbound;
-    let both = charge::promise_both(global, bucket, bytes, now_ms);
-    let promised_global = both.global;
-    let promised_peer = both.peer;
-    let delay_ms = both.delay_ms;
-    let rows = carry::write_row(o, table, peer, found, promised_peer);
-    let outbound = carry::with(o, promised_global, rows);
-    OutboundReserved {
-        outbound,
-        answer: Delay::Wait(delay_ms),
+    let bucket = o.peer_bucket(table, peer, found);
+    let promised = charge::promise_both(o.global_outbound, bucket, bytes, now_ms);
+    let rows = o.write_row(table, peer, found, promised.peer);
+    Answered {
+        state: o.with(promised.global, rows),
+        answer: Ok(promised.delay_ms),
     }
 }
 
@@ -139,36 +125,32 @@ pub fn refund_outbound_message(
 ) -> OutboundSettled
     ensures { RefundMeets o table.old peer bytes now_ms result table.new }
 {
-    let found = judge::sought(o, table, peer);
+    let found = o.sought(table, peer);
     if judge::is_unsound(found) {
-        return OutboundSettled {
-            outbound: o,
-            answer: Settled::Refused(refusal::UNSOUND),
+        return Answered {
+            state: o,
+            answer: Err(Refusal::Unsound),
         };
     }
-    let global = o.global_outbound;
-    let refunded_global = charge::refunded(global, bytes, now_ms);
-    let config = o.peer_outbound_config;
-    if config.is_disabled() {
-        let outbound = carry::with(o, refunded_global, o.rows);
-        return OutboundSettled {
-            outbound,
-            answer: Settled::Done,
+    let global = charge::refunded(o.global_outbound, bytes, now_ms);
+    if o.peer_outbound_config.is_disabled() {
+        return Answered {
+            state: o.with(global, o.rows),
+            answer: Ok(()),
         };
     }
-    if judge::is_full(o, found) {
-        return OutboundSettled {
-            outbound: o,
-            answer: Settled::Refused(refusal::NO_ROW),
+    if o.is_full(found) {
+        return Answered {
+            state: o,
+            answer: Err(Refusal::NoRow),
         };
     }
-    let bucket = carry::peer_bucket(o, table, peer, found);
-    let refunded_peer = charge::refunded(bucket, bytes, now_ms);
-    let rows = carry::write_row(o, table, peer, found, refunded_peer);
-    let outbound = carry::with(o, refunded_global, rows);
-    OutboundSettled {
-        outbound,
-        answer: Settled::Done,
+    let bucket = o.peer_bucket(table, peer, found);
+    let refunded = charge::refunded(bucket, bytes, now_ms);
+    let rows = o.write_row(table, peer, found, refunded);
+    Answered {
+        state: o.with(global, rows),
+        answer: Ok(()),
     }
 }
 
@@ -176,13 +158,8 @@ pub fn refund_outbound_message(
 pub fn outbound_message_exceeds_single_message_capacity(o: Outbound, bytes: u64) -> bool
     ensures { result ≡ exceeds o bytes }
 {
-    let global = o.global_outbound;
-    let global_config = global.config;
-    if charge::exceeds_burst(global_config, bytes) {
-        return true;
-    }
-    let peer_config = o.peer_outbound_config;
-    charge::exceeds_burst(peer_config, bytes)
+    charge::exceeds_burst(o.global_outbound.config, bytes)
+        || charge::exceeds_burst(o.peer_outbound_config, bytes)
 }
 
 // Whether a message of that size may be sent all the same: where neither bucket is in debt. Nothing changes.
@@ -192,22 +169,15 @@ pub fn should_bypass_oversized_outbound_message(
     peer: Pubkey,
     bytes: u64,
     now_ms: u64,
-) -> Told
+) -> Result<bool, Refusal>
     ensures { BypassMeets o table.now peer bytes now_ms result }
 {
-    let found = judge::sought(o, table, peer);
+    let found = o.sought(table, peer);
     if judge::is_unsound(found) {
-        return Told::Refused(refusal::UNSOUND);
+        return Err(Refusal::Unsound);
     }
     if !outbound_message_exceeds_single_message_capacity(o, bytes) {
-        return Told::No;
+        return Ok(false);
     }
-    let global = o.global_outbound;
-    if charge::in_debt(global, now_ms) {
-        return Told::No;
-    }
-    if carry::peer_debt(o, table, peer, found, now_ms) {
-        return Told::No;
-    }
-    Told::Yes
+    Ok(!charge::in_debt(o.global_outbound, now_ms) && !o.peer_debt(table, peer, found, now_ms))
 }

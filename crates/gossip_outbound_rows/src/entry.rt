@@ -10,7 +10,7 @@ use bucket_bytes::bytes::ByteTokenBucket;
 use bucket_terms::limit::ByteRateLimitConfig;
 
 // `sign` is 0 for plus and 1 for minus; `low` and `high` are the halves of the magnitude.
-#[derive(Clone, Copy)]
+#[derive(Clone, Copy, Debug, PartialEq, Eq)]
 pub struct OutboundEntry {
     pub sign: u64,
     pub low: u64,
@@ -48,7 +48,7 @@ pub fn bucket_of(config: ByteRateLimitConfig, e: OutboundEntry) -> ByteTokenBuck
 fn sign_of(negative: bool) -> u64
     ensures { result ≡ sign_of negative }
 {
-    if negative { 1 } else { 0 }
+    u64::from(negative)
 }
 
 // Two limbs as one number.
@@ -62,10 +62,9 @@ fn joined(lower: u32, upper: u32) -> u64
 pub fn entry_of(b: ByteTokenBucket) -> OutboundEntry
     ensures { result ≡ entry_of b }
 {
-    let available = b.available_bytes;
-    let limbs = available.limbs;
+    let limbs = b.available_bytes.limbs;
     OutboundEntry {
-        sign: sign_of(available.negative),
+        sign: sign_of(b.available_bytes.negative),
         low: joined(limbs[0], limbs[1]),
         high: joined(limbs[2], limbs[3]),
         last_refill_ms: b.last_refill_ms,
@@ -76,8 +75,5 @@ pub fn entry_of(b: ByteTokenBucket) -> OutboundEntry
 pub fn is_sound(config: ByteRateLimitConfig, e: OutboundEntry) -> bool
     ensures { result ≡ entry_sound config e }
 {
-    if e.sign > 1 {
-        return false;
-    }
-    bucket_bytes::bytes::is_sound(bucket_of(config, e))
+    e.sign <= 1 && bucket_bytes::bytes::is_sound(bucket_of(config, e))
 }

@@ -7,7 +7,8 @@ ghost use Rattle.table_laws.specs.Private.{over};
 ghost use Rattle.gossip_outbound_rows.specs.Rows.{row_width, outbound_layout};
 
 use crate::entry::OutboundEntry;
-use crate::row::{KEY_WIDTH, ROW_WIDTH, words_of};
+use crate::row::OutboundRows;
+use keyed_rows::kind;
 use pubkey::Pubkey;
 
 // Takes the row at the index out.
@@ -16,7 +17,7 @@ pub fn remove_at(table: &mut [u8], count: usize, index: usize)
     requires count_in_bounds { row_width * count ≤ length table.old }
     ensures { Holds outbound_layout table.old table.new count (remove_at index (rows outbound_layout table.old count)) }
 {
-    table::rows::remove_row(table, ROW_WIDTH, count, index);
+    kind::remove_at::<OutboundRows, 4>(table, count, index);
 }
 
 // Writes an entry over that of the row at the index, which keeps its key.
@@ -25,8 +26,7 @@ pub fn overwrite_at(table: &mut [u8], count: usize, index: usize, e: OutboundEnt
     requires count_in_bounds { row_width * count ≤ length table.old }
     ensures { Holds outbound_layout table.old table.new count (over outbound_layout table.old count index e) }
 {
-    let words = words_of(e);
-    table::rows::put_words(table, ROW_WIDTH * index + KEY_WIDTH, &words);
+    kind::overwrite_at::<OutboundRows, 4>(table, count, index, e);
 }
 
 // Puts a row in before the row at the index.
@@ -35,7 +35,5 @@ pub fn insert_at(table: &mut [u8], count: usize, index: usize, key: Pubkey, e: O
     requires count_in_bounds { row_width * (count + 1) ≤ length table.old }
     ensures { Holds outbound_layout table.old table.new count (insert_at index (row_under key.bytes e) (rows outbound_layout table.old count)) }
 {
-    let words = words_of(e);
-    let bytes = key.bytes;
-    table::rows::insert_row(table, ROW_WIDTH, count, index, &bytes, &words);
+    kind::insert_at::<OutboundRows, 4>(table, count, index, &key.bytes, e);
 }

@@ -1,6 +1,6 @@
 -- Laws of two buckets asked, and of a peer that was found, or its place: soundness of the record, what is found there, and what a row
 -- written or taken out comes to. Assumes nothing.
-use Rattle.std.specs.Prelude.{◌≡◌, refl, Bool, true, false, List, ℕ, ◌+◌, ◌-◌, ◌*◌, ◌^◌, ◌≤◌, ◌<◌, leb, length}
+use Rattle.std.specs.Prelude.{◌≡◌, refl, Bool, true, false, List, ℕ, ◌+◌, ◌-◌, ◌*◌, ◌^◌, ◌≤◌, ◌<◌, leb, length, None, Some}
 use Rattle.std.proofs.Common.{sym, ◌∙◌, arith}
 use Rattle.std.proofs.Math.Path.{ap}
 use Rattle.std.proofs.Math.Option.{none, some}
@@ -17,11 +17,10 @@ use Rattle.table.specs.PlaceLaws.{place_is_sound, gap_erase}
 use Rattle.table_laws.specs.Private as lent
 use Rattle.table_laws.specs.LentLaws.{sought_unsound, sought_known, sought_unknown, own_sound_lem, limit_fits, known_inside, known_rule, known_look, unknown_within, unknown_look}
 use Rattle.table_laws.specs.ChangeLaws.{holds_same, stored_at, stored_gap, erased_at, unchanged}
-use Rattle.table_laws.specs.Private.{over}
-use Rattle.table_laws.specs.Private.{Counted}
-use Rattle.bucket_bytes.specs.declared.bytes.ByteTokenBucket.{ByteTokenBucket}
+use Rattle.table_laws.specs.Private.{over, Counted}
 use Rattle.bucket_terms.specs.Answers.{told}
-use Rattle.bucket_bytes.specs.declared.bytes.ByteConsumed.{ByteConsumed}
+use Rattle.bucket_bytes.specs.declared.bytes.ByteTokenBucket.{ByteTokenBucket}
+use Rattle.bucket_bytes.specs.Handed.{ByteConsumed}
 use Rattle.bucket_bytes.specs.ByteBucket.{byte_sound, byte_new, byte_try_consume, byte_peek_delay_after_refill, byte_has_debt}
 use Rattle.bucket_bytes.specs.KeptLaws.{byte_new_sound}
 use Rattle.gossip_outbound_rows.specs.declared.entry.OutboundEntry.{OutboundEntry}
@@ -31,8 +30,7 @@ use Rattle.gossip_outbound_rows.specs.Rows.{outbound_layout, outbound_sound}
 use Rattle.gossip_outbound_rows.specs.RowsLaws.{outbound_faithful}
 use Rattle.gossip_outbound_state.specs.declared.state.Outbound.{Outbound}
 use Rattle.gossip_outbound_state.specs.State.{rows_of, own_sound, sound, bucket_or_fresh, full, is_yes, charged, charge_both, peer_delay, peer_debt}
-use Rattle.gossip_outbound_state.specs.Private.{sought_in, is_told_yes}
-use Rattle.gossip_outbound_state.specs.Private.{is_unsound, full_at, Placed, PeerBucket}
+use Rattle.gossip_outbound_state.specs.Private.{is_told_yes, sought_in, is_unsound, full_at, Placed, PeerBucket}
 
 -- ════ Two buckets asked ════
 
@@ -43,13 +41,13 @@ told_back false = refl
 
 module _ (g p : ByteTokenBucket) (bytes now : ℕ) (first : ByteConsumed) (asked : first ≡ byte_try_consume g bytes now) where
   -- the global bucket said no
-  pub charge_no : is_yes first.answer ≡ false → charged g p false ≡ charge_both g p bytes now
+  pub charge_no : is_yes first.answer ≡ false → None ≡ charge_both g p bytes now
   unfolding charge_both
   charge_no h = rw (ap (λ (r : ByteConsumed). is_yes r.answer) (sym asked) ∙ h)
 
   module _ (gave : is_yes first.answer ≡ true) (second : ByteConsumed) (then-asked : second ≡ byte_try_consume p bytes now) where
     -- the peer's said no
-    pub charge_peer_no : is_yes second.answer ≡ false → charged g p false ≡ charge_both g p bytes now
+    pub charge_peer_no : is_yes second.answer ≡ false → None ≡ charge_both g p bytes now
     unfolding charge_both
     charge_peer_no h =
         rw (
@@ -58,15 +56,15 @@ module _ (g p : ByteTokenBucket) (bytes now : ℕ) (first : ByteConsumed) (asked
         )
 
     -- both said yes
-    pub charge_yes : is_yes second.answer ≡ true → charged first.bucket second.bucket true ≡ charge_both g p bytes now
+    pub charge_yes : is_yes second.answer ≡ true → Some (charged first.state second.state) ≡ charge_both g p bytes now
     unfolding charge_both
     charge_yes h =
         rw (
           ap (λ (r : ByteConsumed). is_yes r.answer) (sym asked) ∙ gave,
           ap (λ (r : ByteConsumed). is_yes r.answer) (sym then-asked) ∙ h,
         )
-        (ap (λ (r : ByteConsumed). charged r.bucket second.bucket true) asked
-        ∙ ap (λ (r : ByteConsumed). charged (byte_try_consume g bytes now).bucket r.bucket true) then-asked)
+        (ap (λ (r : ByteConsumed). Some (charged r.state second.state)) asked
+        ∙ ap (λ (r : ByteConsumed). Some (charged (byte_try_consume g bytes now).state r.state)) then-asked)
 
 -- ════ The record ════
 

@@ -1,8 +1,8 @@
 -- Private: cited by contracts inside the proved code alone; no entry point's contract rests on it. Definitions only.
-use Rattle.std.specs.Prelude.{Bool, true, false, List, ℕ, leb, ◌≡◌}
+use Rattle.std.specs.Prelude.{Bool, true, false, List, ℕ, leb, ◌≡◌, Result, Ok, Err}
+use Rattle.refusal.specs.declared.Refusal.{Refusal}
 use Rattle.table.specs.declared.seek.Seek.{Seek}
 use Rattle.table_laws.specs.Private.{lent_sought}
-use Rattle.bucket_terms.specs.declared.answer.Told.{Told}
 use Rattle.bucket_bytes.specs.declared.bytes.ByteTokenBucket.{ByteTokenBucket}
 use Rattle.bucket_bytes.specs.ByteBucket.{byte_sound}
 use Rattle.gossip_outbound_rows.specs.Rows.{outbound_layout, outbound_sound}
@@ -17,10 +17,10 @@ abbrev pub sought_in : Outbound → List ℕ → List ℕ → Seek
 sought_in o s k = lent_sought outbound_layout (outbound_sound o.peer_outbound_config) (own_sound o) max_rows s o.rows k
 
 -- whether the answer to a question is yes
-abbrev pub is_told_yes : Told → Bool
-is_told_yes Told.Yes = true
-is_told_yes Told.No = false
-is_told_yes (Told.Refused n) = false
+abbrev pub is_told_yes : Result Bool Refusal → Bool
+is_told_yes (Ok true) = true
+is_told_yes (Ok false) = false
+is_told_yes (Err n) = false
 
 -- whether the search found the rows, the record or the memory unsound
 abbrev pub is_unsound : Seek → Bool

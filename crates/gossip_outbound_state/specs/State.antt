@@ -1,11 +1,12 @@
 -- The state of the outbound half of GossipPolicyState of gossip_policy.rs: its soundness, a peer's bucket among its rows, and what is
 -- done with two buckets. Definitions only.
-use Rattle.std.specs.Prelude.{Bool, true, false, ◌&&◌, ◌||◌, not, cond, List, ℕ, max, leb, ltb}
-use Rattle.std.proofs.Math.Option.{Option, none, some}
+use Rattle.std.specs.Prelude.{Bool, false, ◌&&◌, ◌||◌, not, cond, List, ℕ, max, leb, ltb, Result, Option, None, Some}
+use Rattle.std.proofs.Math.Option.{Option as Found, none, some}
+use Rattle.std.specs.Result.{is_ok, result_unwrap_or}
+use Rattle.refusal.specs.declared.Refusal.{Refusal}
+use Rattle.bucket_terms.specs.declared.answer.NotGiven.{NotGiven}
 use Rattle.table.specs.Memory.{rows}
 use Rattle.table_laws.specs.Lent.{lent_sound}
-use Rattle.bucket_terms.specs.declared.answer.Consumed.{Consumed}
-use Rattle.bucket_terms.specs.declared.answer.Delay.{Delay}
 use Rattle.bucket_terms.specs.declared.limit.ByteRateLimitConfig.{ByteRateLimitConfig}
 use Rattle.bucket_terms.specs.Limit.{byte_disabled}
 use Rattle.bucket_bytes.specs.declared.bytes.ByteTokenBucket.{ByteTokenBucket}
@@ -38,47 +39,44 @@ sound o s = lent_sound outbound_layout (outbound_sound o.peer_outbound_config) (
 -- ════ A peer's bucket ════
 
 -- unwrap_or_else, or_insert_with: what was found, or a new bucket
-abbrev pub bucket_or_fresh : ByteRateLimitConfig → Option OutboundEntry → ByteTokenBucket
+abbrev pub bucket_or_fresh : ByteRateLimitConfig → Found OutboundEntry → ByteTokenBucket
 bucket_or_fresh c none = byte_new c
 bucket_or_fresh c (some e) = bucket_of c e
 
 -- whether a row would have to be made and all are taken
-abbrev pub full : ℕ → Option OutboundEntry → Bool
+abbrev pub full : ℕ → Found OutboundEntry → Bool
 full n none = leb max_rows n
 full n (some e) = false
 
 -- ════ Two buckets ════
 
 -- whether a bucket gave what was asked
-abbrev pub is_yes : Consumed → Bool
-is_yes Consumed.Yes = true
-is_yes (Consumed.No short) = false
-is_yes (Consumed.Refused n) = false
+abbrev pub is_yes : Result (Unit {0}) NotGiven → Bool
+is_yes = is_ok
 
 -- the milliseconds of a delay
-abbrev pub wait_of : Delay → ℕ
-wait_of (Delay.Wait ms) = ms
-wait_of (Delay.Refused n) = 0
+abbrev pub wait_of : Result ℕ Refusal → ℕ
+wait_of a = result_unwrap_or a 0
 
--- two buckets, and whether both gave
-abbrev pub charged : ByteTokenBucket → ByteTokenBucket → Bool → Charged
-charged g p gave = record { global = g; peer = p; yes = gave }
+-- two buckets that gave
+abbrev pub charged : ByteTokenBucket → ByteTokenBucket → Charged
+charged g p = record { global = g; peer = p }
 
--- copies of both buckets are asked, the global one first; where one says no, the buckets stay as they are
-unfoldable pub charge_both : ByteTokenBucket → ByteTokenBucket → ℕ → ℕ → Charged
+-- copies of both buckets are asked, the global one first; where one says no, nothing is charged
+unfoldable pub charge_both : ByteTokenBucket → ByteTokenBucket → ℕ → ℕ → Option Charged
 charge_both g p bytes now =
     cond (is_yes (byte_try_consume g bytes now).answer)
     (cond (is_yes (byte_try_consume p bytes now).answer)
-    (charged (byte_try_consume g bytes now).bucket (byte_try_consume p bytes now).bucket true)
-    (charged g p false))
-    (charged g p false)
+    (Some (charged (byte_try_consume g bytes now).state (byte_try_consume p bytes now).state))
+    None)
+    None
 
 -- both buckets promise the bytes; the longer of the two delays, each of which is cut to 64 bits already
 unfoldable pub promise_both : ByteTokenBucket → ByteTokenBucket → ℕ → ℕ → Promised
 promise_both g p bytes now =
     record {
-      global = (byte_reserve g bytes now).bucket;
-      peer = (byte_reserve p bytes now).bucket;
+      global = (byte_reserve g bytes now).state;
+      peer = (byte_reserve p bytes now).state;
       delay_ms = max (wait_of (byte_reserve g bytes now).answer) (wait_of (byte_reserve p bytes now).answer);
     }
 
@@ -93,12 +91,12 @@ exceeds o bytes = exceeds_burst o.global_outbound.config bytes || exceeds_burst 
 -- ════ What is asked of a peer's bucket ════
 
 -- the delay of a peer's bucket, 0 where it has none
-abbrev pub peer_delay : ByteRateLimitConfig → ℕ → ℕ → Option OutboundEntry → ℕ
+abbrev pub peer_delay : ByteRateLimitConfig → ℕ → ℕ → Found OutboundEntry → ℕ
 peer_delay c bytes now none = 0
 peer_delay c bytes now (some e) = byte_peek_delay_after_refill (bucket_of c e) bytes now
 
 -- whether a peer's bucket is in debt: one that it has not is not
-abbrev pub peer_debt : ByteRateLimitConfig → ℕ → Option OutboundEntry → Bool
+abbrev pub peer_debt : ByteRateLimitConfig → ℕ → Found OutboundEntry → Bool
 peer_debt c now none = false
 peer_debt c now (some e) = byte_has_debt (bucket_of c e) now
 

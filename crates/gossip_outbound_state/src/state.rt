@@ -4,7 +4,7 @@ use bucket_terms::limit::ByteRateLimitConfig;
 use gossip_outbound_rows::row::ROW_WIDTH;
 
 // What all peers together may be sent, the settings of each peer's bucket, and how many rows of the lent memory are in use.
-#[derive(Clone, Copy)]
+#[derive(Clone, Copy, Debug, PartialEq, Eq)]
 pub struct Outbound {
     pub global_outbound: ByteTokenBucket,
     pub peer_outbound_config: ByteRateLimitConfig,

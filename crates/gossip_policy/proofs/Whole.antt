@@ -1,27 +1,25 @@
 -- A call on one half, told of the whole state; and making one, by the lengths of both tables. Assumes nothing.
+use Rattle.std.specs.Prelude.{Ok, Err}
+use Rattle.refusal.specs.declared.Refusal.TheVariants as Refusal
 use mathlib.Core.Path.{◌≡◌, refl, ap, ◌∙◌}
 use mathlib.Core.Bool.{false}
 use mathlib.Core.List.{List, []}
 use Prim.Native.Nat.{ℕ, ◌≤◌, ◌<◌}
 use borrow.Author.Tests.{le-leb, lt-leb}
 use lib.ListN.{length}
+use Rattle.refusal.specs.declared.Answered.{Answered}
 use Rattle.lent_bytes.specs.LentBytes.{put, zeros}
 use Rattle.pubkey.specs.declared.Pubkey.{Pubkey}
-use Rattle.refusal.specs.Refusal.{too_short}
 use Rattle.table.specs.Memory.{Layout}
 use Rattle.table.specs.MemoryLaws.{holds, put_clear}
 use Rattle.table.specs.Outcome.{Outcome, Meets}
 use Rattle.gossip_settings.specs.declared.policy.GossipPolicyConfig.{GossipPolicyConfig}
 use Rattle.gossip_settings.specs.declared.violation.GossipViolation.{GossipViolation}
 use Rattle.gossip_ban_rows.specs.RowsLaws.{ban_faithful}
-use Rattle.gossip_bans.specs.declared.answer.BanTold.{BanTold}
-use Rattle.gossip_bans.specs.declared.answer.BanPruned.{BanPruned}
+use Rattle.gossip_bans.specs.Handed.{BanTold, BanPruned}
 use Rattle.gossip_bans.specs.Calls as bans
 use Rattle.gossip_outbound_rows.specs.RowsLaws.{outbound_faithful}
-use Rattle.gossip_outbound.specs.declared.answer.OutboundTold.{OutboundTold}
-use Rattle.gossip_outbound.specs.declared.answer.OutboundReserved.{OutboundReserved}
-use Rattle.gossip_outbound.specs.declared.answer.OutboundSettled.{OutboundSettled}
-use Rattle.gossip_outbound.specs.declared.answer.Settled.TheVariants as Settled
+use Rattle.gossip_outbound.specs.Handed.{OutboundTold, OutboundReserved, OutboundSettled}
 use Rattle.gossip_outbound.specs.Calls as outbound
 use Rattle.gossip_policy.specs.declared.state.GossipPolicyState.{GossipPolicyState}
 use Rattle.gossip_policy.specs.State.{fresh, outbound_of}
@@ -30,21 +28,21 @@ use Rattle.gossip_policy.specs.Calls.{over, ban_told, ban_pruned, outbound_told,
 -- ════ Making ════
 
 module _ (c : GossipPolicyConfig) (b o : List ℕ) where
-  short : both_long b o ≡ false → NewMeets c b o (settled (fresh c) (Settled.Refused too_short)) b o
+  short : both_long b o ≡ false → NewMeets c b o (settled (fresh c) (Err Refusal.TooShort)) b o
   unfolding NewMeets new_outcome
   short h = rw h (record { answers = refl; leaves = refl }, record { answers = refl; leaves = refl })
 
   -- the table of the bans is too short
-  pub short_bans : length b < 66560 → NewMeets c b o (settled (fresh c) (Settled.Refused too_short)) b o
+  pub short_bans : length b < 66560 → NewMeets c b o (settled (fresh c) (Err Refusal.TooShort)) b o
   short_bans h = short (rw (lt-leb 66560 (length b) h))
 
   -- that of the outbound buckets is
-  pub short_outbound : 66560 ≤ length b → length o < 66560 → NewMeets c b o (settled (fresh c) (Settled.Refused too_short)) b o
+  pub short_outbound : 66560 ≤ length b → length o < 66560 → NewMeets c b o (settled (fresh c) (Err Refusal.TooShort)) b o
   short_outbound h l = short (rw (le-leb 66560 (length b) h, lt-leb 66560 (length o) l))
 
   -- neither is
   pub both_long_lem : 66560 ≤ length b → 66560 ≤ length o → (b' o' : List ℕ) → b' ≡ put b 0 (zeros 66560) → o' ≡ put o 0 (zeros 66560)
-      → NewMeets c b o (settled (fresh c) Settled.Done) b' o'
+      → NewMeets c b o (settled (fresh c) (Ok tt)) b' o'
   unfolding NewMeets new_outcome
   both_long_lem h l b' o' p q =
       rw (le-leb 66560 (length b) h, le-leb 66560 (length o) l) (
@@ -53,6 +51,11 @@ module _ (c : GossipPolicyConfig) (b o : List ℕ) where
       )
 
 -- ════ The calls ════
+
+-- what is handed back, by its parts
+pub handed : {S A : Type 0} {r : Answered S A} {s : S} {a : A} → r.state ≡ s → r.answer ≡ a → r ≡ record { state = s; answer = a }
+handed {S} {A} {r} {s} p q =
+    ap (λ (x : S). record { state = x; answer = r.answer }) p ∙ ap (λ (b : A). record { state = s; answer = b }) q
 
 -- what a half answers, told of the whole
 meets_over : {A : Type 0} {L : Layout A} {R P : Type 0} (f : R → P) {a : R} {before after : List ℕ} {n : ℕ} {o : Outcome A R}

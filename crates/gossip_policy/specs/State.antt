@@ -1,5 +1,5 @@
 -- GossipPolicyState of gossip_policy.rs: its two halves, and what its settings say by themselves. Definitions only.
-use Rattle.std.specs.Prelude.{cond}
+use Rattle.std.specs.Prelude.{cond, ℕ, Option, None, Some}
 use Rattle.bucket_terms.specs.declared.limit.ByteRateLimitConfig.{ByteRateLimitConfig}
 use Rattle.bucket_terms.specs.Limit.{byte_disabled}
 use Rattle.bucket_bytes.specs.ByteBucket.{byte_new}
@@ -9,8 +9,6 @@ use Rattle.gossip_bans.specs.declared.tracker.GossipBanTracker.{GossipBanTracker
 use Rattle.gossip_bans.specs.Calls as bans
 use Rattle.gossip_outbound_state.specs.declared.state.Outbound.{Outbound}
 use Rattle.gossip_policy.specs.declared.state.GossipPolicyState.{GossipPolicyState}
-use Rattle.gossip_policy.specs.declared.answer.DelayedByteCapacity.{DelayedByteCapacity}
-use Rattle.gossip_policy.specs.declared.answer.DelayedByteCapacity.TheVariants.{Unlimited, Bytes}
 
 -- new: no row in either table, and a full global bucket
 abbrev pub fresh : GossipPolicyConfig → GossipPolicyState
@@ -51,5 +49,5 @@ with_outbound s o =
     }
 
 -- outbound_global_delayed_byte_capacity and outbound_peer_delayed_byte_capacity, each on its settings
-abbrev pub delayed_byte_capacity : ByteRateLimitConfig → DelayedByteCapacity
-delayed_byte_capacity c = cond (byte_disabled c) Unlimited (Bytes c.burst_bytes)
+abbrev pub delayed_byte_capacity : ByteRateLimitConfig → Option ℕ
+delayed_byte_capacity c = cond (byte_disabled c) None (Some c.burst_bytes)

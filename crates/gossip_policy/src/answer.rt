@@ -1,40 +1,15 @@
-// What the calls answer: the state first, as it was where the answer is `Refused`, which carries the number of the refusal.
+// What the calls answer: the state first, as it was where the answer is an `Err` with the refusal.
 use super::state::GossipPolicyState;
-use bucket_terms::answer::{Delay, Told};
-use gossip_bans::answer::Pruned;
-use gossip_outbound::answer::Settled;
+use refusal::{Answered, Refusal};
 
 // Whether a peer is banned, or a message may be sent and was charged.
-#[derive(Clone, Copy)]
-pub struct GossipTold {
-    pub state: GossipPolicyState,
-    pub answer: Told,
-}
+pub type GossipTold = Answered<GossipPolicyState, Result<bool, Refusal>>;
 
 // The expired bans have gone.
-#[derive(Clone, Copy)]
-pub struct GossipPruned {
-    pub state: GossipPolicyState,
-    pub answer: Pruned,
-}
+pub type GossipPruned = Answered<GossipPolicyState, Result<(), Refusal>>;
 
 // A call that says nothing more was carried out. A maker that is refused answers the state that it would have made.
-#[derive(Clone, Copy)]
-pub struct GossipSettled {
-    pub state: GossipPolicyState,
-    pub answer: Settled,
-}
+pub type GossipSettled = Answered<GossipPolicyState, Result<(), Refusal>>;
 
 // How long to wait before a message that was charged may be sent.
-#[derive(Clone, Copy)]
-pub struct GossipReserved {
-    pub state: GossipPolicyState,
-    pub answer: Delay,
-}
-
-// How many bytes may wait to be sent.
-#[derive(Clone, Copy)]
-pub enum DelayedByteCapacity {
-    Unlimited,
-    Bytes(u64),
-}
+pub type GossipReserved = Answered<GossipPolicyState, Result<u64, Refusal>>;

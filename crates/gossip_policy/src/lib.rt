@@ -5,5 +5,4 @@
 #![tactic(auto)]
 
 pub mod answer;
-mod parts;
 pub mod state;

@@ -5,8 +5,7 @@ use Rattle.gossip_settings.specs.declared.ban.GossipBanConfig.{GossipBanConfig}
 use Rattle.gossip_settings.specs.declared.channel_update.ChannelUpdateRateLimitConfig.{ChannelUpdateRateLimitConfig}
 use Rattle.gossip_settings.specs.declared.policy.GossipPolicyConfig.{GossipPolicyConfig}
 use Rattle.gossip_settings.specs.declared.violation.GossipViolation.{GossipViolation}
-use Rattle.gossip_settings.specs.Settings.{ban_default, gossip_ban_disabled, channel_update_default, channel_update_disabled}
-use Rattle.gossip_settings.specs.Settings.{gossip_default, violation_score}
+use Rattle.gossip_settings.specs.Settings.{ban_default, gossip_ban_disabled, channel_update_default, channel_update_disabled, gossip_default, violation_score}
 
 pub ban_default_outcome : {r q : GossipBanConfig} → r ≡ ban_default → q ≡ ban_default → r ≡ q
 ban_default_outcome = one_outcome

@@ -3,7 +3,7 @@ ghost use Rattle.std.specs.Prelude.{◌≡◌};
 ghost use Rattle.gossip_settings.specs.Settings.{ban_default, gossip_ban_disabled, max_tracked_peers};
 
 // The score that bans a peer, and how long the ban lasts. A 0 in either switches bans off.
-#[derive(Clone, Copy)]
+#[derive(Clone, Copy, Debug, PartialEq, Eq)]
 pub struct GossipBanConfig {
     pub threshold: u32,
     pub duration_ms: u64,
@@ -17,6 +17,7 @@ impl GossipBanConfig {
     pub const MAX_TRACKED_PEERS: u64 = 1_024;
 
     // The constants; the second clause holds the one that no field has.
+    // Kept: `impl Default` is refused here, since a ghost item cannot name a constant, as the clause most_tracked does.
     pub fn default() -> GossipBanConfig
         ensures value { result ≡ ban_default }
         ensures most_tracked { GossipBanConfig.MAX_TRACKED_PEERS ≡ max_tracked_peers }

@@ -7,7 +7,7 @@ use crate::channel_update::ChannelUpdateRateLimitConfig;
 use bucket_terms::limit::ByteRateLimitConfig;
 
 // The settings of each part, in the Rust's order.
-#[derive(Clone, Copy)]
+#[derive(Clone, Copy, Debug, PartialEq, Eq)]
 pub struct GossipPolicyConfig {
     pub ban: GossipBanConfig,
     // What all peers together are sent.
@@ -21,10 +21,12 @@ pub struct GossipPolicyConfig {
 
 impl GossipPolicyConfig {
     pub const OUTBOUND_DELAY_QUEUE_CAPACITY: u64 = 1_024;
+}
 
-    pub fn default() -> GossipPolicyConfig
-        ensures { result ≡ gossip_default }
-    {
+impl Default for GossipPolicyConfig {
+    ghost is_default = { λ c. c ≡ gossip_default };
+
+    fn default() -> GossipPolicyConfig {
         GossipPolicyConfig {
             ban: GossipBanConfig::default(),
             outbound_global: ByteRateLimitConfig::default_global(),

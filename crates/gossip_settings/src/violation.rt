@@ -3,7 +3,7 @@ ghost use Rattle.std.specs.Prelude.{◌≡◌};
 ghost use Rattle.gossip_settings.specs.Settings.{violation_score};
 
 // The kinds of violation, in the Rust's order.
-#[derive(Clone, Copy)]
+#[derive(Clone, Copy, Debug, PartialEq, Eq)]
 pub enum GossipViolation {
     InvalidSyncResponse,
     InvalidBroadcastMessage,
@@ -16,8 +16,7 @@ impl GossipViolation {
         ensures { result ≡ violation_score self }
     {
         match self {
-            GossipViolation::InvalidSyncResponse => 100,
-            GossipViolation::InvalidBroadcastMessage => 100,
+            GossipViolation::InvalidSyncResponse | GossipViolation::InvalidBroadcastMessage => 100,
             GossipViolation::PolicyRejectedMessage => 25,
         }
     }

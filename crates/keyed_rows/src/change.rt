@@ -10,7 +10,7 @@ use table::seek::Seek;
 // Stores the numbers under the key: over the row of that key, or in a row put in where the key belongs. Answers how many rows there
 // are then. Keys have eight bytes at least.
 pub fn store(table: &mut [u8], width: usize, count: usize, key: &[u8], words: &[u64]) -> usize
-    requires in_bounds { (8 ≤ length key.now) × (length key.now + 8 * length words.now ≡ width) }
+    requires key_len_in_bounds { (8 ≤ length key.now) × (length key.now + 8 * length words.now ≡ width) }
     requires count_in_bounds { width * (count + 1) ≤ length table.old }
     ensures { RawStored width table.old table.new count result key.now (word_bytes words.now) }
 {

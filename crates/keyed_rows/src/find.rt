@@ -5,13 +5,13 @@ ghost use Rattle.std.specs.Prelude.{◌≡◌, ◌+◌, ◌-◌, ◌*◌, ◌<�
 ghost use Rattle.lent_bytes.specs.LentBytes.{part};
 ghost use Rattle.lent_bytes.specs.Private.{front};
 ghost use Rattle.pubkey.specs.Order.{compare_bytes};
-ghost use Rattle.table.specs.Private.{place_from, seek};
+ghost use Rattle.table.specs.Private.{place_from};
 ghost use Rattle.table.specs.Memory.{rows};
-ghost use Rattle.table_laws.specs.Raw.{raw_layout, any_row};
+ghost use Rattle.table_laws.specs.Raw.{raw_layout};
 ghost use Rattle.table_laws.specs.Walk.{rises};
 
 use lent_bytes::number::front_at;
-use pubkey::Ordering;
+use std::cmp::Ordering;
 use table::seek::Seek;
 
 // Which comes first, the key or the bytes of its length at the place. Both are compared where they stand.
@@ -19,8 +19,7 @@ fn compare_key(key: &[u8], table: &[u8], at: usize) -> Ordering
     requires { at + length key.now ≤ length table.now }
     ensures { result ≡ compare_bytes key.now (part table.now at (length key.now)) }
 {
-    let end = at + key.len();
-    pubkey::order::compare_bytes(key, &table[at..end])
+    pubkey::order::compare_bytes(key, &table[at..at + key.len()])
 }
 
 // Where the key stands or would stand among the rows from the index on, the first that is not below it.
@@ -29,34 +28,30 @@ pub fn place_from(table: &[u8], width: usize, count: usize, key: &[u8], from: us
     requires count_in_bounds { width * count ≤ length table.now }
     ensures { result ≡ place_from from key.now (drop from (rows (raw_layout (length key.now) width) table.now count)) }
 {
-    let mut i = from;
-    while i < count {
+    for i in from..count {
         match compare_key(key, table, width * i) {
             Ordering::Less => return Seek::Gap(i),
             Ordering::Equal => return Seek::At(i),
-            Ordering::Greater => i += 1,
+            Ordering::Greater => {}
         }
     }
-    Seek::Gap(i)
+    Seek::Gap(count.max(from))
 }
 
 // Where the key stands or would stand, without judging the rows: a key comes after the rows whose fronts are below its own, so these
 // are passed by eight bytes each, up to the first that is not. From there on it is compared in full. Keys have eight bytes at least.
 pub fn place_of(table: &[u8], width: usize, count: usize, key: &[u8]) -> Seek
-    requires in_bounds { (8 ≤ length key.now) × (length key.now ≤ width) }
+    requires key_len_in_bounds { (8 ≤ length key.now) × (length key.now ≤ width) }
     requires count_in_bounds { width * count ≤ length table.now }
     ensures { result ≡ place_from 0 key.now (rows (raw_layout (length key.now) width) table.now count) }
 {
     let key_front = front_at(key, 0);
-    let mut i: usize = 0;
-    while i < count {
-        let own = front_at(table, width * i);
-        if own >= key_front {
-            break;
-        }
-        i += 1;
+    // Kept: a `for` with `break` would need a second variable for the index where it stopped.
+    let mut passed: usize = 0;
+    while passed < count && front_at(table, width * passed) < key_front {
+        passed += 1;
     }
-    place_from(table, width, count, key, i)
+    place_from(table, width, count, key, passed)
 }
 
 // Whether the row at the index comes after the one before it, if there is one. `own` and `last` are the fronts of both: where they
@@ -69,48 +64,14 @@ pub fn in_order(
     last: u64,
     own: u64,
 ) -> bool
-    requires le_key_width { (8 ≤ key_width) × (key_width ≤ width) }
+    requires key_width_in_bounds { (8 ≤ key_width) × (key_width ≤ width) }
     requires width_in_bounds { width * index + width ≤ length table.now }
     requires own_value { own ≡ front 8 table.now (width * index) }
     requires last_value { 0 < index → last ≡ front 8 table.now (width * (index - 1)) }
     ensures { result ≡ rises width key_width table.now index }
 {
-    if last < own {
+    if last < own || index == 0 {
         return true;
     }
-    if index == 0 {
-        return true;
-    }
-    match table::keys::compare_places(table, width * (index - 1), width * index, key_width) {
-        Ordering::Less => true,
-        Ordering::Equal => false,
-        Ordering::Greater => false,
-    }
-}
-
-// Whether the rows ascend, and where the key stands or would stand: one walk, which judges each row against the one before it and
-// counts those whose fronts are below the key's. Of ascending rows they are the first: the key is compared in full from behind them.
-// Keys have eight bytes at least.
-pub fn find(table: &[u8], width: usize, count: usize, key: &[u8]) -> Seek
-    requires in_bounds { (8 ≤ length key.now) × (length key.now ≤ width) }
-    requires count_in_bounds { width * count ≤ length table.now }
-    ensures { result ≡ seek any_row key.now (rows (raw_layout (length key.now) width) table.now count) }
-{
-    let key_width = key.len();
-    let key_front = front_at(key, 0);
-    let mut last: u64 = 0;
-    let mut place: usize = 0;
-    let mut i: usize = 0;
-    while i < count {
-        let own = front_at(table, width * i);
-        if !in_order(table, width, key_width, i, last, own) {
-            return Seek::Unsound;
-        }
-        if own < key_front {
-            place += 1;
-        }
-        last = own;
-        i += 1;
-    }
-    place_from(table, width, count, key, place)
+    table::keys::compare_places(table, width * (index - 1), width * index, key_width).is_lt()
 }

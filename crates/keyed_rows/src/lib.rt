@@ -4,3 +4,4 @@
 
 pub mod change;
 pub mod find;
+pub mod kind;

@@ -1,2 +1,2 @@
--- `Copies` has the laws of one turn of the loops that write a run of bytes, which the proofs of `run` cite.
+-- `Copies` has the laws of a write into a part of a slice and of a copy within one, which the proofs of `run` cite.
 pub mod Copies

@@ -4,10 +4,12 @@ use Rattle.std.specs.Prelude.{◌≡◌, refl, Bool, true, false, List, [], ℕ,
 use Rattle.std.proofs.Common.{sym, subst, ◌∙◌, arith, leb-true, ltb-false}
 use Rattle.std.proofs.Math.Path.{ap}
 use Rattle.std.proofs.Math.Option.{Option}
+use Rattle.std.specs.Prelude.{Result, Ok, Err}
+use Rattle.refusal.specs.declared.Refusal.{Refusal}
+use Rattle.refusal.specs.declared.Refusal.TheVariants as Refusal
 use Rattle.truths.specs.TruthLaws.{by_test}
 use Rattle.lent_bytes.specs.LentBytes.{Bytes}
 use Rattle.pubkey.specs.declared.Pubkey.{Pubkey}
-use Rattle.refusal.specs.Refusal.{limit_too_large, too_short}
 use Rattle.table_laws.specs.KeptLaws.{numbers_encode, length_laid_keyed, bytes_laid_keyed}
 use Rattle.peer_rows.specs.Rows.{row_width}
 use Rattle.peer_rows.specs.RowsLaws.{peer_numbers_lem}
@@ -22,13 +24,9 @@ use Rattle.peer_settings.specs.Config.{limit}
 use Rattle.peer_state.specs.Ingress.{in_flight, ingress_released, ingress_sound}
 use Rattle.peer_state.specs.IngressLaws.{released_sound, within_sound}
 use Rattle.peer_message_policy.specs.declared.policy.PeerMessagePolicy.{PeerMessagePolicy}
-use Rattle.peer_message_policy.specs.declared.answer.Made.{Made}
 use Rattle.peer_message_policy.specs.declared.answer.Admission.{Admission}
 use Rattle.peer_message_policy.specs.declared.answer.Invalid.{Invalid}
 use Rattle.peer_message_policy.specs.declared.answer.Standing.{Standing}
-use Rattle.peer_message_policy.specs.declared.answer.Changed.{Changed}
-use Rattle.peer_message_policy.specs.declared.answer.InFlight.{InFlight}
-use Rattle.peer_message_policy.specs.declared.answer.HeldTime.{HeldTime}
 use Rattle.peer_message_policy.specs.Policy.{
   rows_of,
   policy_sound,
@@ -126,19 +124,19 @@ module _ (p : PeerMessagePolicy) (s : List ℕ) (h : sound p s ≡ true) (k : Pu
   unfolding on_disconnected_outcome
   on_disconnected_outcome_lem now = rw h
 
-  pub held_time_answer : (given : ℕ) {r : HeldTime} → HeldTimeMeets p s k given r
-      → r ≡ HeldTime.At (held_time given (look k.bytes (rows_of p s)))
+  pub held_time_answer : (given : ℕ) {r : Result ℕ Refusal} → HeldTimeMeets p s k given r
+      → r ≡ Ok (held_time given (look k.bytes (rows_of p s)))
   unfolding HeldTimeMeets
   held_time_answer given m = m ∙ rw h
 
 module _ (p : PeerMessagePolicy) (h : policy_sound p ≡ true) where
-  pub release_ingress_answer : (size : ℕ) {r : Changed} → ReleaseIngressMeets p size r
-      → r ≡ Changed.Policy (policy_after p (ingress_released p.ingress size) same)
+  pub release_ingress_answer : (size : ℕ) {r : Result PeerMessagePolicy Refusal} → ReleaseIngressMeets p size r
+      → r ≡ Ok (policy_after p (ingress_released p.ingress size) same)
   unfolding ReleaseIngressMeets
   release_ingress_answer size m = m ∙ rw h
 
-  pub in_flight_answer : {r : InFlight} → InFlightMeets p r
-      → r ≡ InFlight.Numbers p.ingress.in_flight_messages p.ingress.in_flight_bytes
+  pub in_flight_answer : {r : Result FiberIngressBudget Refusal} → InFlightMeets p r
+      → r ≡ Ok p.ingress
   unfolding InFlightMeets
   in_flight_answer m = m ∙ rw h
 
@@ -151,9 +149,9 @@ module _ (p : PeerMessagePolicy) (P : PeerMessagePolicy → Type 0) where
   OfStanding (Standing.Free q) = P q
   OfStanding (Standing.Refused n) = P p
 
-  abbrev pub OfChanged : Changed → Type 0
-  OfChanged (Changed.Policy q) = P q
-  OfChanged (Changed.Refused n) = P p
+  abbrev pub OfChanged : Result PeerMessagePolicy Refusal → Type 0
+  OfChanged (Ok q) = P q
+  OfChanged (Err n) = P p
 
   module _ (q : PeerMessagePolicy) where
     pub of_standing : (b : Bool) → P q → OfStanding (standing_of b q)
@@ -210,7 +208,7 @@ module _ (p : PeerMessagePolicy) (s : List ℕ) (h : sound p s ≡ true) (b : By
       (leaves_by p.ingress change t (policy_holds p s h).own.load
       (is_banned_holds p.config k.bytes (rows_of p s) key rows_here now found) memory))
 
-  pub on_disconnected_leaves : (now : ℕ) (r : Changed) (t : List ℕ) → OnDisconnectedMeets p s k now r t
+  pub on_disconnected_leaves : (now : ℕ) (r : Result PeerMessagePolicy Refusal) (t : List ℕ) → OnDisconnectedMeets p s k now r t
       → OfChanged p (λ q. Leaves p s (disconnected_change p.config (rows_of p s) k.bytes now (look k.bytes (rows_of p s))) q t) r
   unfolding OnDisconnectedMeets
   on_disconnected_leaves now r t m =
@@ -230,7 +228,7 @@ release_ingress_record p size h =
     (record { tracked = own.tracked; few = own.few; load = released_sound p.config p.ingress size own.load })
 
 -- and no memory is lent to it, so that what is lent to the others stays
-pub release_ingress_leaves : (p : PeerMessagePolicy) (s : List ℕ) (size : ℕ) (r : Changed) → sound p s ≡ true → Bytes s
+pub release_ingress_leaves : (p : PeerMessagePolicy) (s : List ℕ) (size : ℕ) (r : Result PeerMessagePolicy Refusal) → sound p s ≡ true → Bytes s
     → ReleaseIngressMeets p size r → OfChanged p (λ q. Leaves p s same q s) r
 release_ingress_leaves p s size r h b m =
     let holds : PolicyHolds p s = policy_holds p s h in
@@ -241,7 +239,7 @@ release_ingress_leaves p s size r h b m =
 -- ════ A fresh policy is sound ════
 
 -- a policy is not a refusal
-made_is_not_refused : {p : PeerMessagePolicy} {n : ℕ} → Made.Policy p ≡ Made.Refused n → ⊥
+made_is_not_refused : {p : PeerMessagePolicy} {n : Refusal} → Ok p ≡ Err n → ⊥
 made_is_not_refused h = let z : ◌≡◌ {A = ℕ} 0 1 = cc in omega arith
 
 -- what a fresh policy and its memory are
@@ -268,20 +266,20 @@ fresh_by c s t tracked long m =
 
 -- a limit above 1,024, and memory that is too short, are refused
 module _ (c : PeerMessagePolicyConfig) (s : List ℕ) where
-  made_limited : ltb 1024 c.max_tracked_peers ≡ true → new_outcome c s ≡ refuse (Made.Refused limit_too_large)
+  made_limited : ltb 1024 c.max_tracked_peers ≡ true → new_outcome c s ≡ refuse (Err Refusal.LimitTooLarge)
   unfolding new_outcome
   made_limited many = rw many
 
-  made_short : ltb 1024 c.max_tracked_peers ≡ false → long_enough c s ≡ false → new_outcome c s ≡ refuse (Made.Refused too_short)
+  made_short : ltb 1024 c.max_tracked_peers ≡ false → long_enough c s ≡ false → new_outcome c s ≡ refuse (Err Refusal.TooShort)
   unfolding new_outcome
   made_short few short = rw (few, short)
 
   made_fresh : ltb 1024 c.max_tracked_peers ≡ false → long_enough c s ≡ true
-      → new_outcome c s ≡ record { answer = Made.Policy (fresh c); change = become [] }
+      → new_outcome c s ≡ record { answer = Ok (fresh c); change = become [] }
   unfolding new_outcome
   made_fresh few long = rw (few, long)
 
-pub new_fresh : (c : PeerMessagePolicyConfig) (s t : List ℕ) (p : PeerMessagePolicy) → NewMeets c s (Made.Policy p) t → Fresh c s p t
+pub new_fresh : (c : PeerMessagePolicyConfig) (s t : List ℕ) (p : PeerMessagePolicy) → NewMeets c s (Ok p) t → Fresh c s p t
 unfolding NewMeets
 new_fresh c s t p m =
     by_test (ltb 1024 c.max_tracked_peers)
@@ -290,7 +288,7 @@ new_fresh c s t p m =
     by_test (long_enough c s)
     (λ long.
     let e = made_fresh c s few long in
-    let answer : Made.Policy p ≡ Made.Policy (fresh c) = m.answers ∙ ap (λ o. o.answer) e in
+    let answer : (Ok p) ≡ (Ok (fresh c)) = m.answers ∙ ap (λ o. o.answer) e in
     let memory : Memory s t (limit c) (become []) = subst (λ o. Memory s t (limit c) o.change) e m.leaves in
     let same_policy : p ≡ fresh c = cc in
     rw same_policy (fresh_by c s t (ltb-false 1024 c.max_tracked_peers few) (leb-true (row_width * limit c) (length s) long) memory))

@@ -1,8 +1,9 @@
 -- A refused admit or record_invalid changes nothing: the policy in its answer and the memory are as they were. Assumes nothing.
 use Rattle.std.specs.Prelude.{◌≡◌, refl, Bool, true, false, cond, List, ℕ}
 use Rattle.std.proofs.Common.{sym, ap, subst, subst₂, ◌∙◌}
+use Rattle.refusal.specs.declared.Refusal.{Refusal}
+use Rattle.refusal.specs.declared.Refusal.TheVariants as Refusal
 use Rattle.pubkey.specs.declared.Pubkey.{Pubkey}
-use Rattle.refusal.specs.Refusal.{unsound}
 use Rattle.table.specs.Table.{look}
 use Rattle.peer_settings.specs.declared.config.PeerMessagePolicyConfig.{PeerMessagePolicyConfig}
 use Rattle.peer_state.specs.declared.entry.PeerMessagePolicyEntry.{PeerMessagePolicyEntry}
@@ -55,7 +56,7 @@ module _ (p : PeerMessagePolicy) (s : List ℕ) (k : Pubkey) where
       turn : Turn Cause
       turn = admit p.config p.ingress (rows_of p s) k.bytes size now
 
-      go : (b : Bool) → Meets r s t p.rows (cond b (admission_turn p turn) (refuse (admission_of p (Cause.Refused unsound)))) → (r.policy ≡ p) × (t ≡ s)
+      go : (b : Bool) → Meets r s t p.rows (cond b (admission_turn p turn) (refuse (admission_of p (Cause.Refused Refusal.Unsound)))) → (r.policy ≡ p) × (t ≡ s)
       go true w =
           let undone =
           admit_undone p.config p.ingress k.bytes size now (rows_of p s) (sym (ap (λ (a : Admission). refuses a.cause) w.answers) ∙ o)
@@ -69,7 +70,7 @@ module _ (p : PeerMessagePolicy) (s : List ℕ) (k : Pubkey) where
       go false w = (ap (λ (a : Admission). a.policy) w.answers, w.leaves)
 
   -- only an unsound state is refused
-  pub record_invalid_refused : (now : ℕ) (r : Invalid) (t : List ℕ) → RecordInvalidMeets p s k now r t → (n : ℕ) → r.cause ≡ InvalidCause.Refused n
+  pub record_invalid_refused : (now : ℕ) (r : Invalid) (t : List ℕ) → RecordInvalidMeets p s k now r t → (n : Refusal) → r.cause ≡ InvalidCause.Refused n
       → (r.policy ≡ p) × (t ≡ s)
   unfolding RecordInvalidMeets record_invalid_outcome
   record_invalid_refused now r t m n o = go (sound p s) m
@@ -77,7 +78,7 @@ module _ (p : PeerMessagePolicy) (s : List ℕ) (k : Pubkey) where
       turn : Turn InvalidCause
       turn = record_invalid p.config p.ingress (rows_of p s) k.bytes now
 
-      go : (b : Bool) → Meets r s t p.rows (cond b (invalid_turn p turn) (refuse (invalid_of p (InvalidCause.Refused unsound)))) → (r.policy ≡ p) × (t ≡ s)
+      go : (b : Bool) → Meets r s t p.rows (cond b (invalid_turn p turn) (refuse (invalid_of p (InvalidCause.Refused Refusal.Unsound)))) → (r.policy ≡ p) × (t ≡ s)
       go true w =
           absurd (subst NotRefused (sym (ap (λ (a : Invalid). a.cause) w.answers) ∙ o) (invalid_not_refused p.config p.ingress (rows_of p s) k.bytes now))
       go false w = (ap (λ (a : Invalid). a.policy) w.answers, w.leaves)

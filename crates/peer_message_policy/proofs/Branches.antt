@@ -1,15 +1,16 @@
 -- The ways out of each call: what it answers and leaves is its outcome. Over plain values. Assumes nothing.
+use Rattle.std.specs.Prelude.{Ok, Err}
+use Rattle.refusal.specs.declared.Refusal.TheVariants as Refusal
 use mathlib.Core.Path.{◌≡◌, refl, sym, ap}
 use mathlib.Core.Bool.{true, false, ◌&&◌}
 use mathlib.Core.List.{List}
 use mathlib.Core.Option.{none, some}
-use Prim.Native.Nat.{ℕ, ◌≤◌}
-use native.Mathlib.Nat.{max-eq_left, max-eq_right}
+use Prim.Native.Nat.{ℕ}
+use Rattle.std.specs.Prelude.{max}
 use borrow.Author.Tests.{ltb-true, lt-leb}
 use lib.Dec.{eqb, ltb, leb}
 use Rattle.truths.specs.TruthLaws.{both_parts}
 use Rattle.pubkey.specs.declared.Pubkey.{Pubkey}
-use Rattle.refusal.specs.Refusal.{unsound}
 use Rattle.table.specs.Table.{look, store, erase}
 use Rattle.peer_state.specs.declared.entry.PeerMessagePolicyEntry.{PeerMessagePolicyEntry}
 use Rattle.peer_verdict.specs.declared.verdict.Cause.TheVariants as Cause
@@ -22,8 +23,6 @@ use Rattle.peer_verdict.specs.Verdict.{decision, invalid_decision, refuses}
 use Rattle.peer_rows.specs.Rows.{Peers}
 use Rattle.peer_message_policy.specs.declared.policy.PeerMessagePolicy.{PeerMessagePolicy}
 use Rattle.peer_message_policy.specs.declared.answer.Standing.{Standing}
-use Rattle.peer_message_policy.specs.declared.answer.Changed.{Changed}
-use Rattle.peer_message_policy.specs.declared.answer.HeldTime.{HeldTime}
 use Rattle.peer_message_policy.specs.Policy.{rows_of, sound, carried_out, update, entry_for_update, admit, record_invalid, is_banned_change, disconnected_change}
 use Rattle.peer_message_policy.specs.Calls.{admission_of, invalid_of, admit_outcome, AdmitMeets, record_invalid_outcome, RecordInvalidMeets}
 use Rattle.peer_message_policy.specs.Calls.{is_banned_outcome, IsBannedMeets, on_disconnected_outcome, OnDisconnectedMeets, HeldTimeMeets}
@@ -33,7 +32,7 @@ use Rattle.peer_message_policy.specs.Private.{Left}
 
 -- a call that a live ban or a refusal ends changes nothing; any other carries its decision out
 module _ (p : PeerMessagePolicy) (s : List ℕ) (k : Pubkey) (size now : ℕ) where
-  pub admit_unsound : sound p s ≡ false → AdmitMeets p s k size now (admission_of p (Cause.Refused unsound)) s
+  pub admit_unsound : sound p s ≡ false → AdmitMeets p s k size now (admission_of p (Cause.Refused Refusal.Unsound)) s
   unfolding AdmitMeets admit_outcome
   admit_unsound h = rw h (record { answers = refl; leaves = refl })
 
@@ -56,7 +55,7 @@ module _ (p : PeerMessagePolicy) (s : List ℕ) (k : Pubkey) (size now : ℕ) wh
 -- ════ record_invalid ════
 
 module _ (p : PeerMessagePolicy) (s : List ℕ) (k : Pubkey) (now : ℕ) where
-  pub invalid_unsound : sound p s ≡ false → RecordInvalidMeets p s k now (invalid_of p (InvalidCause.Refused unsound)) s
+  pub invalid_unsound : sound p s ≡ false → RecordInvalidMeets p s k now (invalid_of p (InvalidCause.Refused Refusal.Unsound)) s
   unfolding RecordInvalidMeets record_invalid_outcome
   invalid_unsound h = rw h (record { answers = refl; leaves = refl })
 
@@ -80,7 +79,7 @@ live_unspent mark until now h =
     rw (parts.0, lt-leb until now (ltb-true now until parts.1))
 
 module _ (p : PeerMessagePolicy) (s : List ℕ) (k : Pubkey) (now : ℕ) where
-  pub standing_unsound : sound p s ≡ false → IsBannedMeets p s k now (Standing.Refused unsound) s
+  pub standing_unsound : sound p s ≡ false → IsBannedMeets p s k now (Standing.Refused Refusal.Unsound) s
   unfolding IsBannedMeets is_banned_outcome
   standing_unsound h = rw h (record { answers = refl; leaves = refl })
 
@@ -107,47 +106,43 @@ module _ (p : PeerMessagePolicy) (s : List ℕ) (k : Pubkey) (now : ℕ) where
 -- ════ on_disconnected ════
 
 module _ (p : PeerMessagePolicy) (s : List ℕ) (k : Pubkey) (now : ℕ) where
-  pub disconnected_unsound : sound p s ≡ false → OnDisconnectedMeets p s k now (Changed.Refused unsound) s
+  pub disconnected_unsound : sound p s ≡ false → OnDisconnectedMeets p s k now (Err Refusal.Unsound) s
   unfolding OnDisconnectedMeets on_disconnected_outcome
   disconnected_unsound h = rw h (record { answers = refl; leaves = refl })
 
   module _ (h : sound p s ≡ true) where
-    pub disconnected_nobody : look k.bytes (rows_of p s) ≡ none → OnDisconnectedMeets p s k now (Changed.Policy p) s
+    pub disconnected_nobody : look k.bytes (rows_of p s) ≡ none → OnDisconnectedMeets p s k now (Ok p) s
     unfolding OnDisconnectedMeets on_disconnected_outcome disconnected_change
     disconnected_nobody missing = rw (h, missing) (record { answers = refl; leaves = refl })
 
     module _ (e : PeerMessagePolicyEntry) (found : look k.bytes (rows_of p s) ≡ some e) where
-      pub disconnected_live : entry_is_banned e now ≡ true → OnDisconnectedMeets p s k now (Changed.Policy p) s
+      pub disconnected_live : entry_is_banned e now ≡ true → OnDisconnectedMeets p s k now (Ok p) s
       unfolding OnDisconnectedMeets on_disconnected_outcome disconnected_change
       disconnected_live banned = rw (h, found, banned) (record { answers = refl; leaves = refl })
 
-      pub disconnected_dropped : entry_is_banned e now ≡ false → entry_is_spent e now ≡ true → (q : PeerMessagePolicy) (t : List ℕ) → Left p p.ingress s (erase k.bytes (rows_of p s)) q t → OnDisconnectedMeets p s k now (Changed.Policy q) t
+      pub disconnected_dropped : entry_is_banned e now ≡ false → entry_is_spent e now ≡ true → (q : PeerMessagePolicy) (t : List ℕ) → Left p p.ingress s (erase k.bytes (rows_of p s)) q t → OnDisconnectedMeets p s k now (Ok q) t
       unfolding OnDisconnectedMeets on_disconnected_outcome disconnected_change
       disconnected_dropped free spent q t left =
-          rw (h, found, free, spent) (record { answers = ap Changed.Policy left.policy; leaves = left.memory })
+          rw (h, found, free, spent) (record { answers = ap Ok left.policy; leaves = left.memory })
 
-      pub disconnected_expired : entry_is_banned e now ≡ false → entry_is_spent e now ≡ false → (q : PeerMessagePolicy) (t : List ℕ) → Left p p.ingress s (store k.bytes (entry_expire_windows e now p.config.ban_duration_ms) (rows_of p s)) q t → OnDisconnectedMeets p s k now (Changed.Policy q) t
+      pub disconnected_expired : entry_is_banned e now ≡ false → entry_is_spent e now ≡ false → (q : PeerMessagePolicy) (t : List ℕ) → Left p p.ingress s (store k.bytes (entry_expire_windows e now p.config.ban_duration_ms) (rows_of p s)) q t → OnDisconnectedMeets p s k now (Ok q) t
       unfolding OnDisconnectedMeets on_disconnected_outcome disconnected_change
       disconnected_expired free unspent q t left =
-          rw (h, found, free, unspent) (record { answers = ap Changed.Policy left.policy; leaves = left.memory })
+          rw (h, found, free, unspent) (record { answers = ap Ok left.policy; leaves = left.memory })
 
 -- ════ held_time ════
 
 module _ (p : PeerMessagePolicy) (s : List ℕ) (k : Pubkey) (given : ℕ) where
-  pub held_unsound : sound p s ≡ false → HeldTimeMeets p s k given (HeldTime.Refused unsound)
+  pub held_unsound : sound p s ≡ false → HeldTimeMeets p s k given (Err Refusal.Unsound)
   unfolding HeldTimeMeets
   held_unsound h = rw h
 
   module _ (h : sound p s ≡ true) where
-    pub held_nobody : look k.bytes (rows_of p s) ≡ none → HeldTimeMeets p s k given (HeldTime.At given)
+    pub held_nobody : look k.bytes (rows_of p s) ≡ none → HeldTimeMeets p s k given (Ok given)
     unfolding HeldTimeMeets
     held_nobody missing = rw (h, missing)
 
     module _ (e : PeerMessagePolicyEntry) (found : look k.bytes (rows_of p s) ≡ some e) where
-      pub held_later : given ≤ e.last_used_ms → HeldTimeMeets p s k given (HeldTime.At e.last_used_ms)
+      pub held_later : HeldTimeMeets p s k given (Ok (max given e.last_used_ms))
       unfolding HeldTimeMeets
-      held_later l = rw (h, found) (ap HeldTime.At (sym (max-eq_right l)))
-
-      pub held_given : e.last_used_ms ≤ given → HeldTimeMeets p s k given (HeldTime.At given)
-      unfolding HeldTimeMeets
-      held_given l = rw (h, found) (ap HeldTime.At (sym (max-eq_left l)))
+      held_later = rw (h, found)

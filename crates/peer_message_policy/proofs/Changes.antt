@@ -1,4 +1,6 @@
 -- A policy's rows changed in memory: what a write of a private function leaves. Over plain values. Assumes nothing.
+use Rattle.std.specs.Prelude.{Ok, Err}
+use Rattle.refusal.specs.declared.Refusal.TheVariants as Refusal
 use mathlib.Core.Path.{◌≡◌, refl, sym, ap, ◌∙◌}
 use mathlib.Core.Bool.{Bool, true, false, ◌&&◌, cond}
 use mathlib.Core.List.{List, []}
@@ -9,7 +11,6 @@ use lib.Dec.{eqb, ltb, leb}
 use lib.ListN.{length}
 use Rattle.truths.specs.TruthLaws.{both_parts}
 use Rattle.lent_bytes.specs.LentBytes.{put, zeros, Bytes}
-use Rattle.refusal.specs.Refusal.{too_short, limit_too_large}
 use Rattle.table.specs.Table.{row_under, store, erase, remove_at}
 use Rattle.table.specs.Private.{insert_at}
 use Rattle.table.specs.Memory.{rows, Holds}
@@ -31,7 +32,6 @@ use Rattle.peer_table.specs.Room.{make_room}
 use Rattle.peer_rows.specs.RowsLaws.{EntryFits, peer_faithful}
 use Rattle.peer_table.specs.RoomLaws.{room_free, room_for_one, length_make_room, sub_make_room}
 use Rattle.peer_message_policy.specs.declared.policy.PeerMessagePolicy.{PeerMessagePolicy}
-use Rattle.peer_message_policy.specs.declared.answer.Made.TheVariants as Made
 use Rattle.peer_message_policy.specs.Policy.{rows_of}
 use Rattle.peer_message_policy.specs.Calls.{policy_with, fresh, new_outcome, NewMeets}
 use Rattle.peer_message_policy.specs.Private.{Known, Unknown, Left}
@@ -131,16 +131,16 @@ module _ (p : PeerMessagePolicy) (s k : List ℕ) (i : ℕ) (h : Unknown p s k i
 -- ════ A policy made ════
 
 module _ (c : PeerMessagePolicyConfig) (s : List ℕ) where
-  pub new_large : 1024 < c.max_tracked_peers → NewMeets c s (Made.Refused limit_too_large) s
+  pub new_large : 1024 < c.max_tracked_peers → NewMeets c s (Err Refusal.LimitTooLarge) s
   unfolding NewMeets new_outcome
   new_large h = rw (lt-ltb 1024 c.max_tracked_peers h) (record { answers = refl; leaves = refl })
 
   module _ (h : c.max_tracked_peers ≤ 1024) where
-    pub new_short : length s / row_width < limit c → NewMeets c s (Made.Refused too_short) s
+    pub new_short : length s / row_width < limit c → NewMeets c s (Err Refusal.TooShort) s
     unfolding NewMeets new_outcome
     new_short l = rw (le-ltb 1024 c.max_tracked_peers h, too_short_lem peer_layout (limit c) s (omega arith) l) (record { answers = refl; leaves = refl })
 
-    pub new_made : limit c ≤ length s / row_width → (t : List ℕ) → t ≡ put s 0 (zeros (row_width * limit c)) → NewMeets c s (Made.Policy (fresh c)) t
+    pub new_made : limit c ≤ length s / row_width → (t : List ℕ) → t ≡ put s 0 (zeros (row_width * limit c)) → NewMeets c s (Ok (fresh c)) t
     unfolding NewMeets new_outcome
     new_made l t e =
         rw (le-ltb 1024 c.max_tracked_peers h, long_enough_lem peer_layout (limit c) s (omega arith) l)

@@ -21,7 +21,7 @@ use Rattle.peer_rows.specs.Rows.{Peers}
 use Rattle.peer_table.specs.Room.{make_room}
 use Rattle.peer_message_policy.specs.declared.policy.PeerMessagePolicy.{PeerMessagePolicy}
 use Rattle.peer_message_policy.specs.Policy.{rows_of, update, entry_for_update}
-use Rattle.peer_message_policy.specs.Private.{Found, Left, entry_found}
+use Rattle.peer_message_policy.specs.Private.{Found, Left, entry_found, room_for}
 use Rattle.peer_message_policy.specs.UpdateLaws.{spent_in_place}
 use Rattle.peer_message_policy.proofs.Judged.{few_read, in_order, known_look, known_sound, unknown_look, new_on_sound}
 
@@ -49,12 +49,6 @@ module _ (c : PeerMessagePolicyConfig) (now : ℕ) (rs : Peers) (k : List ℕ) w
   update_new : look k rs ≡ none → (x : PeerMessagePolicyEntry) → x ≡ entry_to_update c (entry_new c now) now → GoesOn c now rs k (make_room c now rs) x
   unfolding entry_for_update entry_new
   update_new missing x v = record { among = make_room c now rs; found = rw (v, missing); stores = λ y. refl }
-
--- the rows that a decided entry goes among: all of them where it goes over the peer's row, else those that are left when room was made
-abbrev pub room_for : PeerMessagePolicyConfig → ℕ → Peers → Seek → Peers
-room_for c now rs (At i) = rs
-room_for c now rs (Gap i) = make_room c now rs
-room_for c now rs Unsound = rs
 
 module _ (p : PeerMessagePolicy) (s k : List ℕ) (now : ℕ) where
   -- a live ban is that of the peer's row

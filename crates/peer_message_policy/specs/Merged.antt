@@ -1,8 +1,9 @@
 -- admit as the Rust answers it, Allow, Disconnect or Ban; and the merge that takes admit's answer there. Definitions only; that the merged
 -- answer of every call is this one's is `MergedLaws.merged`.
 use Rattle.std.specs.Prelude.{cond, List, [], ◌∷◌, ℕ}
+use Rattle.refusal.specs.declared.Refusal.TheVariants as Refusal
 use Rattle.pubkey.specs.declared.Pubkey.{Pubkey}
-use Rattle.refusal.specs.Refusal.{Said, gives, refused, unsound}
+use Rattle.refusal.specs.Refusal.{Said, gives, refused, number_of}
 use Rattle.peer_verdict.specs.declared.verdict.Cause.{Cause}
 use Rattle.peer_message_policy.specs.declared.policy.PeerMessagePolicy.{PeerMessagePolicy}
 use Rattle.peer_message_policy.specs.declared.answer.Admission.{Admission}
@@ -28,7 +29,7 @@ abbrev pub merged_says : PeerMessageAdmission → Said
 merged_says (Merged.Allow p) = gives (0 ∷ [])
 merged_says (Merged.Disconnect p) = gives (1 ∷ [])
 merged_says (Merged.Ban p) = gives (2 ∷ [])
-merged_says (Merged.Refused n) = refused n
+merged_says (Merged.Refused n) = refused (number_of n)
 
 -- the first value alone of what is said
 abbrev pub first_said : Said → Said
@@ -43,7 +44,7 @@ merged_turn p t = record { answer = merged_of (policy_after p t.ingress t.change
 unfoldable pub merged_outcome : PeerMessagePolicy → List ℕ → Pubkey → ℕ → ℕ → Outcome PeerMessageAdmission
 merged_outcome p s k size now =
     cond (sound p s) (merged_turn p (admit p.config p.ingress (rows_of p s) k.bytes size now))
-    (refuse (Merged.Refused unsound))
+    (refuse (Merged.Refused Refusal.Unsound))
 
 unfoldable pub MergedMeets : PeerMessagePolicy → List ℕ → Pubkey → ℕ → ℕ → PeerMessageAdmission → List ℕ → Type 0
 MergedMeets p before k size now r after = Meets r before after p.rows (merged_outcome p before k size now)

@@ -1,8 +1,8 @@
 -- admit's answer, merged, is the Rust's; and what it says begins with what the Rust's answer says. Assumes nothing.
 use Rattle.std.specs.Prelude.{◌≡◌, refl, Bool, true, false, cond, List, ℕ}
 use Rattle.std.proofs.Common.{ap}
+use Rattle.refusal.specs.declared.Refusal.TheVariants as Refusal
 use Rattle.pubkey.specs.declared.Pubkey.{Pubkey}
-use Rattle.refusal.specs.Refusal.{unsound}
 use Rattle.peer_verdict.specs.declared.verdict.Shortage.TheVariants as Shortage
 use Rattle.peer_verdict.specs.declared.verdict.Cause.{Cause}
 use Rattle.peer_message_policy.specs.declared.policy.PeerMessagePolicy.{PeerMessagePolicy}
@@ -14,8 +14,8 @@ use Rattle.peer_message_policy.specs.Merged.{merged_of, merge, merged_says, firs
 
 -- an answer that meets the outcome of a test, merged, meets the merged outcome
 merged_tested : (t : Bool) (p : PeerMessagePolicy) (turn : Turn Cause) {r : Admission} {before after : List ℕ} {n : ℕ}
-    → Meets r before after n (cond t (admission_turn p turn) (refuse (admission_of p (Cause.Refused unsound))))
-    → Meets (merge r) before after n (cond t (merged_turn p turn) (refuse (Merged.Refused unsound)))
+    → Meets r before after n (cond t (admission_turn p turn) (refuse (admission_of p (Cause.Refused Refusal.Unsound))))
+    → Meets (merge r) before after n (cond t (merged_turn p turn) (refuse (Merged.Refused Refusal.Unsound)))
 merged_tested true p turn m = record { answers = ap merge m.answers; leaves = m.leaves }
 merged_tested false p turn m = record { answers = ap merge m.answers; leaves = m.leaves }
 

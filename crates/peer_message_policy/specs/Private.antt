@@ -8,6 +8,7 @@ use Rattle.peer_state.specs.declared.entry.PeerMessagePolicyEntry.{PeerMessagePo
 use Rattle.peer_state.specs.Entry.{entry_new}
 use Rattle.peer_rows.specs.Private.{entry_at}
 use Rattle.peer_rows.specs.Rows.{peer_layout, peer_sound, Peers}
+use Rattle.peer_table.specs.Room.{make_room}
 use Rattle.peer_message_policy.specs.declared.policy.PeerMessagePolicy.{PeerMessagePolicy}
 use Rattle.peer_message_policy.specs.Policy.{policy_sound, rows_of, sound, become}
 use Rattle.table.specs.declared.seek.Seek.TheVariants.{Unsound, At, Gap}
@@ -43,3 +44,9 @@ entry_found c now s Unsound = entry_new c now
 pub record Left (p : PeerMessagePolicy) (i : FiberIngressBudget) (s : List ℕ) (rs : Peers) (q : PeerMessagePolicy) (t : List ℕ) : Type 0 where
   pub policy : q ≡ policy_after p i (become rs)
   pub memory : Holds peer_layout s t p.rows rs
+
+-- the rows that a decided entry goes among: all of them where it goes over the peer's row, else those that are left when room was made
+abbrev pub room_for : PeerMessagePolicyConfig → ℕ → Peers → Seek → Peers
+room_for c now rs (At i) = rs
+room_for c now rs (Gap i) = make_room c now rs
+room_for c now rs Unsound = rs

@@ -1,31 +1,25 @@
-// What the calls answer. The policy comes back inside the answer; a refusal carries its number, and a refused call changes nothing.
+// What the calls answer. The policy comes back inside the answer; a refusal says why, and a refused call changes nothing.
 ghost use Rattle.std.specs.Prelude.{◌≡◌};
 ghost use Rattle.peer_message_policy.specs.Merged.{merge};
 
 use super::policy::PeerMessagePolicy;
 use peer_verdict::verdict::{Cause, InvalidCause};
-
-// A policy was made.
-#[derive(Clone, Copy)]
-pub enum Made {
-    Policy(PeerMessagePolicy),
-    Refused(u32),
-}
+use refusal::Refusal;
 
 // Why a message is admitted or not; after a refusal the policy is as it was.
-#[derive(Clone, Copy)]
+#[derive(Clone, Copy, Debug, PartialEq, Eq)]
 pub struct Admission {
     pub cause: Cause,
     pub policy: PeerMessagePolicy,
 }
 
 // The Rust's three answers, or a refusal.
-#[derive(Clone, Copy)]
+#[derive(Clone, Copy, Debug, PartialEq, Eq)]
 pub enum PeerMessageAdmission {
     Allow(PeerMessagePolicy),
     Disconnect(PeerMessagePolicy),
     Ban(PeerMessagePolicy),
-    Refused(u32),
+    Refused(Refusal),
 }
 
 impl Admission {
@@ -33,50 +27,27 @@ impl Admission {
     pub fn merge(self) -> PeerMessageAdmission
         ensures { result ≡ merge self }
     {
-        let cause = self.cause;
-        let policy = self.policy;
-        match cause {
-            Cause::Allowed => PeerMessageAdmission::Allow(policy),
-            Cause::Short(_) => PeerMessageAdmission::Disconnect(policy),
-            Cause::LiveBan => PeerMessageAdmission::Ban(policy),
-            Cause::BanBegun => PeerMessageAdmission::Ban(policy),
-            Cause::Refused(number) => PeerMessageAdmission::Refused(number),
+        match self.cause {
+            Cause::Allowed => PeerMessageAdmission::Allow(self.policy),
+            Cause::Short(_) => PeerMessageAdmission::Disconnect(self.policy),
+            Cause::LiveBan | Cause::BanBegun => PeerMessageAdmission::Ban(self.policy),
+            Cause::Refused(refusal) => PeerMessageAdmission::Refused(refusal),
         }
     }
 }
 
 // Why the sender of an invalid message is banned or not; after a refusal the policy is as it was.
-#[derive(Clone, Copy)]
+// Kept: no one generic struct with `Admission`, since `AdmitMeets`, `RecordInvalidMeets` and what stands on them name the two types.
+#[derive(Clone, Copy, Debug, PartialEq, Eq)]
 pub struct Invalid {
     pub cause: InvalidCause,
     pub policy: PeerMessagePolicy,
 }
 
 // Whether a peer is banned.
-#[derive(Clone, Copy)]
+#[derive(Clone, Copy, Debug, PartialEq, Eq)]
 pub enum Standing {
     Banned(PeerMessagePolicy),
     Free(PeerMessagePolicy),
-    Refused(u32),
-}
-
-// A call that only changes the policy.
-#[derive(Clone, Copy)]
-pub enum Changed {
-    Policy(PeerMessagePolicy),
-    Refused(u32),
-}
-
-// The numbers in flight.
-#[derive(Clone, Copy)]
-pub enum InFlight {
-    Numbers(u32, u64),
-    Refused(u32),
-}
-
-// The time to pass on.
-#[derive(Clone, Copy)]
-pub enum HeldTime {
-    At(u64),
-    Refused(u32),
+    Refused(Refusal),
 }

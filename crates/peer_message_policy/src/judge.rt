@@ -7,16 +7,17 @@ use peer_rows::row::ROW_WIDTH;
 use pubkey::Pubkey;
 use table::seek::Seek;
 
-// The record, the memory's length and every row are judged, and the peer is found, in one walk.
-pub(crate) fn sought(p: PeerMessagePolicy, table: &[u8], peer: Pubkey) -> Seek
-    ensures { result ≡ sought_in p table.now peer.bytes }
-{
-    if !p.is_sound() {
-        return Seek::Unsound;
+impl PeerMessagePolicy {
+    // The record, the memory's length and every row are judged, and the peer is found, in one walk.
+    pub(crate) fn sought(self, table: &[u8], peer: Pubkey) -> Seek
+        ensures { result ≡ sought_in self table.now peer.bytes }
+    {
+        if !self.is_sound() {
+            return Seek::Unsound;
+        }
+        if ((table.len() / ROW_WIDTH) as u64) < self.config.limit() {
+            return Seek::Unsound;
+        }
+        peer_rows::walk::sought(self.config, table, self.rows as usize, peer)
     }
-    let config = p.config;
-    if ((table.len() / ROW_WIDTH) as u64) < config.limit() {
-        return Seek::Unsound;
-    }
-    peer_rows::walk::sought(config, table, p.rows as usize, peer)
 }

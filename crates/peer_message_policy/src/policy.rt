@@ -1,20 +1,21 @@
 // The policy by value: how one is made, and its calls. Each call judges and finds; what follows is in `calls`.
-ghost use Rattle.std.specs.Prelude.{◌≡◌};
+ghost use Rattle.std.specs.Prelude.{◌≡◌, cond, Ok, Err};
+ghost use Rattle.refusal.specs.declared.Refusal.TheVariants as Refusal;
 ghost use Rattle.peer_settings.specs.Config.{config_default, config_with_limits};
 ghost use Rattle.peer_message_policy.specs.Policy.{policy_sound, sound};
 ghost use Rattle.peer_message_policy.specs.Calls.{fresh, policy_with, NewMeets, AdmitMeets, RecordInvalidMeets, IsBannedMeets, OnDisconnectedMeets, ReleaseIngressMeets, InFlightMeets, HeldTimeMeets};
 
-use super::answer::{Admission, Changed, HeldTime, InFlight, Invalid, Made, Standing};
-use super::{calls, judge};
+use super::answer::{Admission, Invalid, Standing};
 use peer_rows::row::ROW_WIDTH;
 use peer_settings::config::PeerMessagePolicyConfig;
 use peer_state::ingress::FiberIngressBudget;
 use peer_verdict::verdict::{Cause, InvalidCause};
 use pubkey::{PUBKEY_SIZE, Pubkey};
+use refusal::Refusal;
 use table::seek::Seek;
 
 // Settings, the load in flight over all peers, and how many rows of the lent memory are in use.
-#[derive(Clone, Copy)]
+#[derive(Clone, Copy, Debug, PartialEq, Eq)]
 pub struct PeerMessagePolicy {
     pub config: PeerMessagePolicyConfig,
     pub ingress: FiberIngressBudget,
@@ -24,18 +25,21 @@ pub struct PeerMessagePolicy {
 impl PeerMessagePolicy {
     // A policy with no peer and nothing in flight. Every row of the limit is zeroed. Refused with 2 where the limit is above
     // 1,024, then with 1 where the table is too short for it.
-    pub fn new(config: PeerMessagePolicyConfig, table: &mut [u8]) -> Made
+    pub fn new(
+        config: PeerMessagePolicyConfig,
+        table: &mut [u8],
+    ) -> Result<PeerMessagePolicy, Refusal>
         ensures { NewMeets config table.old result table.new }
     {
         if config.max_tracked_peers > PeerMessagePolicyConfig::MAX_ROWS {
-            return Made::Refused(refusal::LIMIT_TOO_LARGE);
+            return Err(Refusal::LimitTooLarge);
         }
         let limit = config.limit();
         if ((table.len() / ROW_WIDTH) as u64) < limit {
-            return Made::Refused(refusal::TOO_SHORT);
+            return Err(Refusal::TooShort);
         }
         table::rows::zero_rows(table, ROW_WIDTH, 0, limit as usize);
-        Made::Policy(PeerMessagePolicy::fresh(config))
+        Ok(PeerMessagePolicy::fresh(config))
     }
 
     // The record alone of a policy with no peer and nothing in flight.
@@ -56,16 +60,15 @@ impl PeerMessagePolicy {
     pub(crate) fn after(self, ingress: FiberIngressBudget, rows: u64) -> PeerMessagePolicy
         ensures { result ≡ policy_with self ingress rows }
     {
-        let config = self.config;
         PeerMessagePolicy {
-            config,
             ingress,
             rows,
+            ..self
         }
     }
 
     // A policy with the default settings.
-    pub fn default(table: &mut [u8]) -> Made
+    pub fn default(table: &mut [u8]) -> Result<PeerMessagePolicy, Refusal>
         ensures { NewMeets config_default table.old result table.new }
     {
         PeerMessagePolicy::new(PeerMessagePolicyConfig::default(), table)
@@ -77,7 +80,7 @@ impl PeerMessagePolicy {
         max_in_flight_messages: u32,
         max_in_flight_bytes: u64,
         table: &mut [u8],
-    ) -> Made
+    ) -> Result<PeerMessagePolicy, Refusal>
         ensures { NewMeets (config_with_limits max_entries max_in_flight_messages max_in_flight_bytes) table.old result table.new }
     {
         let config = PeerMessagePolicyConfig::with_limits(
@@ -93,110 +96,107 @@ impl PeerMessagePolicy {
     pub fn admit(self, table: &mut [u8], peer: Pubkey, bytes: u64, now_ms: u64) -> Admission
         ensures { AdmitMeets self table.old peer bytes now_ms result table.new }
     {
-        let found = judge::sought(self, table, peer);
+        let found = self.sought(table, peer);
         if let Seek::Unsound = found {
             return Admission {
-                cause: Cause::Refused(refusal::UNSOUND),
+                cause: Cause::Refused(Refusal::Unsound),
                 policy: self,
             };
         }
-        calls::admit_found(self, table, peer, found, bytes, now_ms)
+        self.admit_found(table, peer, found, bytes, now_ms)
     }
 
     // Counts a message that turned out to be invalid.
     pub fn record_invalid(self, table: &mut [u8], peer: Pubkey, now_ms: u64) -> Invalid
         ensures { RecordInvalidMeets self table.old peer now_ms result table.new }
     {
-        let found = judge::sought(self, table, peer);
+        let found = self.sought(table, peer);
         if let Seek::Unsound = found {
             return Invalid {
-                cause: InvalidCause::Refused(refusal::UNSOUND),
+                cause: InvalidCause::Refused(Refusal::Unsound),
                 policy: self,
             };
         }
-        calls::invalid_found(self, table, peer, found, now_ms)
+        self.invalid_found(table, peer, found, now_ms)
     }
 
     // Whether a peer is banned. A ban that is over is forgotten, with its peer's row.
     pub fn is_banned(self, table: &mut [u8], peer: Pubkey, now_ms: u64) -> Standing
         ensures { IsBannedMeets self table.old peer now_ms result table.new }
     {
-        let found = judge::sought(self, table, peer);
-        match found {
-            Seek::Unsound => Standing::Refused(refusal::UNSOUND),
-            Seek::At(index) => calls::standing_known(self, table, peer, index, now_ms),
+        match self.sought(table, peer) {
+            Seek::Unsound => Standing::Refused(Refusal::Unsound),
+            Seek::At(index) => self.standing_known(table, peer, index, now_ms),
             Seek::Gap(_) => Standing::Free(self),
         }
     }
 
     // A peer's connection closed: its buckets are kept, its old violations are not.
-    pub fn on_disconnected(self, table: &mut [u8], peer: Pubkey, now_ms: u64) -> Changed
+    pub fn on_disconnected(
+        self,
+        table: &mut [u8],
+        peer: Pubkey,
+        now_ms: u64,
+    ) -> Result<PeerMessagePolicy, Refusal>
         ensures { OnDisconnectedMeets self table.old peer now_ms result table.new }
     {
-        let found = judge::sought(self, table, peer);
-        match found {
-            Seek::Unsound => Changed::Refused(refusal::UNSOUND),
-            Seek::At(index) => calls::disconnected_known(self, table, peer, index, now_ms),
-            Seek::Gap(_) => Changed::Policy(self),
+        match self.sought(table, peer) {
+            Seek::Unsound => Err(Refusal::Unsound),
+            Seek::At(index) => Ok(self.disconnected_known(table, peer, index, now_ms)),
+            Seek::Gap(_) => Ok(self),
         }
     }
 
     // A message that was in flight is done with.
-    pub fn release_ingress(self, bytes: u64) -> Changed
+    #[tactic(auto, unfolding(crate::specs::Calls::ReleaseIngressMeets))]
+    pub fn release_ingress(self, bytes: u64) -> Result<PeerMessagePolicy, Refusal>
         ensures { ReleaseIngressMeets self bytes result }
     {
-        if !self.is_sound() {
-            return Changed::Refused(refusal::UNSOUND);
-        }
-        let load = self.ingress;
-        let ingress = load.release(bytes);
-        Changed::Policy(self.after(ingress, self.rows))
+        self.judged()?;
+        Ok(self.after(self.ingress.release(bytes), self.rows))
     }
 
     // How many messages and bytes are in flight.
-    pub fn in_flight(self) -> InFlight
+    #[tactic(auto, unfolding(crate::specs::Calls::InFlightMeets))]
+    pub fn in_flight(self) -> Result<FiberIngressBudget, Refusal>
         ensures { InFlightMeets self result }
     {
-        if !self.is_sound() {
-            return InFlight::Refused(refusal::UNSOUND);
-        }
-        let ingress = self.ingress;
-        InFlight::Numbers(ingress.in_flight_messages, ingress.in_flight_bytes)
+        self.judged()?;
+        Ok(self.ingress)
     }
 
     // The later of a given time and the peer's last-used time. A caller who passes the answer on to this peer's admit AND
     // record_invalid is shielded from a clock that steps back: record_invalid sets the last-used time too, so with a raw, earlier
     // time it would move back what the next held time answers. Nothing changes.
-    pub fn held_time(self, table: &[u8], peer: Pubkey, given_ms: u64) -> HeldTime
+    pub fn held_time(self, table: &[u8], peer: Pubkey, given_ms: u64) -> Result<u64, Refusal>
         ensures { HeldTimeMeets self table.now peer given_ms result }
     {
-        let found = judge::sought(self, table, peer);
-        match found {
-            Seek::Unsound => HeldTime::Refused(refusal::UNSOUND),
-            Seek::At(index) => calls::held_known(self, table, peer, index, given_ms),
-            Seek::Gap(_) => HeldTime::At(given_ms),
+        match self.sought(table, peer) {
+            Seek::Unsound => Err(Refusal::Unsound),
+            Seek::At(index) => Ok(self.held_known(table, peer, index, given_ms)),
+            Seek::Gap(_) => Ok(given_ms),
         }
     }
 
     // Whether the record keeps its own rules. No table is judged.
+    #[tactic(auto, unfolding(crate::specs::Policy::policy_sound))]
     pub fn is_sound(self) -> bool
         ensures { result ≡ policy_sound self }
     {
-        let config = self.config;
-        let ingress = self.ingress;
-        if config.max_tracked_peers > PeerMessagePolicyConfig::MAX_ROWS {
-            return false;
+        self.config.max_tracked_peers <= PeerMessagePolicyConfig::MAX_ROWS
+            && self.rows <= self.config.limit()
+            && (self.config.is_unlimited()
+                || (self.ingress.in_flight_messages <= self.config.max_in_flight_messages
+                    && self.ingress.in_flight_bytes <= self.config.max_in_flight_bytes))
+    }
+
+    fn judged(self) -> Result<(), Refusal>
+        ensures { result ≡ cond (policy_sound self) (Ok tt) (Err Refusal.Unsound) }
+    {
+        if !self.is_sound() {
+            return Err(Refusal::Unsound);
         }
-        if self.rows > config.limit() {
-            return false;
-        }
-        if config.is_unlimited() {
-            return true;
-        }
-        if ingress.in_flight_messages > config.max_in_flight_messages {
-            return false;
-        }
-        ingress.in_flight_bytes <= config.max_in_flight_bytes
+        Ok(())
     }
 
     // Whether record and table are sound: the calls refuse with 3 just where they are not. The same walk as theirs, with any peer.
@@ -206,11 +206,6 @@ impl PeerMessagePolicy {
         let any = Pubkey {
             bytes: [0; PUBKEY_SIZE],
         };
-        let found = judge::sought(self, table, any);
-        match found {
-            Seek::Unsound => false,
-            Seek::At(_) => true,
-            Seek::Gap(_) => true,
-        }
+        !matches!(self.sought(table, any), Seek::Unsound)
     }
 }

@@ -1,11 +1,14 @@
 // A peer's row where it stands: its key, then eleven numbers of eight bytes. Its entry is read whole, or just the numbers that are
 // judged.
-ghost use Rattle.std.specs.Prelude.{◌≡◌, ◌+◌, ◌*◌, ◌≤◌, length};
+ghost use Rattle.std.specs.Prelude.{◌≡◌, refl, ◌+◌, ◌*◌, ◌≤◌, length};
+ghost use Rattle.std.proofs.Common.{arith};
 ghost use Rattle.lent_bytes.specs.LentBytes.{part, le};
-ghost use Rattle.peer_state.specs.Entry.{level, window, ban, ban_sound, entry_is_spent};
-ghost use Rattle.peer_rows.specs.Rows.{row_width, entry_words, row_from, peer_sound};
+ghost use Rattle.peer_state.specs.Entry.{level, window, ban, ban_sound};
+ghost use Rattle.peer_rows.specs.Rows.{key_width, row_width, entry_words, peer_layout, row_from, peer_sound};
+ghost use Rattle.peer_rows.specs.RowsLaws.{EntryFits, peer_faithful};
 ghost use Rattle.peer_rows.specs.Private.{entry_at};
 
+use keyed_rows::kind::RowKind;
 use lent_bytes::number::get_u64;
 use peer_settings::config::PeerMessagePolicyConfig;
 use peer_state::entry::{Ban, Level, PeerMessagePolicyEntry, ViolationWindow};
@@ -62,12 +65,11 @@ fn ban_at(table: &[u8], at: usize) -> Ban
     }
 }
 
-// The entry of the row at the index.
-pub fn entry_at(table: &[u8], index: usize) -> PeerMessagePolicyEntry
-    requires { row_width * (index + 1) ≤ length table.now }
-    ensures { result ≡ entry_at table.now index }
+// The entry of the row at the place.
+fn entry_from(table: &[u8], at: usize) -> PeerMessagePolicyEntry
+    requires { at + row_width ≤ length table.now }
+    ensures { result ≡ (row_from table.now at).entry }
 {
-    let at = ROW_WIDTH * index;
     PeerMessagePolicyEntry {
         messages: level_at(table, at + MESSAGES_PLACE),
         bytes: level_at(table, at + BYTES_PLACE),
@@ -78,7 +80,16 @@ pub fn entry_at(table: &[u8], index: usize) -> PeerMessagePolicyEntry
     }
 }
 
+// The entry of the row at the index.
+pub fn entry_at(table: &[u8], index: usize) -> PeerMessagePolicyEntry
+    requires { row_width * (index + 1) ≤ length table.now }
+    ensures { result ≡ entry_at table.now index }
+{
+    entry_from(table, ROW_WIDTH * index)
+}
+
 // The entry's eleven numbers, in the order of the row.
+#[tactic(auto, unfolding(crate::specs::Rows::entry_words))]
 pub fn words_of(e: PeerMessagePolicyEntry) -> [u64; 11]
     ensures { result ≡ entry_words e }
 {
@@ -103,26 +114,17 @@ fn ban_sound(table: &[u8], at: usize) -> bool
     ensures { result ≡ ban_sound (ban (le (part table.now at 8)) (le (part table.now (at + 8) 8))) }
 {
     let mark = get_u64(table, at);
-    if mark == 1 {
-        return true;
-    }
-    if mark != 0 {
-        return false;
-    }
-    get_u64(table, at + 8) == 0
+    mark == 1 || (mark == 0 && get_u64(table, at + 8) == 0)
 }
 
 // Whether the entry of the row at the place keeps its rules. It reads the six numbers that are judged and no other.
-pub(crate) fn row_sound(config: PeerMessagePolicyConfig, table: &[u8], at: usize) -> bool
+fn row_sound(config: PeerMessagePolicyConfig, table: &[u8], at: usize) -> bool
     requires { at + row_width ≤ length table.now }
     ensures { result ≡ peer_sound config (row_from table.now at) }
 {
-    let message_burst = config.peer_message_burst as u64;
-    if get_u64(table, at + MESSAGES_PLACE) > message_burst {
-        return false;
-    }
-    let burst_bytes = config.peer_message_burst_bytes;
-    if get_u64(table, at + BYTES_PLACE) > burst_bytes {
+    if get_u64(table, at + MESSAGES_PLACE) > config.peer_message_burst as u64
+        || get_u64(table, at + BYTES_PLACE) > config.peer_message_burst_bytes
+    {
         return false;
     }
     // Both counts are read before either is judged, so that LLVM joins the tests: one `or` of the high halves, one branch.
@@ -134,14 +136,49 @@ pub(crate) fn row_sound(config: PeerMessagePolicyConfig, table: &[u8], at: usize
     ban_sound(table, at + BAN_PLACE)
 }
 
-// Whether the row at the place has a ban that is over.
-pub fn row_spent(table: &[u8], at: usize, now_ms: u64) -> bool
-    requires { at + row_width ≤ length table.now }
-    ensures { result ≡ entry_is_spent (row_from table.now at).entry now_ms }
-{
-    let ban = at + BAN_PLACE;
-    if get_u64(table, ban) != 1 {
-        return false;
+// The peers' rows as a kind of rows, whose entries are judged under a configuration.
+#[derive(Clone, Copy)]
+pub struct PeerRows {
+    pub config: PeerMessagePolicyConfig,
+}
+
+impl RowKind<11> for PeerRows {
+    type Entry = PeerMessagePolicyEntry;
+
+    ghost WIDTH = { row_width };
+
+    ghost KEY_WIDTH = { key_width };
+
+    ghost layout = { peer_layout };
+
+    ghost Fits = { EntryFits };
+
+    ghost sound = { λ kind r. peer_sound kind.config r };
+
+    const WIDTH: usize = ROW_WIDTH;
+
+    const KEY_WIDTH: usize = KEY_WIDTH;
+
+    #[tactic(auto, unfolding(crate::specs::Rows::entry_words))]
+    fn words(entry: PeerMessagePolicyEntry) -> [u64; 11] {
+        words_of(entry)
     }
-    get_u64(table, ban + 8) <= now_ms
+
+    fn entry_at(table: &[u8], at: usize) -> PeerMessagePolicyEntry {
+        entry_from(table, at)
+    }
+
+    fn is_sound_at(self, table: &[u8], at: usize) -> bool {
+        row_sound(self.config, table, at)
+    }
+
+    ghost width_is = { refl };
+
+    ghost key_width_is = { refl };
+
+    ghost key_bound = { Prim.omega arith };
+
+    ghost words_bound = { Prim.omega arith };
+
+    ghost faithful = { peer_faithful };
 }

@@ -1,6 +1,8 @@
 -- Every state of a run is sound, keeps the settings that it was made with, and holds bytes. Assumes nothing.
 use Rattle.std.specs.Prelude.{◌≡◌, refl, true, List, ℕ}
 use Rattle.std.proofs.Common.{ap, ◌∙◌}
+use Rattle.std.specs.Prelude.{Result, Ok, Err}
+use Rattle.refusal.specs.declared.Refusal.{Refusal}
 use Rattle.lent_bytes.specs.LentBytes.{Bytes}
 use Rattle.pubkey.specs.declared.Pubkey.{Pubkey}
 use Rattle.refusal.specs.Refusal.{Said}
@@ -8,7 +10,6 @@ use Rattle.table.specs.Table.{look}
 use Rattle.peer_settings.specs.declared.config.PeerMessagePolicyConfig.{PeerMessagePolicyConfig}
 use Rattle.peer_message_policy.specs.declared.policy.PeerMessagePolicy.{PeerMessagePolicy}
 use Rattle.peer_message_policy.specs.declared.answer.Standing.{Standing}
-use Rattle.peer_message_policy.specs.declared.answer.Changed.{Changed}
 use Rattle.peer_message_policy.specs.Policy
 use Rattle.peer_message_policy.specs.Policy.{sound, Change, same}
 use Rattle.peer_laws.specs.SoundLaws.{Leaves}
@@ -52,9 +53,9 @@ module _ (p : PeerMessagePolicy) (P : PeerMessagePolicy → Type 0) where
   after_standing_lem (Standing.Free q) h = h
   after_standing_lem (Standing.Refused n) h = h
 
-  pub after_changed_lem : (r : Changed) → OfChanged p P r → P (after_changed p r)
-  after_changed_lem (Changed.Policy q) h = h
-  after_changed_lem (Changed.Refused n) h = h
+  pub after_changed_lem : (r : Result PeerMessagePolicy Refusal) → OfChanged p P r → P (after_changed p r)
+  after_changed_lem (Ok q) h = h
+  after_changed_lem (Err n) h = h
 
 -- what a call leaves, from a state to a state
 abbrev pub StateLeaves : State → Change → State → Type 0

@@ -1,10 +1,10 @@
 // The settings of the peers' policy, under the Rust's names. A 0 switches the limit off that it belongs to.
-ghost use Rattle.std.specs.Prelude.{◌≡◌, max};
+ghost use Rattle.std.specs.Prelude.{◌≡◌};
 ghost use Rattle.peer_settings.specs.Config.{config_default, config_with_limits, message_limit_disabled, ban_disabled};
 ghost use Rattle.peer_settings.specs.Config.{unlimited, limit};
 
 // The nine settings, in the Rust's order.
-#[derive(Clone, Copy)]
+#[derive(Clone, Copy, Debug, PartialEq, Eq)]
 pub struct PeerMessagePolicyConfig {
     // Refill interval of the per-peer message bucket, in milliseconds.
     pub peer_message_interval_ms: u64,
@@ -38,30 +38,16 @@ impl PeerMessagePolicyConfig {
     pub const PEER_MESSAGE_VIOLATION_BAN_THRESHOLD: u32 = 20;
 
     pub const PEER_MESSAGE_BAN_DURATION_MS: u64 = 600_000;
+
     // 50,000 in the Rust.
     pub const PEER_MESSAGE_MAX_TRACKED_PEERS: u64 = 1_024;
 
     pub const FIBER_INGRESS_MAX_IN_FLIGHT_MESSAGES: u32 = 4_096;
 
     pub const FIBER_INGRESS_MAX_IN_FLIGHT_BYTES: u64 = 33_554_432;
+
     // What `max_tracked_peers` may not exceed.
     pub const MAX_ROWS: u64 = 1_024;
-
-    pub fn default() -> PeerMessagePolicyConfig
-        ensures { result ≡ config_default }
-    {
-        PeerMessagePolicyConfig {
-            peer_message_interval_ms: PeerMessagePolicyConfig::PEER_MESSAGE_INTERVAL_MS,
-            peer_message_burst: PeerMessagePolicyConfig::PEER_MESSAGE_BURST,
-            peer_message_rate_bytes_per_sec: PeerMessagePolicyConfig::PEER_MESSAGE_RATE_BYTES_PER_SEC,
-            peer_message_burst_bytes: PeerMessagePolicyConfig::PEER_MESSAGE_BURST_BYTES,
-            violation_ban_threshold: PeerMessagePolicyConfig::PEER_MESSAGE_VIOLATION_BAN_THRESHOLD,
-            ban_duration_ms: PeerMessagePolicyConfig::PEER_MESSAGE_BAN_DURATION_MS,
-            max_tracked_peers: PeerMessagePolicyConfig::PEER_MESSAGE_MAX_TRACKED_PEERS,
-            max_in_flight_messages: PeerMessagePolicyConfig::FIBER_INGRESS_MAX_IN_FLIGHT_MESSAGES,
-            max_in_flight_bytes: PeerMessagePolicyConfig::FIBER_INGRESS_MAX_IN_FLIGHT_BYTES,
-        }
-    }
 
     // The defaults, but for how many peers are tracked and how much may be in flight.
     pub fn with_limits(
@@ -72,15 +58,10 @@ impl PeerMessagePolicyConfig {
         ensures { result ≡ config_with_limits max_entries max_in_flight_messages max_in_flight_bytes }
     {
         PeerMessagePolicyConfig {
-            peer_message_interval_ms: PeerMessagePolicyConfig::PEER_MESSAGE_INTERVAL_MS,
-            peer_message_burst: PeerMessagePolicyConfig::PEER_MESSAGE_BURST,
-            peer_message_rate_bytes_per_sec: PeerMessagePolicyConfig::PEER_MESSAGE_RATE_BYTES_PER_SEC,
-            peer_message_burst_bytes: PeerMessagePolicyConfig::PEER_MESSAGE_BURST_BYTES,
-            violation_ban_threshold: PeerMessagePolicyConfig::PEER_MESSAGE_VIOLATION_BAN_THRESHOLD,
-            ban_duration_ms: PeerMessagePolicyConfig::PEER_MESSAGE_BAN_DURATION_MS,
-            max_tracked_peers: at_least_one(max_entries),
+            max_tracked_peers: max_entries.max(1),
             max_in_flight_messages,
             max_in_flight_bytes,
+            ..PeerMessagePolicyConfig::default()
         }
     }
 
@@ -109,15 +90,24 @@ impl PeerMessagePolicyConfig {
     pub fn limit(self) -> u64
         ensures { result ≡ limit self }
     {
-        at_least_one(self.max_tracked_peers)
+        self.max_tracked_peers.max(1)
     }
 }
 
-fn at_least_one(n: u64) -> u64
-    ensures { result ≡ max n 1 }
-{
-    if n == 0 {
-        return 1;
+impl Default for PeerMessagePolicyConfig {
+    ghost is_default = { λ c. c ≡ config_default };
+
+    fn default() -> PeerMessagePolicyConfig {
+        PeerMessagePolicyConfig {
+            peer_message_interval_ms: PeerMessagePolicyConfig::PEER_MESSAGE_INTERVAL_MS,
+            peer_message_burst: PeerMessagePolicyConfig::PEER_MESSAGE_BURST,
+            peer_message_rate_bytes_per_sec: PeerMessagePolicyConfig::PEER_MESSAGE_RATE_BYTES_PER_SEC,
+            peer_message_burst_bytes: PeerMessagePolicyConfig::PEER_MESSAGE_BURST_BYTES,
+            violation_ban_threshold: PeerMessagePolicyConfig::PEER_MESSAGE_VIOLATION_BAN_THRESHOLD,
+            ban_duration_ms: PeerMessagePolicyConfig::PEER_MESSAGE_BAN_DURATION_MS,
+            max_tracked_peers: PeerMessagePolicyConfig::PEER_MESSAGE_MAX_TRACKED_PEERS,
+            max_in_flight_messages: PeerMessagePolicyConfig::FIBER_INGRESS_MAX_IN_FLIGHT_MESSAGES,
+            max_in_flight_bytes: PeerMessagePolicyConfig::FIBER_INGRESS_MAX_IN_FLIGHT_BYTES,
+        }
     }
-    n
 }

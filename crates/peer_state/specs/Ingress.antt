@@ -1,10 +1,11 @@
 -- FiberIngressBudget of peer_message_policy.rs: the load in flight and its ceiling. Definitions only.
-use Rattle.std.specs.Prelude.{Bool, ◌&&◌, ◌||◌, cond, ℕ, ◌+◌, ◌-◌, ltb, leb, eqb}
-use Rattle.refusal.specs.Refusal.{overflow}
+use Rattle.std.specs.Prelude.{Bool, ◌&&◌, ◌||◌, cond, List, ◌++◌, ℕ, ◌+◌, ◌-◌, ltb, leb, eqb, Result, Ok, Err, codes, decimal}
+use Rattle.refusal.specs.Refusal.{text_of}
+use Rattle.peer_state.specs.declared.ingress.NotReserved.{NotReserved}
+use Rattle.peer_state.specs.declared.ingress.NotReserved.TheVariants as NotReserved
+use Rattle.refusal.specs.declared.Refusal.TheVariants as Refusal
 use Rattle.peer_settings.specs.declared.config.PeerMessagePolicyConfig.{PeerMessagePolicyConfig}
 use Rattle.peer_state.specs.declared.ingress.FiberIngressBudget.{FiberIngressBudget}
-use Rattle.peer_state.specs.declared.ingress.Reservation.{Reservation}
-use Rattle.peer_state.specs.declared.ingress.Reservation.TheVariants.{Reserved, NoSlot, BytesShort, Refused}
 use Rattle.peer_settings.specs.Config.{unlimited}
 
 abbrev pub in_flight : ℕ → ℕ → FiberIngressBudget
@@ -16,14 +17,14 @@ ingress_reserved i size = in_flight (i.in_flight_messages + 1) (i.in_flight_byte
 
 -- try_reserve: under a ceiling, a slot first, then the bytes; without one, refused where a number would leave its width (added),
 -- else reserved
-unfoldable pub try_reserve : PeerMessagePolicyConfig → FiberIngressBudget → ℕ → Reservation
+unfoldable pub try_reserve : PeerMessagePolicyConfig → FiberIngressBudget → ℕ → Result FiberIngressBudget NotReserved
 try_reserve c i size =
     let free = c.max_in_flight_bytes - i.in_flight_bytes
     in cond (unlimited c)
-    (cond (eqb i.in_flight_messages 4294967295 || ltb 18446744073709551615 (i.in_flight_bytes + size)) (Refused overflow)
-    (Reserved (ingress_reserved i size)))
-    (cond (leb c.max_in_flight_messages i.in_flight_messages) NoSlot
-    (cond (ltb free size) (BytesShort (size - free)) (Reserved (ingress_reserved i size))))
+    (cond (eqb i.in_flight_messages 4294967295 || ltb 18446744073709551615 (i.in_flight_bytes + size)) (Err (NotReserved.Refused Refusal.Overflow))
+    (Ok (ingress_reserved i size)))
+    (cond (leb c.max_in_flight_messages i.in_flight_messages) (Err NotReserved.NoSlot)
+    (cond (ltb free size) (Err (NotReserved.BytesShort (size - free))) (Ok (ingress_reserved i size))))
 
 -- release: each number by itself stops at 0
 abbrev pub ingress_released : FiberIngressBudget → ℕ → FiberIngressBudget
@@ -35,3 +36,9 @@ ingress_sound c i =
     unlimited c
     || (leb i.in_flight_messages c.max_in_flight_messages
     && leb i.in_flight_bytes c.max_in_flight_bytes)
+
+-- what is shown of why there is no room
+abbrev pub not_reserved_text : NotReserved → List ℕ
+not_reserved_text NotReserved.NoSlot = codes "no slot in flight"
+not_reserved_text (NotReserved.BytesShort by) = codes "short by " ++ (decimal by ++ codes " bytes in flight")
+not_reserved_text (NotReserved.Refused r) = text_of r

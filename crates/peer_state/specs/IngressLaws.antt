@@ -2,12 +2,13 @@
 use Rattle.std.specs.Prelude.{◌≡◌, refl, true, false, ◌||◌, ℕ, ◌+◌, ◌-◌, ◌≤◌, ◌<◌, ltb, leb, eqb}
 use Rattle.std.proofs.Common.{sym, ◌∙◌, true≢false, arith, leb-true, leb-false, ltb-true, ltb-false, le-leb}
 use Rattle.std.proofs.Math.Bool.{and-eq-true_iff}
+use Rattle.std.specs.Prelude.{Result, Ok, Err}
+use Rattle.peer_state.specs.declared.ingress.NotReserved.{NotReserved}
+use Rattle.peer_state.specs.declared.ingress.NotReserved.TheVariants as NotReserved
 use Rattle.truths.specs.TruthLaws.{chosen, or_else}
-use Rattle.refusal.specs.Refusal.{overflow}
+use Rattle.refusal.specs.declared.Refusal.TheVariants as Refusal
 use Rattle.peer_settings.specs.declared.config.PeerMessagePolicyConfig.{PeerMessagePolicyConfig}
 use Rattle.peer_state.specs.declared.ingress.FiberIngressBudget.{FiberIngressBudget}
-use Rattle.peer_state.specs.declared.ingress.Reservation.{Reservation}
-use Rattle.peer_state.specs.declared.ingress.Reservation.TheVariants.{Reserved, NoSlot, BytesShort, Refused}
 use Rattle.peer_settings.specs.Config.{unlimited}
 use Rattle.peer_state.specs.Ingress.{ingress_reserved, try_reserve, ingress_released, ingress_sound}
 
@@ -35,12 +36,12 @@ released_sound c i size h =
 
 -- what holds of each answer of the ceiling: room is for this message, and stays within the ceiling; only a load without a
 -- ceiling outgrows its numbers, which is refusal 4
-abbrev pub ReservationHolds : PeerMessagePolicyConfig → FiberIngressBudget → ℕ → Reservation → Type 0
-ReservationHolds c i size (Reserved after) =
+abbrev pub ReservationHolds : PeerMessagePolicyConfig → FiberIngressBudget → ℕ → Result FiberIngressBudget NotReserved → Type 0
+ReservationHolds c i size (Ok after) =
     (after ≡ ingress_reserved i size) × (ingress_sound c i ≡ true → ingress_sound c after ≡ true)
-ReservationHolds c i size NoSlot = unlimited c ≡ false
-ReservationHolds c i size (BytesShort k) = (unlimited c ≡ false) × (1 ≤ k)
-ReservationHolds c i size (Refused n) = (unlimited c ≡ true) × (n ≡ overflow)
+ReservationHolds c i size (Err NotReserved.NoSlot) = unlimited c ≡ false
+ReservationHolds c i size (Err (NotReserved.BytesShort k)) = (unlimited c ≡ false) × (1 ≤ k)
+ReservationHolds c i size (Err (NotReserved.Refused n)) = (unlimited c ≡ true) × (n ≡ Refusal.Overflow)
 
 pub reservation_holds : (c : PeerMessagePolicyConfig) (i : FiberIngressBudget) (size : ℕ) → ReservationHolds c i size (try_reserve c i size)
 unfolding try_reserve

@@ -4,4 +4,3 @@
 
 pub mod entry;
 pub mod ingress;
-mod saturating;

@@ -9,23 +9,9 @@ ghost use Rattle.peer_table.specs.Private.{best_of, measure_of, measure_by};
 use lent_bytes::number::get_u64;
 use peer_rows::row::{BAN_PLACE, LAST_USED_PLACE, ROW_WIDTH};
 
-// Nothing, or the row's index and the time that it was chosen by.
-#[derive(Clone, Copy)]
-pub enum First {
-    Nothing,
-    At(usize, u64),
-}
-
-// The time by which a row takes part in a search, if it does.
-#[derive(Clone, Copy)]
-pub enum Measure {
-    Absent,
-    Present(u64),
-}
-
 // The measure of the row at the place: of a banned peer the ban's end, of another its last use, and only the kind that is asked
 // for takes part.
-fn measure_at(table: &[u8], at: usize, banned: bool) -> Measure
+fn measure_at(table: &[u8], at: usize, banned: bool) -> Option<u64>
     requires { at + row_width ≤ length table.now }
     ensures { measure_of result ≡ measure_by banned (row_from table.now at) }
 {
@@ -33,42 +19,44 @@ fn measure_at(table: &[u8], at: usize, banned: bool) -> Measure
     let mark = get_u64(table, ban);
     if banned {
         if mark != 1 {
-            return Measure::Absent;
+            return None;
         }
-        return Measure::Present(get_u64(table, ban + 8));
+        return Some(get_u64(table, ban + 8));
     }
     if mark == 1 {
-        return Measure::Absent;
+        return None;
     }
-    Measure::Present(get_u64(table, at + LAST_USED_PLACE))
+    Some(get_u64(table, at + LAST_USED_PLACE))
 }
 
 // The better of what was found and the row at the index; the earlier row, that of the smaller key, where they are equal.
-fn better_of(found: First, index: usize, measure: Measure) -> First
+fn better_of(
+    found: Option<(usize, u64)>,
+    index: usize,
+    measure: Option<u64>,
+) -> Option<(usize, u64)>
     ensures { best_of result ≡ better (best_of found) index (measure_of measure) }
 {
-    let Measure::Present(time) = measure else {
+    let Some(time) = measure else {
         return found;
     };
-    let First::At(earlier, least) = found else {
-        return First::At(index, time);
+    let Some((earlier, least)) = found else {
+        return Some((index, time));
     };
     if time < least {
-        return First::At(index, time);
+        return Some((index, time));
     }
-    First::At(earlier, least)
+    Some((earlier, least))
 }
 
 // The first of the banned peers, or of the others.
-pub fn find_first(table: &[u8], count: usize, banned: bool) -> First
+pub fn find_first(table: &[u8], count: usize, banned: bool) -> Option<(usize, u64)>
     requires { row_width * count ≤ length table.now }
     ensures { best_of result ≡ minimum_from (measure_by banned) nothing 0 (rows peer_layout table.now count) }
 {
-    let mut found = First::Nothing;
-    let mut i: usize = 0;
-    while i < count {
+    let mut found = None;
+    for i in 0..count {
         found = better_of(found, i, measure_at(table, ROW_WIDTH * i, banned));
-        i += 1;
     }
     found
 }

@@ -8,7 +8,8 @@ ghost use Rattle.table_laws.specs.Private.{over};
 ghost use Rattle.table_laws.specs.Private.{Counted};
 ghost use Rattle.peer_rows.specs.Rows.{row_width, peer_layout};
 
-use peer_rows::row::{KEY_WIDTH, ROW_WIDTH, words_of};
+use keyed_rows::kind;
+use peer_rows::row::PeerRows;
 use peer_state::entry::PeerMessagePolicyEntry;
 use pubkey::Pubkey;
 
@@ -18,7 +19,7 @@ pub fn remove_at(table: &mut [u8], count: usize, index: usize)
     requires count_in_bounds { row_width * count ≤ length table.old }
     ensures { Holds peer_layout table.old table.new count (remove_at index (rows peer_layout table.old count)) }
 {
-    table::rows::remove_row(table, ROW_WIDTH, count, index);
+    kind::remove_at::<PeerRows, 11>(table, count, index);
 }
 
 // Writes an entry over that of the row at the index, which keeps its key.
@@ -27,8 +28,7 @@ pub fn overwrite_at(table: &mut [u8], count: usize, index: usize, e: PeerMessage
     requires count_in_bounds { row_width * count ≤ length table.old }
     ensures { Holds peer_layout table.old table.new count (over peer_layout table.old count index e) }
 {
-    let words = words_of(e);
-    table::rows::put_words(table, ROW_WIDTH * index + KEY_WIDTH, &words);
+    kind::overwrite_at::<PeerRows, 11>(table, count, index, e);
 }
 
 // Puts a row in before the row at the index.
@@ -43,9 +43,7 @@ pub fn insert_at(
     requires count_in_bounds { row_width * (count + 1) ≤ length table.old }
     ensures { Holds peer_layout table.old table.new count (insert_at index (row_under key.bytes e) (rows peer_layout table.old count)) }
 {
-    let words = words_of(e);
-    let bytes = key.bytes;
-    table::rows::insert_row(table, ROW_WIDTH, count, index, &bytes, &words);
+    kind::insert_at::<PeerRows, 11>(table, count, index, &key.bytes, e);
 }
 
 // Stores an entry under its key: over the row of that key, or in a row put in where the key belongs. Answers how many rows there
@@ -54,7 +52,5 @@ pub fn store(table: &mut [u8], count: usize, key: Pubkey, e: PeerMessagePolicyEn
     requires { row_width * (count + 1) ≤ length table.old }
     ensures { Counted peer_layout table.old table.new count result (stored key.bytes e (rows peer_layout table.old count)) }
 {
-    let words = words_of(e);
-    let bytes = key.bytes;
-    keyed_rows::change::store(table, ROW_WIDTH, count, &bytes, &words)
+    kind::store::<PeerRows, 11>(table, count, &key.bytes, e)
 }

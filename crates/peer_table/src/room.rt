@@ -1,52 +1,23 @@
 // Room for one peer more, as the Rust makes it: the bans that are over go, and if the table is still full, one row more.
 ghost use Rattle.std.specs.Prelude.{◌+◌, ◌*◌, ◌≤◌, length};
 ghost use Rattle.table.specs.Memory.{rows};
-ghost use Rattle.table_laws.specs.Private.{Counted, Gathered, PlainStep};
+ghost use Rattle.table_laws.specs.Private.{Counted};
 ghost use Rattle.peer_rows.specs.Rows.{row_width, peer_layout};
-ghost use Rattle.peer_table.specs.Room.{unspent, prune_expired_bans, make_room};
+ghost use Rattle.peer_table.specs.Room.{prune_expired_bans, make_room};
 ghost use Rattle.peer_table.specs.Room.{evict as evicted};
 
-use super::first::{First, find_first};
+use super::first::find_first;
 use super::places::remove_at;
-use peer_rows::row::{ROW_WIDTH, row_spent};
+use keyed_rows::kind;
+use peer_rows::row::PeerRows;
 use peer_settings::config::PeerMessagePolicyConfig;
-
-// One step of the walk that keeps rows: the row at the index `from` moves down to `to`, unless its ban is over. Answers where the
-// next one goes.
-fn keep_unspent(table: &mut [u8], from: usize, to: usize, now_ms: u64) -> usize
-    requires to_le_from { to ≤ from }
-    requires from_in_bounds { row_width * (from + 1) ≤ length table.old }
-    ensures { PlainStep peer_layout (unspent now_ms) table.old table.new from to result }
-{
-    if row_spent(table, ROW_WIDTH * from, now_ms) {
-        return to;
-    }
-    table::rows::keep_row(table, ROW_WIDTH, from, to);
-    to + 1
-}
-
-// The rows whose ban is not over, one after another at the front. What stands behind them is left.
-fn gather_unspent(table: &mut [u8], count: usize, now_ms: u64) -> usize
-    requires { row_width * count ≤ length table.old }
-    ensures { Gathered peer_layout table.old table.new result (prune_expired_bans now_ms (rows peer_layout table.old count)) }
-{
-    let mut kept: usize = 0;
-    let mut i: usize = 0;
-    while i < count {
-        kept = keep_unspent(table, i, kept, now_ms);
-        i += 1;
-    }
-    kept
-}
 
 // prune_expired_bans: takes out the rows whose ban is over, and answers how many are left.
 pub fn remove_spent(table: &mut [u8], count: usize, now_ms: u64) -> usize
     requires { row_width * count ≤ length table.old }
     ensures { Counted peer_layout table.old table.new count result (prune_expired_bans now_ms (rows peer_layout table.old count)) }
 {
-    let kept = gather_unspent(table, count, now_ms);
-    table::rows::zero_rows(table, ROW_WIDTH, kept, count - kept);
-    kept
+    kind::retain::<PeerRows, 11, _>(table, count, |e| !e.is_spent(now_ms))
 }
 
 // Takes out the peer without a ban that was used last before all others, or if there is none the peer whose ban ends first, and
@@ -55,11 +26,12 @@ pub fn evict(table: &mut [u8], count: usize) -> usize
     requires { row_width * count ≤ length table.old }
     ensures { Counted peer_layout table.old table.new count result (evicted (rows peer_layout table.old count)) }
 {
-    if let First::At(index, _) = find_first(table, count, false) {
+    // Kept: two `if let`. With `or_else` the proof did not close: an answer has no name for what the closure ensures.
+    if let Some((index, _)) = find_first(table, count, false) {
         remove_at(table, count, index);
         return count - 1;
     }
-    if let First::At(index, _) = find_first(table, count, true) {
+    if let Some((index, _)) = find_first(table, count, true) {
         remove_at(table, count, index);
         return count - 1;
     }

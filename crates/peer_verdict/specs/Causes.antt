@@ -1,7 +1,7 @@
 -- What a cause says, by one table of numbers and values; and which limit it names. Definitions only.
 use Rattle.std.specs.Prelude.{[], ◌∷◌}
 use Rattle.std.proofs.Math.Option.{Option, none, some}
-use Rattle.refusal.specs.Refusal.{Said, gives, refused}
+use Rattle.refusal.specs.Refusal.{Said, gives, refused, number_of}
 use Rattle.peer_verdict.specs.declared.verdict.Shortage.{Shortage}
 use Rattle.peer_verdict.specs.declared.verdict.Cause.{Cause}
 use Rattle.peer_verdict.specs.declared.verdict.InvalidCause.{InvalidCause}
@@ -16,14 +16,14 @@ cause_says (Cause.Short Shortage.Slot) = gives (1 ∷ 3 ∷ 1 ∷ [])
 cause_says (Cause.Short (Shortage.CeilingBytes k)) = gives (1 ∷ 4 ∷ k ∷ [])
 cause_says Cause.LiveBan = gives (2 ∷ 5 ∷ 0 ∷ [])
 cause_says Cause.BanBegun = gives (2 ∷ 6 ∷ 0 ∷ [])
-cause_says (Cause.Refused n) = refused n
+cause_says (Cause.Refused n) = refused (number_of n)
 
 -- of an invalid message: 1 for banned, 0 for noted
 abbrev pub invalid_cause_says : InvalidCause → Said
 invalid_cause_says InvalidCause.Noted = gives (0 ∷ [])
 invalid_cause_says InvalidCause.LiveBan = gives (1 ∷ [])
 invalid_cause_says InvalidCause.BanBegun = gives (1 ∷ [])
-invalid_cause_says (InvalidCause.Refused n) = refused n
+invalid_cause_says (InvalidCause.Refused n) = refused (number_of n)
 
 -- the three limits, in the order in which they decide
 pub data Limit : Type 0 where

@@ -10,9 +10,9 @@ use Rattle.amount.specs.Amount.{limbs, value, amount_of, is_i128, saturated, nat
 use Rattle.amount.specs.Private.{Is}
 use Rattle.amount.specs.AmountOfLaws.{amount_of_is}
 use Rattle.bucket_discrete.specs.declared.discrete.DiscreteTokenBucket.{DiscreteTokenBucket}
-use Rattle.bucket_discrete.specs.declared.discrete.DiscreteConsumed.{DiscreteConsumed}
+use Rattle.bucket_discrete.specs.Handed.{DiscreteConsumed}
 use Rattle.bucket_bytes.specs.declared.bytes.ByteTokenBucket.{ByteTokenBucket}
-use Rattle.bucket_bytes.specs.declared.bytes.ByteConsumed.{ByteConsumed}
+use Rattle.bucket_bytes.specs.Handed.{ByteConsumed}
 use Rattle.bucket_terms.specs.Limit.{byte_disabled}
 use Rattle.bucket_discrete.specs.DiscreteBucket.{discrete_refill, discrete_take, discrete_try_consume}
 use Rattle.bucket_bytes.specs.ByteBucket.{byte_sound, byte_refill, byte_take, byte_try_consume}
@@ -32,16 +32,16 @@ discrete_refill_bounded b now h =
     (λ t. h)
     (λ t. chosen P (eqb refill 0) (λ z. h) (λ z. min-le_right (b.available + refill) b.capacity))
 
-discrete_take_less : (b : DiscreteTokenBucket) → (discrete_take b).bucket.available ≤ b.available
+discrete_take_less : (b : DiscreteTokenBucket) → (discrete_take b).state.available ≤ b.available
 unfolding discrete_take
 discrete_take_less b =
-    chosen (λ (r : DiscreteConsumed). r.bucket.available ≤ b.available) (eqb b.available 0) (λ t. omega arith) (λ t. omega arith)
+    chosen (λ (r : DiscreteConsumed). r.state.available ≤ b.available) (eqb b.available 0) (λ t. omega arith) (λ t. omega arith)
 
 -- a take leaves no more messages than the capacity
-pub message_level : (c : PeerMessagePolicyConfig) (l : Level) (now : ℕ) → l.available ≤ c.peer_message_burst → (messages_left (take_message c l now).bucket).available ≤ c.peer_message_burst
+pub message_level : (c : PeerMessagePolicyConfig) (l : Level) (now : ℕ) → l.available ≤ c.peer_message_burst → (messages_left (take_message c l now).state).available ≤ c.peer_message_burst
 unfolding take_message discrete_try_consume
 message_level c l now h =
-    chosen (λ (r : DiscreteConsumed). r.bucket.available ≤ c.peer_message_burst) (message_limit_disabled c)
+    chosen (λ (r : DiscreteConsumed). r.state.available ≤ c.peer_message_burst) (message_limit_disabled c)
     (λ off. h)
     (λ on.
     let refilled = discrete_refill (message_bucket c l) now in
@@ -127,23 +127,23 @@ byte_refill_bounded b now h =
       natural_lesser filled b.config.burst_bytes,
     ))
 
-byte_take_less : (b : ByteTokenBucket) (bytes : ℕ) → held (byte_take b bytes).bucket ≤ held b
+byte_take_less : (b : ByteTokenBucket) (bytes : ℕ) → held (byte_take b bytes).state ≤ held b
 unfolding byte_take
 byte_take_less b bytes =
     let left = value b.available_bytes -ℤ pos bytes in
-    chosen (λ (r : ByteConsumed). held r.bucket ≤ held b) (lt_z (value b.available_bytes) (pos bytes))
+    chosen (λ (r : ByteConsumed). held r.state ≤ held b) (lt_z (value b.available_bytes) (pos bytes))
     (λ t. omega arith)
     (λ t.
     omega
     (arith, natural_amount_of (saturated left), natural_saturated left, natural_minus (value b.available_bytes) bytes))
 
 -- a take leaves no more bytes than the burst
-pub bytes_level : (c : PeerMessagePolicyConfig) (l : Level) (size now : ℕ) → l.available ≤ c.peer_message_burst_bytes → (bytes_left (take_bytes c l size now).bucket).available ≤ c.peer_message_burst_bytes
+pub bytes_level : (c : PeerMessagePolicyConfig) (l : Level) (size now : ℕ) → l.available ≤ c.peer_message_burst_bytes → (bytes_left (take_bytes c l size now).state).available ≤ c.peer_message_burst_bytes
 unfolding take_bytes byte_try_consume
 bytes_level c l size now h =
     let b = byte_bucket c l in
     let full : held b ≤ c.peer_message_burst_bytes = omega (arith, natural_amount_of (pos l.available)) in
-    chosen (λ (r : ByteConsumed). held r.bucket ≤ c.peer_message_burst_bytes) (byte_disabled (bytes_of c))
+    chosen (λ (r : ByteConsumed). held r.state ≤ c.peer_message_burst_bytes) (byte_disabled (bytes_of c))
     (λ off. full)
     (λ on. omega (arith, byte_take_less (byte_refill b now) size, byte_refill_bounded b now full))
 

@@ -1,11 +1,15 @@
 -- What admit and record_invalid decide on one entry: pure, on values. Definitions only.
 use Rattle.std.specs.Prelude.{Bool, true, false, ◌&&◌, not, cond, ℕ, leb, pos}
+use Rattle.std.specs.Prelude.{Result, Ok, Err}
+use Rattle.bucket_terms.specs.declared.answer.NotGiven.{NotGiven}
+use Rattle.bucket_terms.specs.declared.answer.NotGiven.TheVariants as NotGiven
+use Rattle.peer_state.specs.declared.ingress.NotReserved.{NotReserved}
+use Rattle.peer_state.specs.declared.ingress.NotReserved.TheVariants as NotReserved
 use Rattle.amount.specs.Amount.{value, natural}
-use Rattle.bucket_terms.specs.declared.answer.Consumed.{Consumed}
 use Rattle.bucket_discrete.specs.declared.discrete.DiscreteTokenBucket.{DiscreteTokenBucket}
-use Rattle.bucket_discrete.specs.declared.discrete.DiscreteConsumed.{DiscreteConsumed}
+use Rattle.bucket_discrete.specs.Handed.{DiscreteConsumed}
 use Rattle.bucket_bytes.specs.declared.bytes.ByteTokenBucket.{ByteTokenBucket}
-use Rattle.bucket_bytes.specs.declared.bytes.ByteConsumed.{ByteConsumed}
+use Rattle.bucket_bytes.specs.Handed.{ByteConsumed}
 use Rattle.bucket_discrete.specs.DiscreteBucket.{discrete_try_consume}
 use Rattle.bucket_bytes.specs.ByteBucket.{byte_level, byte_try_consume}
 use Rattle.peer_settings.specs.declared.config.PeerMessagePolicyConfig.{PeerMessagePolicyConfig}
@@ -13,7 +17,6 @@ use Rattle.peer_state.specs.declared.entry.Level.{Level}
 use Rattle.peer_state.specs.declared.entry.ViolationWindow.{ViolationWindow}
 use Rattle.peer_state.specs.declared.entry.PeerMessagePolicyEntry.{PeerMessagePolicyEntry}
 use Rattle.peer_state.specs.declared.ingress.FiberIngressBudget.{FiberIngressBudget}
-use Rattle.peer_state.specs.declared.ingress.Reservation.{Reservation}
 use Rattle.peer_verdict.specs.declared.verdict.Shortage.TheVariants as Shortage
 use Rattle.peer_verdict.specs.declared.verdict.Cause.{Cause}
 use Rattle.peer_verdict.specs.declared.verdict.InvalidCause.TheVariants as InvalidCause
@@ -25,16 +28,16 @@ use Rattle.peer_state.specs.Entry.{level, window_record, entry_ban, entry_used}
 -- ════ The two buckets, on copies ════
 
 -- try_consume, as the Rust's bool: whether the bucket passes
-abbrev pub passes : Consumed → Bool
-passes Consumed.Yes = true
-passes (Consumed.No k) = false
-passes (Consumed.Refused n) = false
+abbrev pub passes : Result (Unit {0}) NotGiven → Bool
+passes (Ok tt) = true
+passes (Err (NotGiven.Short k)) = false
+passes (Err (NotGiven.Refused n)) = false
 
 -- by how much the bucket falls short, where it says no
-abbrev pub missing : Consumed → ℕ
-missing Consumed.Yes = 0
-missing (Consumed.No k) = k
-missing (Consumed.Refused n) = 0
+abbrev pub missing : Result (Unit {0}) NotGiven → ℕ
+missing (Ok tt) = 0
+missing (Err (NotGiven.Short k)) = k
+missing (Err (NotGiven.Refused n)) = 0
 
 -- the message bucket of an entry, and what the entry keeps of it
 abbrev pub message_bucket : PeerMessagePolicyConfig → Level → DiscreteTokenBucket
@@ -59,7 +62,7 @@ bytes_left b = level (natural (value b.available_bytes)) b.last_refill_ms
 -- one message out of the message bucket, which is passed by where the limit is off
 unfoldable pub take_message : PeerMessagePolicyConfig → Level → ℕ → DiscreteConsumed
 take_message c l now =
-    cond (message_limit_disabled c) (record { bucket = message_bucket c l; answer = Consumed.Yes })
+    cond (message_limit_disabled c) (record { state = message_bucket c l; answer = Ok tt })
     (discrete_try_consume (message_bucket c l) now)
 
 -- the message's bytes out of the byte bucket; on plain naturals: `NaturalLaws.try_consume_natural` of bucket_bytes
@@ -118,26 +121,26 @@ violated c i e now cause =
 
 -- both buckets pass, and `charged` is the entry after their takes: the ceiling decides; where it has no room the copies are thrown away,
 -- and no violation is counted
-abbrev pub ceiling_decides : FiberIngressBudget → PeerMessagePolicyEntry → PeerMessagePolicyEntry → Reservation → Decision
-ceiling_decides i e charged (Reservation.Reserved after) = record { cause = Cause.Allowed; entry = charged; ingress = after }
-ceiling_decides i e charged Reservation.NoSlot = record { cause = Cause.Short Shortage.Slot; entry = e; ingress = i }
-ceiling_decides i e charged (Reservation.BytesShort k) = record { cause = Cause.Short (Shortage.CeilingBytes k); entry = e; ingress = i }
-ceiling_decides i e charged (Reservation.Refused n) = record { cause = Cause.Refused n; entry = e; ingress = i }
+abbrev pub ceiling_decides : FiberIngressBudget → PeerMessagePolicyEntry → PeerMessagePolicyEntry → Result FiberIngressBudget NotReserved → Decision
+ceiling_decides i e charged (Ok after) = record { cause = Cause.Allowed; entry = charged; ingress = after }
+ceiling_decides i e charged (Err NotReserved.NoSlot) = record { cause = Cause.Short Shortage.Slot; entry = e; ingress = i }
+ceiling_decides i e charged (Err (NotReserved.BytesShort k)) = record { cause = Cause.Short (Shortage.CeilingBytes k); entry = e; ingress = i }
+ceiling_decides i e charged (Err (NotReserved.Refused n)) = record { cause = Cause.Refused n; entry = e; ingress = i }
 
 -- an entry whose windows are expired and whose last use is now: the message bucket, the byte bucket, the ceiling, in this order; the
 -- room that the ceiling has is given
-abbrev pub weighed_in : PeerMessagePolicyConfig → FiberIngressBudget → PeerMessagePolicyEntry → ℕ → ℕ → Reservation → Decision
+abbrev pub weighed_in : PeerMessagePolicyConfig → FiberIngressBudget → PeerMessagePolicyEntry → ℕ → ℕ → Result FiberIngressBudget NotReserved → Decision
 weighed_in c i e size now reservation =
     let m = take_message c e.messages now
     in let b = take_bytes c e.bytes size now
     in cond (passes m.answer)
     (cond (passes b.answer)
-    (ceiling_decides i e (with_buckets e m.bucket b.bucket) reservation)
+    (ceiling_decides i e (with_buckets e m.state b.state) reservation)
     (violated c i e now (Cause.Short (Shortage.Bytes (missing b.answer)))))
     (violated c i e now (Cause.Short Shortage.Messages))
 
 -- admit on an entry that is not banned, with what the ceiling says to the message
-unfoldable pub decision : PeerMessagePolicyConfig → FiberIngressBudget → PeerMessagePolicyEntry → ℕ → ℕ → Reservation → Decision
+unfoldable pub decision : PeerMessagePolicyConfig → FiberIngressBudget → PeerMessagePolicyEntry → ℕ → ℕ → Result FiberIngressBudget NotReserved → Decision
 decision c i e size now reservation = weighed_in c i (entry_used e now c.ban_duration_ms) size now reservation
 
 -- an invalid message counted on an entry whose windows are expired and whose last use is now

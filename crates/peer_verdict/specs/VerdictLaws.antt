@@ -3,13 +3,16 @@ use Rattle.std.specs.Prelude.{◌≡◌, refl, true, false, ℕ, ◌≤◌}
 use Rattle.std.proofs.Common.{subst}
 use Rattle.std.proofs.Math.Bool.{and-eq-true_iff}
 use Rattle.std.proofs.lemmas.Bool.{not-true}
+use Rattle.std.specs.Prelude.{Result, Ok, Err}
+use Rattle.refusal.specs.declared.Refusal.{Refusal}
+use Rattle.peer_state.specs.declared.ingress.NotReserved.{NotReserved}
+use Rattle.peer_state.specs.declared.ingress.NotReserved.TheVariants as NotReserved
 use Rattle.truths.specs.TruthLaws.{chosen}
-use Rattle.refusal.specs.Refusal.{overflow}
+use Rattle.refusal.specs.declared.Refusal.TheVariants as Refusal
 use Rattle.peer_settings.specs.declared.config.PeerMessagePolicyConfig.{PeerMessagePolicyConfig}
 use Rattle.peer_state.specs.declared.entry.ViolationWindow.{ViolationWindow}
 use Rattle.peer_state.specs.declared.entry.PeerMessagePolicyEntry.{PeerMessagePolicyEntry}
 use Rattle.peer_state.specs.declared.ingress.FiberIngressBudget.{FiberIngressBudget}
-use Rattle.peer_state.specs.declared.ingress.Reservation.{Reservation}
 use Rattle.peer_verdict.specs.declared.verdict.Shortage.TheVariants as Shortage
 use Rattle.peer_verdict.specs.declared.verdict.Cause.{Cause}
 use Rattle.peer_verdict.specs.declared.verdict.InvalidCause.TheVariants as InvalidCause
@@ -49,7 +52,7 @@ invalid_counted c e now = window_record e.invalid_messages now c.ban_duration_ms
 
 -- the entry with both buckets charged
 abbrev pub both_charged : PeerMessagePolicyConfig → PeerMessagePolicyEntry → ℕ → ℕ → PeerMessagePolicyEntry
-both_charged c e size now = with_buckets e (take_message c e.messages now).bucket (take_bytes c e.bytes size now).bucket
+both_charged c e size now = with_buckets e (take_message c e.messages now).state (take_bytes c e.bytes size now).state
 
 -- a ban begun on an entry
 abbrev pub ban_begun : PeerMessagePolicyConfig → FiberIngressBudget → PeerMessagePolicyEntry → ℕ → Decision
@@ -61,7 +64,7 @@ module _ (P : Decision → Type 0) (c : PeerMessagePolicyConfig) (i : FiberIngre
   unfolding violated
   violated_ways now cause begun counted = chosen P (reaches_ban c (rate_counted c e now)) begun counted
 
-  pub weighed_in_ways : (size now : ℕ) (reservation : Reservation)
+  pub weighed_in_ways : (size now : ℕ) (reservation : Result FiberIngressBudget NotReserved)
       → (passes (take_message c e.messages now).answer ≡ false → P (violated c i e now (Cause.Short Shortage.Messages)))
       → (passes (take_message c e.messages now).answer ≡ true → passes (take_bytes c e.bytes size now).answer ≡ false
       → P (violated c i e now (Cause.Short (Shortage.Bytes (missing (take_bytes c e.bytes size now).answer)))))
@@ -110,13 +113,13 @@ noted_holds c e now h =
     in
     noted_ways (λ d. EntryHolds c d.entry) c e now (λ t. ban_holds now c.ban_duration_ms counted) (λ t. counted)
 
-ceiling_holds : {c : PeerMessagePolicyConfig} (i : FiberIngressBudget) {e charged : PeerMessagePolicyEntry} (r : Reservation) → EntryHolds c e → EntryHolds c charged → Keeps c (ceiling_decides i e charged r)
-ceiling_holds i (Reservation.Reserved after) h taken = taken
-ceiling_holds i Reservation.NoSlot h taken = h
-ceiling_holds i (Reservation.BytesShort k) h taken = h
-ceiling_holds i (Reservation.Refused n) h taken = h
+ceiling_holds : {c : PeerMessagePolicyConfig} (i : FiberIngressBudget) {e charged : PeerMessagePolicyEntry} (r : Result FiberIngressBudget NotReserved) → EntryHolds c e → EntryHolds c charged → Keeps c (ceiling_decides i e charged r)
+ceiling_holds i (Ok after) h taken = taken
+ceiling_holds i (Err NotReserved.NoSlot) h taken = h
+ceiling_holds i (Err (NotReserved.BytesShort k)) h taken = h
+ceiling_holds i (Err (NotReserved.Refused n)) h taken = h
 
-weighed_holds : (c : PeerMessagePolicyConfig) (i : FiberIngressBudget) (e : PeerMessagePolicyEntry) (size now : ℕ) (reservation : Reservation) → EntryHolds c e → Keeps c (weighed_in c i e size now reservation)
+weighed_holds : (c : PeerMessagePolicyConfig) (i : FiberIngressBudget) (e : PeerMessagePolicyEntry) (size now : ℕ) (reservation : Result FiberIngressBudget NotReserved) → EntryHolds c e → Keeps c (weighed_in c i e size now reservation)
 weighed_holds c i e size now reservation h =
     weighed_in_ways (Keeps c) c i e size now reservation
     (λ m. violated_holds c i e now (Cause.Short Shortage.Messages) h)
@@ -131,7 +134,7 @@ weighed_holds c i e size now reservation h =
       ban = h.ban;
     }))
 
-pub decision_sound : (c : PeerMessagePolicyConfig) (i : FiberIngressBudget) (e : PeerMessagePolicyEntry) (size now : ℕ) (reservation : Reservation) → entry_sound c e ≡ true → entry_sound c (decision c i e size now reservation).entry ≡ true
+pub decision_sound : (c : PeerMessagePolicyConfig) (i : FiberIngressBudget) (e : PeerMessagePolicyEntry) (size now : ℕ) (reservation : Result FiberIngressBudget NotReserved) → entry_sound c e ≡ true → entry_sound c (decision c i e size now reservation).entry ≡ true
 unfolding decision
 decision_sound c i e size now reservation h =
     let used = entry_used e now c.ban_duration_ms in
@@ -154,7 +157,7 @@ CauseHolds c (Cause.Short Shortage.Slot) = unlimited c ≡ false
 CauseHolds c (Cause.Short (Shortage.CeilingBytes k)) = (unlimited c ≡ false) × (1 ≤ k)
 CauseHolds c Cause.LiveBan = ⊥
 CauseHolds c Cause.BanBegun = ban_disabled c ≡ false
-CauseHolds c (Cause.Refused n) = (unlimited c ≡ true) × (n ≡ overflow)
+CauseHolds c (Cause.Refused n) = (unlimited c ≡ true) × (n ≡ Refusal.Overflow)
 
 abbrev pub NotAllowed : Cause → Type 0
 NotAllowed Cause.Allowed = ⊥
@@ -206,22 +209,22 @@ violated_orderly c i e size now cause holds n =
     kept_orderly (banning c (rate_counted c e now) t) tt (record { messages = refl; bytes = refl; ingress = refl }))
     (λ t. kept_orderly holds n (record { messages = refl; bytes = refl; ingress = refl }))
 
-ceiling_orderly : (c : PeerMessagePolicyConfig) (i : FiberIngressBudget) (e : PeerMessagePolicyEntry) (size now : ℕ) → passes (take_message c e.messages now).answer ≡ true → passes (take_bytes c e.bytes size now).answer ≡ true → (r : Reservation) → ReservationHolds c i size r → Orderly c i e size now (ceiling_decides i e (both_charged c e size now) r)
-ceiling_orderly c i e size now m b (Reservation.Reserved after) h =
+ceiling_orderly : (c : PeerMessagePolicyConfig) (i : FiberIngressBudget) (e : PeerMessagePolicyEntry) (size now : ℕ) → passes (take_message c e.messages now).answer ≡ true → passes (take_bytes c e.bytes size now).answer ≡ true → (r : Result FiberIngressBudget NotReserved) → ReservationHolds c i size r → Orderly c i e size now (ceiling_decides i e (both_charged c e size now) r)
+ceiling_orderly c i e size now m b (Ok after) h =
     record {
       cause = tt;
       load = h.1;
       allowed = λ q. record { messages = m; bytes = b; entry = refl; ingress = h.0 };
       other = λ n. absurd n;
     }
-ceiling_orderly c i e size now m b Reservation.NoSlot h =
+ceiling_orderly c i e size now m b (Err NotReserved.NoSlot) h =
     kept_orderly h tt (record { messages = refl; bytes = refl; ingress = refl })
-ceiling_orderly c i e size now m b (Reservation.BytesShort k) h =
+ceiling_orderly c i e size now m b (Err (NotReserved.BytesShort k)) h =
     kept_orderly h tt (record { messages = refl; bytes = refl; ingress = refl })
-ceiling_orderly c i e size now m b (Reservation.Refused n) h =
+ceiling_orderly c i e size now m b (Err (NotReserved.Refused n)) h =
     kept_orderly h tt (record { messages = refl; bytes = refl; ingress = refl })
 
-weighed_orderly : (c : PeerMessagePolicyConfig) (i : FiberIngressBudget) (e : PeerMessagePolicyEntry) (size now : ℕ) (reservation : Reservation) → ReservationHolds c i size reservation → Orderly c i e size now (weighed_in c i e size now reservation)
+weighed_orderly : (c : PeerMessagePolicyConfig) (i : FiberIngressBudget) (e : PeerMessagePolicyEntry) (size now : ℕ) (reservation : Result FiberIngressBudget NotReserved) → ReservationHolds c i size reservation → Orderly c i e size now (weighed_in c i e size now reservation)
 weighed_orderly c i e size now reservation holds =
     weighed_in_ways (Orderly c i e size now) c i e size now reservation
     (λ m. violated_orderly c i e size now (Cause.Short Shortage.Messages) tt tt)
@@ -229,7 +232,7 @@ weighed_orderly c i e size now reservation holds =
     (λ m b. ceiling_orderly c i e size now m b reservation holds)
 
 -- of a verdict on a message, with the entry as it finds it
-module _ (c : PeerMessagePolicyConfig) (i : FiberIngressBudget) (e : PeerMessagePolicyEntry) (size now : ℕ) (reservation : Reservation) (holds : ReservationHolds c i size reservation) where
+module _ (c : PeerMessagePolicyConfig) (i : FiberIngressBudget) (e : PeerMessagePolicyEntry) (size now : ℕ) (reservation : Result FiberIngressBudget NotReserved) (holds : ReservationHolds c i size reservation) where
   pub decision_orderly : Orderly c i (entry_used e now c.ban_duration_ms) size now (decision c i e size now reservation)
   unfolding decision
   decision_orderly = weighed_orderly c i (entry_used e now c.ban_duration_ms) size now reservation holds
@@ -243,5 +246,5 @@ module _ (c : PeerMessagePolicyConfig) (i : FiberIngressBudget) (e : PeerMessage
   decision_no_live_ban h = subst (CauseHolds c) h decision_orderly.cause
 
   -- the one refusal is 4, and the load overflows its numbers only where there is no ceiling
-  pub decision_refused : {n : ℕ} → (decision c i e size now reservation).cause ≡ Cause.Refused n → (unlimited c ≡ true) × (n ≡ overflow)
+  pub decision_refused : {n : Refusal} → (decision c i e size now reservation).cause ≡ Cause.Refused n → (unlimited c ≡ true) × (n ≡ Refusal.Overflow)
   decision_refused h = subst (CauseHolds c) h decision_orderly.cause

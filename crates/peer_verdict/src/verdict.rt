@@ -2,20 +2,21 @@
 ghost use Rattle.std.specs.Prelude.{◌≡◌, true, ◌≤◌, ◌<◌};
 ghost use Rattle.amount.specs.Amount.{value, natural};
 ghost use Rattle.peer_state.specs.Entry.{entry_sound};
-ghost use Rattle.peer_verdict.specs.Verdict.{passes, missing, take_message, take_bytes, with_rate_window, with_invalid_window, with_buckets};
+ghost use Rattle.peer_verdict.specs.Verdict.{take_message, take_bytes, with_buckets};
 ghost use Rattle.peer_verdict.specs.Verdict.{reaches_ban, violated, ceiling_decides, decision, invalid_decision, refuses};
 
 use amount::Amount;
+use bucket_terms::answer::NotGiven;
 use peer_settings::config::PeerMessagePolicyConfig;
 use peer_state::entry::{Level, PeerMessagePolicyEntry, ViolationWindow};
-use peer_state::ingress::{FiberIngressBudget, Reservation};
-use token_bucket::answer::Consumed;
+use peer_state::ingress::{FiberIngressBudget, NotReserved};
+use refusal::{Answered, Refusal};
 use token_bucket::bytes::{ByteConsumed, ByteRateLimitConfig, ByteTokenBucket};
 use token_bucket::discrete::{DiscreteConsumed, DiscreteTokenBucket};
 
 // Which limit ran short, in the order in which they decide: the message bucket by one message, the byte bucket by bytes beyond
 // what is left in it, the ceiling by one slot or by bytes beyond what is left under it.
-#[derive(Clone, Copy)]
+#[derive(Clone, Copy, Debug, PartialEq, Eq)]
 pub enum Shortage {
     Messages,
     Bytes(u64),
@@ -25,26 +26,35 @@ pub enum Shortage {
 
 // Why a message is admitted or not: a limit ran short, its sender is banned, since an earlier call or from now on, or the call is
 // refused with this number.
-#[derive(Clone, Copy)]
+#[derive(Clone, Copy, Debug, PartialEq, Eq)]
 pub enum Cause {
     Allowed,
     Short(Shortage),
     LiveBan,
     BanBegun,
-    Refused(u32),
+    Refused(Refusal),
+}
+
+impl Cause {
+    // Whether it is a refusal.
+    pub fn refuses(self) -> bool
+        ensures { result ≡ refuses self }
+    {
+        matches!(self, Cause::Refused(_))
+    }
 }
 
 // Why the sender of an invalid message is banned or not.
-#[derive(Clone, Copy)]
+#[derive(Clone, Copy, Debug, PartialEq, Eq)]
 pub enum InvalidCause {
     Noted,
     LiveBan,
     BanBegun,
-    Refused(u32),
+    Refused(Refusal),
 }
 
 // The cause, the entry as it is to be stored, and the load in flight.
-#[derive(Clone, Copy)]
+#[derive(Clone, Copy, Debug, PartialEq, Eq)]
 pub struct Decision {
     pub cause: Cause,
     pub entry: PeerMessagePolicyEntry,
@@ -52,33 +62,14 @@ pub struct Decision {
 }
 
 // Of an invalid message: the cause, and the entry as it is to be stored. It leaves the load in flight.
-#[derive(Clone, Copy)]
+#[derive(Clone, Copy, Debug, PartialEq, Eq)]
 pub struct InvalidDecision {
     pub cause: InvalidCause,
     pub entry: PeerMessagePolicyEntry,
 }
 
-fn passes(answer: Consumed) -> bool
-    ensures { result ≡ passes answer }
-{
-    match answer {
-        Consumed::Yes => true,
-        Consumed::No(_) => false,
-        Consumed::Refused(_) => false,
-    }
-}
-
-fn missing(answer: Consumed) -> u64
-    ensures { result ≡ missing answer }
-{
-    match answer {
-        Consumed::Yes => 0,
-        Consumed::No(short) => short,
-        Consumed::Refused(_) => 0,
-    }
-}
-
 // One message out of the message bucket. Where the limit is off the bucket is passed by: it would say no once it is empty.
+#[tactic(auto, unfolding(crate::specs::Verdict::take_message, bucket_discrete::specs::DiscreteBucket::DiscreteTryConsumeMeets))]
 fn take_message(config: PeerMessagePolicyConfig, level: Level, now_ms: u64) -> DiscreteConsumed
     requires { level.available ≤ config.peer_message_burst }
     ensures { result ≡ take_message config level now_ms }
@@ -90,9 +81,9 @@ fn take_message(config: PeerMessagePolicyConfig, level: Level, now_ms: u64) -> D
         last_refill_ms: level.last_refill_ms,
     };
     if config.message_limit_disabled() {
-        return DiscreteConsumed {
-            bucket,
-            answer: Consumed::Yes,
+        return Answered {
+            state: bucket,
+            answer: Ok(()),
         };
     }
     bucket.try_consume(now_ms)
@@ -114,40 +105,6 @@ fn take_bytes(config: PeerMessagePolicyConfig, level: Level, size: u64, now_ms: 
     bucket.try_consume(size, now_ms)
 }
 
-fn with_rate_window(e: PeerMessagePolicyEntry, w: ViolationWindow) -> PeerMessagePolicyEntry
-    ensures { result ≡ with_rate_window e w }
-{
-    let messages = e.messages;
-    let bytes = e.bytes;
-    let invalid_messages = e.invalid_messages;
-    let ban = e.ban;
-    PeerMessagePolicyEntry {
-        messages,
-        bytes,
-        rate_limit_violations: w,
-        invalid_messages,
-        ban,
-        last_used_ms: e.last_used_ms,
-    }
-}
-
-fn with_invalid_window(e: PeerMessagePolicyEntry, w: ViolationWindow) -> PeerMessagePolicyEntry
-    ensures { result ≡ with_invalid_window e w }
-{
-    let messages = e.messages;
-    let bytes = e.bytes;
-    let rate_limit_violations = e.rate_limit_violations;
-    let ban = e.ban;
-    PeerMessagePolicyEntry {
-        messages,
-        bytes,
-        rate_limit_violations,
-        invalid_messages: w,
-        ban,
-        last_used_ms: e.last_used_ms,
-    }
-}
-
 // The entry with the charged copies of its buckets; what they hold fits a u64.
 fn with_buckets(
     e: PeerMessagePolicyEntry,
@@ -157,23 +114,16 @@ fn with_buckets(
     requires { natural (value bytes.available_bytes) < 18446744073709551616 }
     ensures { result ≡ with_buckets e messages bytes }
 {
-    let available_bytes = bytes.available_bytes;
-    let rate_limit_violations = e.rate_limit_violations;
-    let invalid_messages = e.invalid_messages;
-    let ban = e.ban;
     PeerMessagePolicyEntry {
         messages: Level {
             available: messages.available as u64,
             last_refill_ms: messages.last_refill_ms,
         },
         bytes: Level {
-            available: available_bytes.to_u64(),
+            available: bytes.available_bytes.to_u64(),
             last_refill_ms: bytes.last_refill_ms,
         },
-        rate_limit_violations,
-        invalid_messages,
-        ban,
-        last_used_ms: e.last_used_ms,
+        ..e
     }
 }
 
@@ -184,6 +134,7 @@ fn reaches_ban(config: PeerMessagePolicyConfig, w: ViolationWindow) -> bool
 }
 
 // A bucket fell short: the violation is counted, and may begin a ban. The buckets stay as they were.
+#[tactic(auto, unfolding(crate::specs::Verdict::violated))]
 fn violated(
     config: PeerMessagePolicyConfig,
     ingress: FiberIngressBudget,
@@ -193,14 +144,17 @@ fn violated(
 ) -> Decision
     ensures { result ≡ violated config ingress entry now_ms cause }
 {
-    let window = entry.rate_limit_violations;
-    let counted = window.record(now_ms, config.ban_duration_ms);
-    let noticed = with_rate_window(entry, counted);
+    let counted = entry
+        .rate_limit_violations
+        .record(now_ms, config.ban_duration_ms);
+    let noticed = PeerMessagePolicyEntry {
+        rate_limit_violations: counted,
+        ..entry
+    };
     if reaches_ban(config, counted) {
-        let banned = noticed.ban(now_ms, config.ban_duration_ms);
         return Decision {
             cause: Cause::BanBegun,
-            entry: banned,
+            entry: noticed.ban(now_ms, config.ban_duration_ms),
             ingress,
         };
     }
@@ -217,28 +171,28 @@ fn ceiling_decides(
     entry: PeerMessagePolicyEntry,
     messages: DiscreteTokenBucket,
     bytes: ByteTokenBucket,
-    reservation: Reservation,
+    reservation: Result<FiberIngressBudget, NotReserved>,
 ) -> Decision
     requires { natural (value bytes.available_bytes) < 18446744073709551616 }
     ensures { result ≡ ceiling_decides ingress entry (with_buckets entry messages bytes) reservation }
 {
     match reservation {
-        Reservation::Reserved(after) => Decision {
+        Ok(after) => Decision {
             cause: Cause::Allowed,
             entry: with_buckets(entry, messages, bytes),
             ingress: after,
         },
-        Reservation::NoSlot => Decision {
+        Err(NotReserved::NoSlot) => Decision {
             cause: Cause::Short(Shortage::Slot),
             entry,
             ingress,
         },
-        Reservation::BytesShort(short) => Decision {
+        Err(NotReserved::BytesShort(short)) => Decision {
             cause: Cause::Short(Shortage::CeilingBytes(short)),
             entry,
             ingress,
         },
-        Reservation::Refused(number) => Decision {
+        Err(NotReserved::Refused(number)) => Decision {
             cause: Cause::Refused(number),
             entry,
             ingress,
@@ -247,22 +201,21 @@ fn ceiling_decides(
 }
 
 // A message on an entry that is not banned: the message bucket, then the byte bucket, then the ceiling, whose answer is given.
+#[tactic(auto, unfolding(crate::specs::Verdict::decision))]
 pub fn decide(
     config: PeerMessagePolicyConfig,
     ingress: FiberIngressBudget,
     entry: PeerMessagePolicyEntry,
     size: u64,
     now_ms: u64,
-    reservation: Reservation,
+    reservation: Result<FiberIngressBudget, NotReserved>,
 ) -> Decision
     requires { entry_sound config entry ≡ true }
     ensures { result ≡ decision config ingress entry size now_ms reservation }
 {
     let used = entry.used(now_ms, config.ban_duration_ms);
-    let message_level = used.messages;
-    let messages = take_message(config, message_level, now_ms);
-    let message_answer = messages.answer;
-    if !passes(message_answer) {
+    let messages = take_message(config, used.messages, now_ms);
+    if messages.answer.is_err() {
         return violated(
             config,
             ingress,
@@ -271,19 +224,19 @@ pub fn decide(
             Cause::Short(Shortage::Messages),
         );
     }
-    let byte_level = used.bytes;
-    let bytes = take_bytes(config, byte_level, size, now_ms);
-    let byte_answer = bytes.answer;
-    if !passes(byte_answer) {
-        let cause = Cause::Short(Shortage::Bytes(missing(byte_answer)));
-        return violated(config, ingress, used, now_ms, cause);
-    }
-    let message_bucket = messages.bucket;
-    let byte_bucket = bytes.bucket;
-    ceiling_decides(ingress, used, message_bucket, byte_bucket, reservation)
+    let bytes = take_bytes(config, used.bytes, size, now_ms);
+    let short = match bytes.answer {
+        Ok(()) => return ceiling_decides(ingress, used, messages.state, bytes.state, reservation),
+        Err(NotGiven::Short(short)) => short,
+        // never: the level makes a sound bucket
+        Err(NotGiven::Refused(_)) => 0,
+    };
+    let cause = Cause::Short(Shortage::Bytes(short));
+    violated(config, ingress, used, now_ms, cause)
 }
 
 // An invalid message on an entry that is not banned: it is counted in a window of its own, and may begin a ban too.
+#[tactic(auto, unfolding(crate::specs::Verdict::noted, crate::specs::Verdict::invalid_decision))]
 pub fn decide_invalid(
     config: PeerMessagePolicyConfig,
     entry: PeerMessagePolicyEntry,
@@ -292,31 +245,19 @@ pub fn decide_invalid(
     ensures { result ≡ invalid_decision config entry now_ms }
 {
     let used = entry.used(now_ms, config.ban_duration_ms);
-    let window = used.invalid_messages;
-    let counted = window.record(now_ms, config.ban_duration_ms);
-    let noticed = with_invalid_window(used, counted);
+    let counted = used.invalid_messages.record(now_ms, config.ban_duration_ms);
+    let noticed = PeerMessagePolicyEntry {
+        invalid_messages: counted,
+        ..used
+    };
     if reaches_ban(config, counted) {
-        let banned = noticed.ban(now_ms, config.ban_duration_ms);
         return InvalidDecision {
             cause: InvalidCause::BanBegun,
-            entry: banned,
+            entry: noticed.ban(now_ms, config.ban_duration_ms),
         };
     }
     InvalidDecision {
         cause: InvalidCause::Noted,
         entry: noticed,
-    }
-}
-
-// Whether a cause is a refusal.
-pub fn refuses(cause: Cause) -> bool
-    ensures { result ≡ refuses cause }
-{
-    match cause {
-        Cause::Allowed => false,
-        Cause::Short(_) => false,
-        Cause::LiveBan => false,
-        Cause::BanBegun => false,
-        Cause::Refused(_) => true,
     }
 }

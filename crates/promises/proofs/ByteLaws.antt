@@ -6,9 +6,9 @@ use Rattle.std.proofs.Common.{◌∙◌, mul_comm, mul-le-mul_left, arith}
 use Rattle.std.proofs.Math.Bool.{true, false}
 use Rattle.std.proofs.lemmas.Bool.{false≢true}
 use Rattle.std.proofs.Math.Nat.{mul-sub}
+use Rattle.std.specs.Prelude.{Ok}
 use borrow.Author.Tests.{leb-true, ltb-false, le-ltb}
 use Rattle.truths.specs.TruthLaws.{by_test}
-use Rattle.bucket_terms.specs.declared.answer.Consumed.TheVariants as Consumed
 use Rattle.bucket_terms.specs.Limit.{byte_disabled}
 use Rattle.bucket_bytes.specs.ByteBucket.{byte_try_consume}
 use Rattle.bucket_bytes.specs.Natural.{refilled_to, refilled_at, natural_take}
@@ -55,7 +55,7 @@ module _ (c : PeerMessagePolicyConfig) (config : ConfigFits c) (on : byte_disabl
       ∙ rw (refilled_same c.peer_message_rate_bytes_per_sec c.peer_message_burst_bytes b.available b.last_refill_ms now fits, refilled_when_lem b.last_refill_ms now later)
 
   -- enough is there: so much is left
-  pub takes : size ≤ refilled c b now → take_bytes c b size now ≡ record { bucket = byte_bucket c (level (refilled c b now - size) now); answer = Consumed.Yes }
+  pub takes : size ≤ refilled c b now → take_bytes c b size now ≡ record { state = byte_bucket c (level (refilled c b now - size) now); answer = Ok tt }
   unfolding take_bytes
   takes enough = rw (consumed, le-ltb (refilled c b now) size enough)
 
@@ -111,7 +111,7 @@ module _ (c : PeerMessagePolicyConfig) (config : ConfigFits c) (on : byte_disabl
   after_last : b.last_refill_ms ≤ z.time
   after_last = rw fair.last later
 
-  takes_it : z.size ≤ refilled c b z.time → take_bytes c b z.size z.time ≡ record { bucket = byte_bucket c (level (refilled c b z.time - z.size) z.time); answer = Consumed.Yes }
+  takes_it : z.size ≤ refilled c b z.time → take_bytes c b z.size z.time ≡ record { state = byte_bucket c (level (refilled c b z.time - z.size) z.time); answer = Ok tt }
   takes_it = takes c config on b z.size z.time fair.bounded.within_capacity size_fits after_last
 
   leaves_it : bytes_left (byte_bucket c (level (refilled c b z.time - z.size) z.time)) ≡ level (refilled c b z.time - z.size) z.time
@@ -128,7 +128,7 @@ module _ (c : PeerMessagePolicyConfig) (config : ConfigFits c) (on : byte_disabl
       by_log (y ∷ l) = not_less c.peer_message_rate_bytes_per_sec y.time z.time
 
   -- an Allow
-  pub bytes_next : passes (take_bytes c b z.size z.time).answer ≡ true → FairBytes c (bytes_left (take_bytes c b z.size z.time).bucket) (z ∷ log)
+  pub bytes_next : passes (take_bytes c b z.size z.time).answer ≡ true → FairBytes c (bytes_left (take_bytes c b z.size z.time).state) (z ∷ log)
   bytes_next allowed =
       let there = enough c config on b z.size z.time fair.bounded.within_capacity size_fits after_last allowed in
       rw (takes_it there, leaves_it)

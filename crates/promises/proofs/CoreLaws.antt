@@ -4,6 +4,9 @@
 use Rattle.std.specs.Prelude.{◌≡◌, true, false, ℕ, ◌^◌, ◌<◌, ◌≤◌}
 use Rattle.std.proofs.Math.Path.{refl, subst}
 use Rattle.std.proofs.Common.{sym, le_trans}
+use Rattle.std.specs.Prelude.{Result}
+use Rattle.peer_state.specs.declared.ingress.NotReserved.{NotReserved}
+use Rattle.peer_state.specs.declared.ingress.FiberIngressBudget.{FiberIngressBudget}
 use mathlib.Core.List.{List, [], ◌∷◌}
 use Rattle.std.proofs.Math.Option.{Option, none, some}
 use native.Mathlib.Omega.{arith}
@@ -13,7 +16,6 @@ use Rattle.refusal.specs.Refusal.{Said, gives, refused}
 use Rattle.table.specs.Table.{look, ascending}
 use Rattle.peer_settings.specs.declared.config.PeerMessagePolicyConfig.{PeerMessagePolicyConfig}
 use Rattle.peer_state.specs.declared.entry.PeerMessagePolicyEntry.{PeerMessagePolicyEntry}
-use Rattle.peer_state.specs.declared.ingress.Reservation.{Reservation}
 use Rattle.peer_settings.specs.Fits.{ConfigFits}
 use Rattle.peer_state.specs.Entry.{level}
 use Rattle.peer_rows.specs.Rows.{Peers}
@@ -64,7 +66,7 @@ module _ {c : PeerMessagePolicyConfig} (fits : ConfigFits c) (k : Pubkey) where
   pub least : (h : List CoreCall) → Sized h → ShieldedIn k (trail_of c h) → (size now : ℕ) → size < 2 ^ 64
       → last_used (look k.bytes (after c h)) ≤ now → Policy.is_banned (look k.bytes (after c h)) now ≡ false
       → Within c now size (log_for (look k.bytes (after c h)) now (log_in k (trail_of c h)))
-      → (reservation : Reservation) → says_in c (admit k size now reservation) (after c h) ≡ ceiling_says reservation
+      → (reservation : Result FiberIngressBudget NotReserved) → says_in c (admit k size now reservation) (after c h) ≡ ceiling_says reservation
   least h sized shield size now size_fits used free within reservation =
       least_here c fits size now size_fits reservation k (after c h) (log_in k (trail_of c h)) (fair h sized shield) used free within
 

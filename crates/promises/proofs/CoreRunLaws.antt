@@ -4,6 +4,7 @@ use Rattle.std.specs.Prelude.{◌≡◌, Bool, true, false, cond, List, [], ℕ}
 use Rattle.std.proofs.Math.Path.{refl, sym, ap}
 use Rattle.std.proofs.Common.{subst, ◌∙◌}
 use Rattle.std.proofs.Math.Option.{Option}
+use Rattle.std.specs.Prelude.{Ok}
 use Rattle.pubkey.specs.declared.Pubkey.{Pubkey}
 use Rattle.refusal.specs.Refusal.{Said}
 use Rattle.table.specs.Table.{look}
@@ -20,7 +21,6 @@ use Rattle.peer_verdict.specs.Verdict.{invalid_decision, refuses}
 use Rattle.peer_verdict.specs.Causes.{cause_says, invalid_cause_says}
 use Rattle.peer_rows.specs.Rows.{Peers}
 use Rattle.peer_message_policy.specs.declared.policy.PeerMessagePolicy.{PeerMessagePolicy}
-use Rattle.peer_message_policy.specs.declared.answer.Made.TheVariants as Made
 use Rattle.peer_message_policy.specs.Policy
 use Rattle.peer_message_policy.specs.Policy.{rows_of, Turn, carried_out, noted_down, Update, banned, update, turn_of, entry_for_update, is_banned_change}
 use Rattle.peer_message_policy.specs.Calls.{changed_rows, policy_after, fresh, admission_says, invalid_says, standing_of, standing_says, changed_says, NewMeets, IsBannedMeets, OnDisconnectedMeets}
@@ -163,7 +163,7 @@ step_core {c} s here call said t fits step =
 -- ════ Runs ════
 
 -- a fresh policy has no row
-made_rows : (c : PeerMessagePolicyConfig) (before left : List ℕ) (q : PeerMessagePolicy) → NewMeets c before (Made.Policy q) left
+made_rows : (c : PeerMessagePolicyConfig) (before left : List ℕ) (q : PeerMessagePolicy) → NewMeets c before (Ok q) left
     → rows_of q left ≡ []
 unfolding rows
 made_rows c before left q m = ap (λ x. rows_of x left) (new_fresh c before left q m).is_fresh

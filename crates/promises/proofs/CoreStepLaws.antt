@@ -5,6 +5,9 @@ use Rattle.std.specs.Prelude.{◌≡◌, true, false, List, [], ◌∷◌, ◌�
 use Rattle.std.proofs.Math.Path.{refl, subst}
 use Rattle.std.proofs.Common.{sym, ap, subst₂, ◌∙◌, inl, inr, ⊎_elim, arith}
 use Rattle.std.proofs.Math.Option.{Option, none, some}
+use Rattle.std.specs.Prelude.{Result}
+use Rattle.peer_state.specs.declared.ingress.NotReserved.{NotReserved}
+use Rattle.peer_state.specs.declared.ingress.FiberIngressBudget.{FiberIngressBudget}
 use Rattle.truths.specs.TruthLaws.{by_test, true_is_not_false}
 use Rattle.pubkey.specs.declared.Pubkey.{Pubkey}
 use Rattle.pubkey.specs.Order.{compare_bytes}
@@ -14,7 +17,6 @@ use Rattle.table.specs.Table.{look, ascending}
 use Rattle.table.specs.TableLaws.{by_answer}
 use Rattle.peer_settings.specs.declared.config.PeerMessagePolicyConfig.{PeerMessagePolicyConfig}
 use Rattle.peer_state.specs.declared.entry.PeerMessagePolicyEntry.{PeerMessagePolicyEntry}
-use Rattle.peer_state.specs.declared.ingress.Reservation.{Reservation}
 use Rattle.peer_verdict.specs.declared.verdict.Shortage.TheVariants as Shortage
 use Rattle.peer_verdict.specs.declared.verdict.Cause.{Cause}
 use Rattle.peer_verdict.specs.declared.verdict.InvalidCause.{InvalidCause}
@@ -65,7 +67,7 @@ module _ (c : PeerMessagePolicyConfig) (fits : ConfigFits c) where
 
 -- ════ The lower bound ════
 
-module _ (c : PeerMessagePolicyConfig) (fits : ConfigFits c) (size now : ℕ) (size_fits : size < 2 ^ 64) (reservation : Reservation) where
+module _ (c : PeerMessagePolicyConfig) (fits : ConfigFits c) (size now : ℕ) (size_fits : size < 2 ^ 64) (reservation : Result FiberIngressBudget NotReserved) where
   -- within the smaller allowance both buckets of the entry that a call lands on pass, and the ceiling decides
   passes_says : (found : Option PeerMessagePolicyEntry) (e : PeerMessagePolicyEntry) (log : List Allow) → Lands c now found e → EntryFair c found log
       → last_used found ≤ now → Within c now size (log_for found now log) → cause_says (admits c size now reservation e).cause ≡ ceiling_says reservation
@@ -104,7 +106,7 @@ refused_either (Cause.Short Shortage.Slot) = inr (refl, (_, refl))
 refused_either (Cause.Short (Shortage.CeilingBytes k)) = inr (refl, (_, refl))
 refused_either Cause.LiveBan = inr (refl, (_, refl))
 refused_either Cause.BanBegun = inr (refl, (_, refl))
-refused_either (Cause.Refused n) = inl (refl, (n, refl))
+refused_either (Cause.Refused n) = inl (refl, (_, refl))
 
 module _ (c : PeerMessagePolicyConfig) (fits : ConfigFits c) where
   -- under a live ban nothing changes, and the log is that of the same life
@@ -113,7 +115,7 @@ module _ (c : PeerMessagePolicyConfig) (fits : ConfigFits c) where
   live_fair now found left e log q ban same_entry h =
       rw (same_entry, q, live_not_spent e now ban) (subst (λ o. EntryFair c o log) q h)
 
-  module _ (size now : ℕ) (size_fits : size < 2 ^ 64) (reservation : Reservation) where
+  module _ (size now : ℕ) (size_fits : size < 2 ^ 64) (reservation : Result FiberIngressBudget NotReserved) where
     abbrev asked : Allow
     asked = record { time = now; size = size }
 
@@ -184,7 +186,7 @@ left_in c k rs call = look k.bytes (changed_rows rs (change_in c call rs))
 
 module _ (c : PeerMessagePolicyConfig) (k : Pubkey) (rs : Peers) where
   -- an admit and a record_invalid of the peer's own
-  pub own_here : (peer : Pubkey) (size now : ℕ) (reservation : Reservation) → k ≡ peer
+  pub own_here : (peer : Pubkey) (size now : ℕ) (reservation : Result FiberIngressBudget NotReserved) → k ≡ peer
       → Own c now (admits c size now reservation) (look k.bytes rs) (left_in c k rs (admit peer size now reservation)) (message_turn c peer size now reservation rs).cause
   own_here peer size now reservation q =
       subst (λ (x : Pubkey). Own c now (admits c size now reservation) (look x.bytes rs) (left_in c x rs (admit peer size now reservation)) (message_turn c peer size now reservation rs).cause)
@@ -198,7 +200,7 @@ module _ (c : PeerMessagePolicyConfig) (k : Pubkey) (rs : Peers) where
 
   module _ (order : ascending rs ≡ true) where
     -- an admit and a record_invalid of another peer
-    pub other_here : (peer : Pubkey) (size now : ℕ) (reservation : Reservation) → same_key k peer ≡ false
+    pub other_here : (peer : Pubkey) (size now : ℕ) (reservation : Result FiberIngressBudget NotReserved) → same_key k peer ≡ false
         → Fate (look k.bytes rs) (left_in c k rs (admit peer size now reservation))
     other_here peer size now reservation other =
         message_fate k.bytes peer.bytes (other_key k peer other) rs order c idle (admits c size now reservation) now

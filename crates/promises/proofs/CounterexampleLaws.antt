@@ -42,7 +42,7 @@ one_in_two =
 pub gap_rule : (message_limit_disabled one_in_two ≡ false)
     × (passes (take_message one_in_two (level 1 0) 1).answer ≡ true)
     × WithinRounded one_in_two 8589934592 0 (record { time = 1; size = 0 } ∷ [])
-    × (passes (take_message one_in_two (messages_left (take_message one_in_two (level 1 0) 1).bucket) 8589934592).answer ≡ false)
+    × (passes (take_message one_in_two (messages_left (take_message one_in_two (level 1 0) 1).state) 8589934592).answer ≡ false)
 unfolding take_message discrete_try_consume discrete_refill discrete_take FromEvery
 gap_rule = (
   refl,

@@ -4,11 +4,13 @@
 use Rattle.std.specs.Prelude.{◌≡◌, Bool, true, false, cond, ℕ}
 use Rattle.std.proofs.Math.Path.{refl}
 use Rattle.std.proofs.Common.{subst}
+use Rattle.std.specs.Prelude.{Result, Ok, Err}
+use Rattle.peer_state.specs.declared.ingress.NotReserved.{NotReserved}
+use Rattle.peer_state.specs.declared.ingress.NotReserved.TheVariants as NotReserved
 use Rattle.truths.specs.TruthLaws.{true_is_not_false}
 use Rattle.peer_settings.specs.declared.config.PeerMessagePolicyConfig.{PeerMessagePolicyConfig}
 use Rattle.peer_state.specs.declared.entry.PeerMessagePolicyEntry.{PeerMessagePolicyEntry}
 use Rattle.peer_state.specs.declared.ingress.FiberIngressBudget.{FiberIngressBudget}
-use Rattle.peer_state.specs.declared.ingress.Reservation.{Reservation}
 use Rattle.peer_verdict.specs.declared.verdict.Shortage.TheVariants as Shortage
 use Rattle.peer_verdict.specs.declared.verdict.Cause.{Cause}
 use Rattle.peer_verdict.specs.declared.verdict.Decision.{Decision}
@@ -24,25 +26,25 @@ use Rattle.promises.specs.Lives.{ceiling_cause}
 pub record Charged (c : PeerMessagePolicyConfig) (e : PeerMessagePolicyEntry) (size now : ℕ) (d : Decision) : Type 0 where
   pub message_there : passes (take_message c e.messages now).answer ≡ true
   pub bytes_there : passes (take_bytes c e.bytes size now).answer ≡ true
-  pub messages : d.entry.messages ≡ messages_left (take_message c e.messages now).bucket
-  pub bytes : d.entry.bytes ≡ bytes_left (take_bytes c e.bytes size now).bucket
+  pub messages : d.entry.messages ≡ messages_left (take_message c e.messages now).state
+  pub bytes : d.entry.bytes ≡ bytes_left (take_bytes c e.bytes size now).state
 
 -- what is known of a decision on a message, in this room
-pub record Decided (c : PeerMessagePolicyConfig) (e : PeerMessagePolicyEntry) (size now : ℕ) (reservation : Reservation) (d : Decision) : Type 0 where
+pub record Decided (c : PeerMessagePolicyConfig) (e : PeerMessagePolicyEntry) (size now : ℕ) (reservation : Result FiberIngressBudget NotReserved) (d : Decision) : Type 0 where
   pub used : d.entry.last_used_ms ≡ now
   pub allowed : d.cause ≡ Cause.Allowed → Charged c e size now d
   pub other : NotAllowed d.cause → (d.entry.messages ≡ e.messages) × (d.entry.bytes ≡ e.bytes)
   pub passed : passes (take_message c e.messages now).answer ≡ true → passes (take_bytes c e.bytes size now).answer ≡ true → d.cause ≡ ceiling_cause reservation
 
 -- a decision for this cause, other than Allow, that leaves the buckets
-kept_decided : {c : PeerMessagePolicyConfig} {e : PeerMessagePolicyEntry} {size now : ℕ} {reservation : Reservation} (d : Decision) → NotAllowed d.cause
+kept_decided : {c : PeerMessagePolicyConfig} {e : PeerMessagePolicyEntry} {size now : ℕ} {reservation : Result FiberIngressBudget NotReserved} (d : Decision) → NotAllowed d.cause
     → d.entry.last_used_ms ≡ now → d.entry.messages ≡ e.messages → d.entry.bytes ≡ e.bytes
     → (passes (take_message c e.messages now).answer ≡ true → passes (take_bytes c e.bytes size now).answer ≡ true → d.cause ≡ ceiling_cause reservation)
     → Decided c e size now reservation d
 kept_decided d n used messages bytes passed =
     record { used = used; allowed = λ q. absurd (subst NotAllowed q n); other = λ m. (messages, bytes); passed = passed }
 
-module _ (c : PeerMessagePolicyConfig) (i : FiberIngressBudget) (e : PeerMessagePolicyEntry) (size now : ℕ) (reservation : Reservation) (used : e.last_used_ms ≡ now) where
+module _ (c : PeerMessagePolicyConfig) (i : FiberIngressBudget) (e : PeerMessagePolicyEntry) (size now : ℕ) (reservation : Result FiberIngressBudget NotReserved) (used : e.last_used_ms ≡ now) where
   violated_decided : (cause : Cause) → NotAllowed cause
       → (passes (take_message c e.messages now).answer ≡ true → passes (take_bytes c e.bytes size now).answer ≡ true → ⊥)
       → Decided c e size now reservation (violated c i e now cause)
@@ -56,18 +58,18 @@ module _ (c : PeerMessagePolicyConfig) (i : FiberIngressBudget) (e : PeerMessage
       → Decided c e size now reservation (ceiling_decides i e (both_charged c e size now) reservation)
   ceiling_decides_decided m b = by_reservation reservation
     where
-      by_reservation : (r : Reservation)
+      by_reservation : (r : Result FiberIngressBudget NotReserved)
           → Decided c e size now r (ceiling_decides i e (both_charged c e size now) r)
-      by_reservation (Reservation.Reserved after) =
+      by_reservation (Ok after) =
           record {
             used = used;
             allowed = λ q. record { message_there = m; bytes_there = b; messages = refl; bytes = refl };
             other = λ n. absurd n;
             passed = λ x y. refl;
           }
-      by_reservation Reservation.NoSlot = kept_decided _ tt used refl refl (λ x y. refl)
-      by_reservation (Reservation.BytesShort k) = kept_decided _ tt used refl refl (λ x y. refl)
-      by_reservation (Reservation.Refused n) = kept_decided _ tt used refl refl (λ x y. refl)
+      by_reservation (Err NotReserved.NoSlot) = kept_decided _ tt used refl refl (λ x y. refl)
+      by_reservation (Err (NotReserved.BytesShort k)) = kept_decided _ tt used refl refl (λ x y. refl)
+      by_reservation (Err (NotReserved.Refused n)) = kept_decided _ tt used refl refl (λ x y. refl)
 
   weighed_decided : Decided c e size now reservation (weighed_in c i e size now reservation)
   weighed_decided =
@@ -77,7 +79,7 @@ module _ (c : PeerMessagePolicyConfig) (i : FiberIngressBudget) (e : PeerMessage
       ceiling_decides_decided
 
 -- with the entry as a call finds it
-pub decided : (c : PeerMessagePolicyConfig) (i : FiberIngressBudget) (e : PeerMessagePolicyEntry) (size now : ℕ) (reservation : Reservation)
+pub decided : (c : PeerMessagePolicyConfig) (i : FiberIngressBudget) (e : PeerMessagePolicyEntry) (size now : ℕ) (reservation : Result FiberIngressBudget NotReserved)
     → Decided c e size now reservation (decision c i e size now reservation)
 unfolding decision entry_used
 decided c i e size now reservation =
@@ -123,15 +125,15 @@ module _ (c : PeerMessagePolicyConfig) (i j : FiberIngressBudget) (now : ℕ) wh
   violated_alike e cause =
       alike_chosen (reaches_ban c (rate_counted c e now)) (record { cause = refl; entry = refl }) (record { cause = refl; entry = refl })
 
-  ceiling_decides_alike : (e : PeerMessagePolicyEntry) (size : ℕ) (reservation : Reservation)
+  ceiling_decides_alike : (e : PeerMessagePolicyEntry) (size : ℕ) (reservation : Result FiberIngressBudget NotReserved)
       → Alike (ceiling_decides i e (both_charged c e size now) reservation)
       (ceiling_decides j e (both_charged c e size now) reservation)
-  ceiling_decides_alike e size (Reservation.Reserved after) = record { cause = refl; entry = refl }
-  ceiling_decides_alike e size Reservation.NoSlot = record { cause = refl; entry = refl }
-  ceiling_decides_alike e size (Reservation.BytesShort k) = record { cause = refl; entry = refl }
-  ceiling_decides_alike e size (Reservation.Refused n) = record { cause = refl; entry = refl }
+  ceiling_decides_alike e size (Ok after) = record { cause = refl; entry = refl }
+  ceiling_decides_alike e size (Err NotReserved.NoSlot) = record { cause = refl; entry = refl }
+  ceiling_decides_alike e size (Err (NotReserved.BytesShort k)) = record { cause = refl; entry = refl }
+  ceiling_decides_alike e size (Err (NotReserved.Refused n)) = record { cause = refl; entry = refl }
 
-  weighed_alike : (e : PeerMessagePolicyEntry) (size : ℕ) (reservation : Reservation) → Alike (weighed_in c i e size now reservation) (weighed_in c j e size now reservation)
+  weighed_alike : (e : PeerMessagePolicyEntry) (size : ℕ) (reservation : Result FiberIngressBudget NotReserved) → Alike (weighed_in c i e size now reservation) (weighed_in c j e size now reservation)
   weighed_alike e size reservation =
       alike_chosen (passes (take_message c e.messages now).answer)
       (alike_chosen (passes (take_bytes c e.bytes size now).answer) (ceiling_decides_alike e size reservation)
@@ -139,7 +141,7 @@ module _ (c : PeerMessagePolicyConfig) (i j : FiberIngressBudget) (now : ℕ) wh
       (violated_alike e (Cause.Short Shortage.Messages))
 
   -- two decisions on the same answer of the ceiling
-  pub decision_alike : (e : PeerMessagePolicyEntry) (size : ℕ) (reservation : Reservation)
+  pub decision_alike : (e : PeerMessagePolicyEntry) (size : ℕ) (reservation : Result FiberIngressBudget NotReserved)
       → Alike (decision c i e size now reservation) (decision c j e size now reservation)
   unfolding decision
   decision_alike e size reservation = weighed_alike (entry_used e now c.ban_duration_ms) size reservation

@@ -3,6 +3,7 @@
 use Rattle.std.specs.Prelude.{◌≡◌, refl, true, List, [], ◌∷◌, ℕ, zero, suc, ◌<◌, replicate}
 use Rattle.std.proofs.Common.{ap, ◌∙◌, arith}
 use Rattle.std.proofs.Math.Option.{some}
+use Rattle.std.specs.Prelude.{Ok}
 use Rattle.lent_bytes.specs.LentBytes.{Bytes}
 use Rattle.lent_bytes.specs.LentBytesLaws.{Bytes_nil, Bytes_cons}
 use Rattle.amount.specs.Amount.{amount_of, value, saturated}
@@ -24,7 +25,6 @@ use Rattle.peer_rows.specs.RowsLaws.{EntryFits, peer_faithful}
 use Rattle.table.specs.Room.{room_made}
 use Rattle.peer_table.specs.Room.{evict, make_room}
 use Rattle.peer_message_policy.specs.declared.policy.PeerMessagePolicy.{PeerMessagePolicy}
-use Rattle.peer_message_policy.specs.declared.answer.Made.TheVariants as Made
 use Rattle.peer_message_policy.specs.declared.answer.Admission.{Admission}
 use Rattle.peer_message_policy.specs.Policy
 use Rattle.peer_message_policy.specs.Policy.{sound, become, Turn, carried_out, entry_for_update}
@@ -133,7 +133,7 @@ memory₀ = laid peer_layout lent 1 []
 abbrev state₀ : State
 state₀ = record { policy = fresh one_a_second; memory = memory₀ }
 
-new_meets : NewMeets one_a_second lent (Made.Policy (fresh one_a_second)) memory₀
+new_meets : NewMeets one_a_second lent (Ok (fresh one_a_second)) memory₀
 unfolding NewMeets new_outcome
 new_meets = record { answers = refl; leaves = holds peer_faithful lent memory₀ 1 [] tt refl }
 

@@ -41,7 +41,7 @@ pub fair_allow : (c : PeerMessagePolicyConfig) → ConfigFits c → (m b : Level
     → NotAfter log now
     → passes (take_message c m now).answer ≡ true
     → passes (take_bytes c b size now).answer ≡ true
-    → Fair c (messages_left (take_message c m now).bucket) (bytes_left (take_bytes c b size now).bucket) (record { time = now; size = size } ∷ log)
+    → Fair c (messages_left (take_message c m now).state) (bytes_left (take_bytes c b size now).state) (record { time = now; size = size } ∷ log)
 fair_allow c config m b log size now size_fits fair after message_there bytes_there =
     let z : Allow = record { time = now; size = size } in
     let later = newest_before log now after in

@@ -3,10 +3,13 @@
 use Rattle.std.specs.Prelude.{◌≡◌, refl, List, ◌∷◌, ℕ, ◌≤◌}
 use Rattle.std.proofs.Common.{◌∙◌, le_trans, arith}
 use Rattle.std.proofs.Math.Option.{Option, none, some}
+use Rattle.std.specs.Prelude.{Result, Ok, Err}
+use Rattle.peer_state.specs.declared.ingress.NotReserved.{NotReserved}
+use Rattle.peer_state.specs.declared.ingress.NotReserved.TheVariants as NotReserved
+use Rattle.peer_state.specs.declared.ingress.FiberIngressBudget.{FiberIngressBudget}
 use Rattle.pubkey.specs.declared.Pubkey.{Pubkey}
 use Rattle.refusal.specs.Refusal.{Said, gives, refused}
 use Rattle.peer_settings.specs.declared.config.PeerMessagePolicyConfig.{PeerMessagePolicyConfig}
-use Rattle.peer_state.specs.declared.ingress.Reservation.{Reservation}
 use Rattle.peer_settings.specs.Fits.{ConfigFits}
 use Rattle.peer_state.specs.Ingress.{try_reserve}
 use Rattle.peer_rows.specs.Rows.{Peers}
@@ -118,8 +121,8 @@ module _ {c : PeerMessagePolicyConfig} (fits : ConfigFits c) {h : List Call} {s 
 -- ════ Merged ════
 
 -- what the ceiling says begins with its merged answer
-pub ceiling_merged_lem : (r : Reservation) → first_said (ceiling_says r) ≡ ceiling_merged r
-ceiling_merged_lem (Reservation.Reserved after) = refl
-ceiling_merged_lem Reservation.NoSlot = refl
-ceiling_merged_lem (Reservation.BytesShort k) = refl
-ceiling_merged_lem (Reservation.Refused n) = refl
+pub ceiling_merged_lem : (r : Result FiberIngressBudget NotReserved) → first_said (ceiling_says r) ≡ ceiling_merged r
+ceiling_merged_lem (Ok after) = refl
+ceiling_merged_lem (Err NotReserved.NoSlot) = refl
+ceiling_merged_lem (Err (NotReserved.BytesShort k)) = refl
+ceiling_merged_lem (Err (NotReserved.Refused n)) = refl

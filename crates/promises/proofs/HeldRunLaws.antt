@@ -3,6 +3,7 @@ use Rattle.std.specs.Prelude.{◌≡◌, true, List, ℕ, ◌≤◌}
 use Rattle.std.proofs.Math.Path.{subst}
 use Rattle.std.proofs.Common.{sym, arith}
 use Rattle.std.proofs.Math.Option.{Option, none, some}
+use Rattle.std.specs.Prelude.{Ok}
 use Rattle.pubkey.specs.declared.Pubkey.{Pubkey}
 use Rattle.refusal.specs.Refusal.{Said, gives, refused}
 use Rattle.table.specs.Table.{look}
@@ -11,7 +12,6 @@ use Rattle.peer_state.specs.declared.entry.PeerMessagePolicyEntry.{PeerMessagePo
 use Rattle.peer_settings.specs.Fits.{ConfigFits}
 use Rattle.peer_state.specs.Ingress.{try_reserve}
 use Rattle.peer_rows.specs.Rows.{Peers}
-use Rattle.peer_message_policy.specs.declared.answer.HeldTime.TheVariants as HeldTime
 use Rattle.peer_message_policy.specs.Policy
 use Rattle.peer_message_policy.specs.Policy.{sound}
 use Rattle.peer_laws.specs.CallLaws.{held_time_answer}
@@ -34,7 +34,7 @@ held_later given (some e) = omega arith
 pub held : (s : State) (k : Pubkey) (now : ℕ) → sound s.policy s.memory ≡ true → Answered k s now → last_used (entry_in s k) ≤ now
 held s k now h answered =
     let given : ℕ = answered.0 in
-    let answer : HeldTime.At now ≡ HeldTime.At (Policy.held_time given (entry_in s k)) =
+    let answer : (Ok now) ≡ (Ok (Policy.held_time given (entry_in s k))) =
     held_time_answer s.policy s.memory h k given answered.1
     in
     let e : now ≡ Policy.held_time given (entry_in s k) = cc in

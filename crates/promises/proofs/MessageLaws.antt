@@ -4,10 +4,10 @@
 use Rattle.std.specs.Prelude.{◌≡◌, refl, Bool, true, false, cond, ℕ, ◌+◌, ◌-◌, ◌*◌, ◌/◌, ◌%◌, ◌<◌, ◌≤◌, min, leb, eqb}
 use Rattle.std.proofs.Common.{ap, ◌∙◌, add-mul, mul_assoc, mul_comm, mul-le-mul_right, div-add-mod', mod-lt, zero-mul, le-div_iff_mul-le, arith, leb-true, leb-false, eqb-true, ne_eqb}
 use Rattle.std.proofs.lemmas.Bool.{false≢true, eqb-false}
+use Rattle.std.specs.Prelude.{Ok}
 use mathlib.Core.List.{List, [], ◌∷◌}
 use Rattle.std.proofs.Math.Nat.{zero-div, mul-sub}
 use Rattle.truths.specs.TruthLaws.{by_test, neither}
-use Rattle.bucket_terms.specs.declared.answer.Consumed.TheVariants as Consumed
 use Rattle.bucket_discrete.specs.declared.discrete.DiscreteTokenBucket.{DiscreteTokenBucket}
 use Rattle.bucket_discrete.specs.DiscreteBucket.{discrete_topped, discrete_refill, discrete_taken, discrete_take, discrete_try_consume}
 use Rattle.peer_settings.specs.declared.config.PeerMessagePolicyConfig.{PeerMessagePolicyConfig}
@@ -84,7 +84,7 @@ taken_yes b h =
     (λ t. let ne = eqb-false b.available 0 t in omega arith)
 
 -- a token that is there is taken
-taken_is : (b : DiscreteTokenBucket) → 1 ≤ b.available → discrete_take b ≡ record { bucket = discrete_taken b; answer = Consumed.Yes }
+taken_is : (b : DiscreteTokenBucket) → 1 ≤ b.available → discrete_take b ≡ record { state = discrete_taken b; answer = Ok tt }
 unfolding discrete_take
 taken_is b h = rw (ne_eqb b.available 0 (λ e. omega arith))
 
@@ -224,7 +224,7 @@ module _ (c : PeerMessagePolicyConfig) (on : message_limit_disabled c ≡ false)
             not_less c.peer_message_interval_ms m.last_refill_ms z.time (some_interval c on) y.time laps rest phase k near.0
 
     -- an Allow
-    pub messages_next : passes (take_message c m z.time).answer ≡ true → FairMessages c (messages_left (take_message c m z.time).bucket) (z ∷ log)
+    pub messages_next : passes (take_message c m z.time).answer ≡ true → FairMessages c (messages_left (take_message c m z.time).state) (z ∷ log)
     messages_next allowed =
         let enough = taken_yes (refilled_bucket c m z.time) (rw take_is at allowed) in
         rw (take_is, taken_is (refilled_bucket c m z.time) enough)

@@ -4,11 +4,13 @@
 use Rattle.std.specs.Prelude.{◌≡◌, false, List, ℕ, ◌^◌, ◌<◌, ◌≤◌}
 use Rattle.std.proofs.Common.{sym, ap, subst, ◌∙◌}
 use Rattle.std.proofs.Math.Option.{Option, none, some}
+use Rattle.std.specs.Prelude.{Result}
+use Rattle.peer_state.specs.declared.ingress.NotReserved.{NotReserved}
+use Rattle.peer_state.specs.declared.ingress.FiberIngressBudget.{FiberIngressBudget}
 use Rattle.pubkey.specs.declared.Pubkey.{Pubkey}
 use Rattle.refusal.specs.Refusal.{Said, gives, refused}
 use Rattle.table.specs.Table.{look}
 use Rattle.peer_settings.specs.declared.config.PeerMessagePolicyConfig.{PeerMessagePolicyConfig}
-use Rattle.peer_state.specs.declared.ingress.Reservation.{Reservation}
 use Rattle.peer_settings.specs.Fits.{ConfigFits}
 use Rattle.peer_rows.specs.Rows.{Peers}
 use Rattle.peer_message_policy.specs.Policy
@@ -76,7 +78,7 @@ module _ {c : PeerMessagePolicyConfig} (fits : ConfigFits c) (k : Pubkey) (es : 
 
   -- a call within the smaller allowance gets the ceiling's answer
   pub trail_least : (rs : Peers) → rows_at es ≡ rs → (size now : ℕ) → size < 2 ^ 64 → last_used (look k.bytes rs) ≤ now
-      → Policy.is_banned (look k.bytes rs) now ≡ false → Within c now size (log_for (look k.bytes rs) now (log_in k es)) → (reservation : Reservation)
+      → Policy.is_banned (look k.bytes rs) now ≡ false → Within c now size (log_for (look k.bytes rs) now (log_in k es)) → (reservation : Result FiberIngressBudget NotReserved)
       → says_in c (admit k size now reservation) rs ≡ ceiling_says reservation
   trail_least rs leads size now size_fits used free within reservation =
       let here : rs ≡ after c (calls_of es) = sym leads ∙ ap rows_at core ∙ trail_rows c (calls_of es) in

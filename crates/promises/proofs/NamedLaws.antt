@@ -3,6 +3,9 @@
 use Rattle.std.specs.Prelude.{◌≡◌, refl, true, false, cond, List, [], ◌∷◌, ℕ}
 use Rattle.std.proofs.Common.{sym, ap, ◌∙◌, arith}
 use Rattle.std.proofs.Math.Option.{Option, none, some}
+use Rattle.std.specs.Prelude.{Result, Ok, Err}
+use Rattle.peer_state.specs.declared.ingress.NotReserved.{NotReserved}
+use Rattle.peer_state.specs.declared.ingress.NotReserved.TheVariants as NotReserved
 use Rattle.truths.specs.TruthLaws.{by_test, true_is_not_false, chosen}
 use Rattle.pubkey.specs.declared.Pubkey.{Pubkey}
 use Rattle.refusal.specs.Refusal.{Said, gives}
@@ -12,7 +15,6 @@ use Rattle.peer_settings.specs.declared.config.PeerMessagePolicyConfig.{PeerMess
 use Rattle.peer_settings.specs.Fits.{ConfigFits}
 use Rattle.peer_state.specs.declared.entry.PeerMessagePolicyEntry.{PeerMessagePolicyEntry}
 use Rattle.peer_state.specs.declared.ingress.FiberIngressBudget.{FiberIngressBudget}
-use Rattle.peer_state.specs.declared.ingress.Reservation.{Reservation}
 use Rattle.peer_state.specs.Entry.{entry_is_banned, entry_is_spent, entry_used}
 use Rattle.peer_state.specs.Ingress.{try_reserve}
 use Rattle.peer_verdict.specs.declared.verdict.Shortage.TheVariants as Shortage
@@ -45,7 +47,7 @@ bytes_is_not_ceiling h = let z : ◌≡◌ {A = ℕ} 0 1 = cc in omega arith
 messages_is_not_ceiling : some messages ≡ some ceiling → ⊥
 messages_is_not_ceiling h = let z : ◌≡◌ {A = ℕ} 0 1 = cc in omega arith
 
-module _ (c : PeerMessagePolicyConfig) (i : FiberIngressBudget) (e : PeerMessagePolicyEntry) (size now : ℕ) (reservation : Reservation) where
+module _ (c : PeerMessagePolicyConfig) (i : FiberIngressBudget) (e : PeerMessagePolicyEntry) (size now : ℕ) (reservation : Result FiberIngressBudget NotReserved) where
   -- the ceiling is named by a decision only where both buckets pass and there is no room
   abbrev OnlyThere : Decision → Type 0
   OnlyThere d = limit_named d.cause ≡ some ceiling → BucketsPass c e size now × NoRoom reservation
@@ -55,12 +57,12 @@ module _ (c : PeerMessagePolicyConfig) (i : FiberIngressBudget) (e : PeerMessage
   violated_elsewhere cause other =
       violated_ways OnlyThere c i e now cause (λ t names. absurd (some_is_not_none names refl)) (λ t names. absurd (other names))
 
-  ceiling_there : passes (take_message c e.messages now).answer ≡ true → passes (take_bytes c e.bytes size now).answer ≡ true → (r : Reservation)
+  ceiling_there : passes (take_message c e.messages now).answer ≡ true → passes (take_bytes c e.bytes size now).answer ≡ true → (r : Result FiberIngressBudget NotReserved)
       → limit_named (ceiling_decides i e (both_charged c e size now) r).cause ≡ some ceiling → BucketsPass c e size now × NoRoom r
-  ceiling_there m b (Reservation.Reserved after) names = absurd (some_is_not_none names refl)
-  ceiling_there m b Reservation.NoSlot names = (record { messages = m; bytes = b }, tt)
-  ceiling_there m b (Reservation.BytesShort k) names = (record { messages = m; bytes = b }, tt)
-  ceiling_there m b (Reservation.Refused n) names = absurd (some_is_not_none names refl)
+  ceiling_there m b (Ok after) names = absurd (some_is_not_none names refl)
+  ceiling_there m b (Err NotReserved.NoSlot) names = (record { messages = m; bytes = b }, tt)
+  ceiling_there m b (Err (NotReserved.BytesShort k)) names = (record { messages = m; bytes = b }, tt)
+  ceiling_there m b (Err (NotReserved.Refused n)) names = absurd (some_is_not_none names refl)
 
   weighed_there : OnlyThere (weighed_in c i e size now reservation)
   weighed_there =
@@ -70,13 +72,13 @@ module _ (c : PeerMessagePolicyConfig) (i : FiberIngressBudget) (e : PeerMessage
       (λ m b. ceiling_there m b reservation)
 
 -- where there is no room, the cause that the ceiling gives names it
-no_room_named : (r : Reservation) → NoRoom r → limit_named (ceiling_cause r) ≡ some ceiling
-no_room_named (Reservation.Reserved after) full = absurd full
-no_room_named Reservation.NoSlot full = refl
-no_room_named (Reservation.BytesShort k) full = refl
-no_room_named (Reservation.Refused n) full = absurd full
+no_room_named : (r : Result FiberIngressBudget NotReserved) → NoRoom r → limit_named (ceiling_cause r) ≡ some ceiling
+no_room_named (Ok after) full = absurd full
+no_room_named (Err NotReserved.NoSlot) full = refl
+no_room_named (Err (NotReserved.BytesShort k)) full = refl
+no_room_named (Err (NotReserved.Refused n)) full = absurd full
 
-module _ (c : PeerMessagePolicyConfig) (i : FiberIngressBudget) (e : PeerMessagePolicyEntry) (size now : ℕ) (reservation : Reservation) where
+module _ (c : PeerMessagePolicyConfig) (i : FiberIngressBudget) (e : PeerMessagePolicyEntry) (size now : ℕ) (reservation : Result FiberIngressBudget NotReserved) where
   decision_there : limit_named (decision c i e size now reservation).cause ≡ some ceiling → BucketsPass c e size now × NoRoom reservation
   unfolding decision entry_used
   decision_there names =
@@ -149,14 +151,14 @@ module _ (p : PeerMessagePolicy) (s : List ℕ) (h : sound p s ≡ true) (k : Pu
 -- ════ The ceiling blames nobody ════
 
 -- the ceiling gives causes of the numbers 0, 3 and 4 alone
-other_number : (number : ℕ) → (number ≡ 0 → ⊥) → (number ≡ 3 → ⊥) → (number ≡ 4 → ⊥) → {answer amount : ℕ} (r : Reservation)
+other_number : (number : ℕ) → (number ≡ 0 → ⊥) → (number ≡ 3 → ⊥) → (number ≡ 4 → ⊥) → {answer amount : ℕ} (r : Result FiberIngressBudget NotReserved)
     → gives (answer ∷ number ∷ amount ∷ []) ≡ ceiling_says r → ⊥
-other_number number allowed slot short (Reservation.Reserved after) h = allowed cc
-other_number number allowed slot short Reservation.NoSlot h = slot cc
-other_number number allowed slot short (Reservation.BytesShort k) h = short cc
-other_number number allowed slot short (Reservation.Refused n) h = gives_is_not_refused h
+other_number number allowed slot short (Ok after) h = allowed cc
+other_number number allowed slot short (Err NotReserved.NoSlot) h = slot cc
+other_number number allowed slot short (Err (NotReserved.BytesShort k)) h = short cc
+other_number number allowed slot short (Err (NotReserved.Refused n)) h = gives_is_not_refused h
 
-blameless : (cause : Cause) (r : Reservation) → cause_says cause ≡ ceiling_says r → blames cause ≡ false
+blameless : (cause : Cause) (r : Result FiberIngressBudget NotReserved) → cause_says cause ≡ ceiling_says r → blames cause ≡ false
 blameless Cause.Allowed r h = refl
 blameless (Cause.Short Shortage.Messages) r h = absurd (other_number 1 (λ e. omega (arith, e)) (λ e. omega (arith, e)) (λ e. omega (arith, e)) r h)
 blameless (Cause.Short (Shortage.Bytes k)) r h = absurd (other_number 2 (λ e. omega (arith, e)) (λ e. omega (arith, e)) (λ e. omega (arith, e)) r h)

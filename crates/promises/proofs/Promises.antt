@@ -4,14 +4,17 @@
 -- modules that are named here. `CoreLaws` states both bounds of lists of core calls, which `CoreRunLaws.runs_core` maps a run onto. That there is a run in which
 -- `least` gives an Allow after an Allow is `ExampleLaws.a_run_exists`.
 use Rattle.std.specs.Prelude.{◌≡◌, true, false, cond, List, ◌∷◌, ℕ, ◌≤◌, length, take}
+use Rattle.std.specs.Prelude.{Result, Ok, Err}
+use Rattle.refusal.specs.declared.Refusal.{Refusal}
+use Rattle.refusal.specs.declared.Refusal.TheVariants as Refusal
+use Rattle.peer_state.specs.declared.ingress.NotReserved.{NotReserved}
+use Rattle.peer_state.specs.declared.ingress.FiberIngressBudget.{FiberIngressBudget}
 use Rattle.lent_bytes.specs.LentBytes.{put, Bytes}
 use Rattle.pubkey.specs.declared.Pubkey.{Pubkey}
-use Rattle.refusal.specs.Refusal.{Said, too_short}
+use Rattle.refusal.specs.Refusal.{Said}
 use Rattle.peer_settings.specs.declared.config.PeerMessagePolicyConfig.{PeerMessagePolicyConfig}
 use Rattle.peer_settings.specs.Fits.{ConfigFits}
-use Rattle.peer_state.specs.declared.ingress.Reservation.{Reservation}
 use Rattle.peer_state.specs.Ingress.{try_reserve}
-use Rattle.peer_message_policy.specs.declared.answer.Made.{Made}
 use Rattle.peer_message_policy.specs.declared.policy.PeerMessagePolicy.{PeerMessagePolicy}
 use Rattle.peer_message_policy.specs.declared.answer.Admission.{Admission}
 use Rattle.peer_message_policy.specs.Policy as Policy
@@ -19,7 +22,6 @@ use Rattle.peer_message_policy.specs.Calls.{admission_says, AdmitMeets}
 use Rattle.peer_message_policy.specs.Merged.{merge, merged_says, first_said, MergedMeets}
 use Rattle.peer_message_policy.specs.MergedLaws as MergedLaws
 use Rattle.peer_laws.specs.Fits.{PolicyFits}
-use Rattle.snapshot.specs.declared.answer.Written.{Written}
 use Rattle.snapshot.specs.Form.{first}
 use Rattle.snapshot.specs.Snapshot.{WriteMeets, ReadMeets}
 use Rattle.snapshot_laws.specs.Alike.{Alike, SamePolicy}
@@ -72,7 +74,7 @@ merged p before k size now r after m = (MergedLaws.merged p before k size now r 
 
 -- What the ceiling says, merged, is Allow where there is room, Disconnect where there is none, or the refusal: so `least` and `shielded`
 -- read as they do of the Rust's answers.
-pub ceiling_merged_lem : (r : Reservation) → first_said (ceiling_says r) ≡ ceiling_merged r
+pub ceiling_merged_lem : (r : Result FiberIngressBudget NotReserved) → first_said (ceiling_says r) ≡ ceiling_merged r
 ceiling_merged_lem r = FairRunLaws.ceiling_merged_lem r
 
 -- Which limit a Disconnect names. From any sound state, whoever made it, admit names the ceiling exactly where we were busy: no ban on the
@@ -96,14 +98,14 @@ samples = SamplesLaws.samples_agree
 
 -- Snapshots. The state s is written into an output, and the n bytes that are the snapshot are read into a table; the numbers are within
 -- their fields and the memory holds bytes, as the machine has it.
-module _ (s : State) (out : List ℕ) (n : ℕ) (written : List ℕ) (write : WriteMeets s.policy s.memory out (Written.Length n) written)
+module _ (s : State) (out : List ℕ) (n : ℕ) (written : List ℕ) (write : WriteMeets s.policy s.memory out (Ok n) written)
     (fits : PolicyFits s.policy) (before : List ℕ) where
   -- A snapshot that was written is never refused by a table that is long enough for the limit, and by a shorter one with 1 alone.
-  pub written_answers : (r : Made) (after : List ℕ) → ReadMeets first (take n written) before r after
-      → r ≡ cond (Policy.long_enough s.policy.config before) (Made.Policy s.policy) (Made.Refused too_short)
+  pub written_answers : (r : Result PeerMessagePolicy Refusal) (after : List ℕ) → ReadMeets first (take n written) before r after
+      → r ≡ cond (Policy.long_enough s.policy.config before) (Ok s.policy) (Err Refusal.TooShort)
   written_answers r after read = RoundTripLaws.written_answers s.policy s.memory out n written write fits before after r read
 
-  module _ (bytes : Bytes s.memory) (free : Bytes before) (t : State) (read : ReadMeets first (take n written) before (Made.Policy t.policy) t.memory) where
+  module _ (bytes : Bytes s.memory) (free : Bytes before) (t : State) (read : ReadMeets first (take n written) before (Ok t.policy) t.memory) where
     -- What is read is the policy that was written, with the same rows, and sound.
     pub written_reads : Alike s t
     written_reads = RoundTripLaws.written_reads s.policy s.memory out n written write fits before t.memory bytes free t.policy read
@@ -115,7 +117,7 @@ module _ (s : State) (out : List ℕ) (n : ℕ) (written : List ℕ) (write : Wr
 
 -- Bytes that were read as a policy, then written into any output that is long enough, are the same bytes, and every further byte of the
 -- output stays.
-pub read_writes : (z before : List ℕ) (s : State) → Bytes z → ReadMeets first z before (Made.Policy s.policy) s.memory
-    → (out : List ℕ) → length z ≤ length out → (r : Written) (written : List ℕ) → WriteMeets s.policy s.memory out r written
-    → (r ≡ Written.Length (length z)) × (written ≡ put out 0 z)
+pub read_writes : (z before : List ℕ) (s : State) → Bytes z → ReadMeets first z before (Ok s.policy) s.memory
+    → (out : List ℕ) → length z ≤ length out → (r : Result ℕ Refusal) (written : List ℕ) → WriteMeets s.policy s.memory out r written
+    → (r ≡ Ok (length z)) × (written ≡ put out 0 z)
 read_writes z before s bytes read = RoundTripLaws.read_writes z before s.memory s.policy bytes read

@@ -2,13 +2,14 @@
 -- the ceiling has for the message. Fair share is proved of lists of such calls, and a run of the calls on lent memory, its refused ones
 -- left out, comes to one. Definitions only.
 use Rattle.std.specs.Prelude.{List, [], ◌∷◌, ℕ, ◌^◌, ◌<◌, ◌≤◌}
+use Rattle.std.specs.Prelude.{Result, Ok}
+use Rattle.peer_state.specs.declared.ingress.NotReserved.{NotReserved}
 use Rattle.pubkey.specs.declared.Pubkey.{Pubkey}
 use Rattle.refusal.specs.Refusal.{Said}
 use Rattle.table.specs.Table.{look}
 use Rattle.peer_settings.specs.declared.config.PeerMessagePolicyConfig.{PeerMessagePolicyConfig}
 use Rattle.peer_state.specs.declared.entry.PeerMessagePolicyEntry.{PeerMessagePolicyEntry}
 use Rattle.peer_state.specs.declared.ingress.FiberIngressBudget.{FiberIngressBudget}
-use Rattle.peer_state.specs.declared.ingress.Reservation.{Reservation}
 use Rattle.peer_verdict.specs.declared.verdict.Cause.{Cause}
 use Rattle.peer_verdict.specs.declared.verdict.Decision.{Decision}
 use Rattle.peer_verdict.specs.declared.verdict.InvalidCause.{InvalidCause}
@@ -16,7 +17,6 @@ use Rattle.peer_state.specs.Ingress.{in_flight}
 use Rattle.peer_verdict.specs.Verdict.{decision}
 use Rattle.peer_verdict.specs.Causes.{cause_says, invalid_cause_says}
 use Rattle.peer_rows.specs.Rows.{Peers}
-use Rattle.peer_message_policy.specs.declared.answer.Changed.TheVariants as Changed
 use Rattle.peer_message_policy.specs.Policy as Policy
 use Rattle.peer_message_policy.specs.Policy.{Change, Turn, turn_of, carried_out, entry_for_update, is_banned_change, disconnected_change}
 use Rattle.peer_message_policy.specs.Calls.{changed_rows, fresh, standing_of, standing_says, changed_says}
@@ -29,11 +29,11 @@ abbrev pub idle : FiberIngressBudget
 idle = in_flight 0 0
 
 -- what admit decides on an entry that is not banned
-abbrev pub admits : PeerMessagePolicyConfig → ℕ → ℕ → Reservation → PeerMessagePolicyEntry → Decision
+abbrev pub admits : PeerMessagePolicyConfig → ℕ → ℕ → Result FiberIngressBudget NotReserved → PeerMessagePolicyEntry → Decision
 admits c size now reservation e = decision c idle e size now reservation
 
 -- a message's turn: its peer's entry is found or made, and what admit decides on it is carried out
-abbrev pub message_turn : PeerMessagePolicyConfig → Pubkey → ℕ → ℕ → Reservation → Peers → Turn Cause
+abbrev pub message_turn : PeerMessagePolicyConfig → Pubkey → ℕ → ℕ → Result FiberIngressBudget NotReserved → Peers → Turn Cause
 message_turn c k size now reservation rs =
     turn_of idle Cause.LiveBan (λ e xs. carried_out idle k.bytes xs (admits c size now reservation e)) (entry_for_update c now rs k.bytes (look k.bytes rs))
 
@@ -53,7 +53,7 @@ abbrev pub says_in : PeerMessagePolicyConfig → CoreCall → Peers → Said
 says_in c (admit k size now reservation) rs = cause_says (message_turn c k size now reservation rs).cause
 says_in c (record_invalid k now) rs = invalid_cause_says (invalid_turn c k now rs).cause
 says_in c (is_banned k now) rs = standing_says (standing_of (Policy.is_banned (look k.bytes rs) now) (fresh c))
-says_in c (on_disconnected k now) rs = changed_says (Changed.Policy (fresh c))
+says_in c (on_disconnected k now) rs = changed_says (Ok (fresh c))
 
 -- ════ Lists of calls, the newest first ════
 

@@ -1,9 +1,9 @@
 -- A caller who passes held_time's answer on: the times of a peer's own calls are those that held_time gave. Definitions only.
 use Rattle.std.specs.Prelude.{List, ℕ}
 use Rattle.std.proofs.Math.Option.{Option, none, some}
+use Rattle.std.specs.Prelude.{Ok}
 use Rattle.pubkey.specs.declared.Pubkey.{Pubkey}
 use Rattle.peer_settings.specs.declared.config.PeerMessagePolicyConfig.{PeerMessagePolicyConfig}
-use Rattle.peer_message_policy.specs.declared.answer.HeldTime.TheVariants as HeldTime
 use Rattle.peer_message_policy.specs.Calls.{HeldTimeMeets}
 use Rattle.promises.specs.Trails.{CoreCall}
 use Rattle.promises.specs.Lives.{own_of, OwnTime}
@@ -12,7 +12,7 @@ use Rattle.promises.specs.RunLives.{core_of, Bounds}
 
 -- held_time, asked for a peer in a state with some given time, answers this time
 abbrev pub Answered : Pubkey → State → ℕ → Type 0
-Answered k s now = (given : ℕ) × HeldTimeMeets s.policy s.memory k given (HeldTime.At now)
+Answered k s now = (given : ℕ) × HeldTimeMeets s.policy s.memory k given (Ok now)
 
 -- a call has a time that held_time answers, if it is the peer's own admit or record_invalid
 abbrev pub held_own : Pubkey → State → Option CoreCall → Type 0

@@ -2,14 +2,17 @@
 -- Definitions only.
 use Rattle.std.specs.Prelude.{◌≡◌, Bool, true, false, ◌&&◌, cond, List, [], ◌∷◌, ℕ, ◌+◌, ◌-◌, ◌*◌, ◌/◌, ◌≤◌, leb}
 use Rattle.std.proofs.Math.Option.{Option, none, some}
+use Rattle.std.specs.Prelude.{Result, Ok, Err}
+use Rattle.peer_state.specs.declared.ingress.NotReserved.{NotReserved}
+use Rattle.peer_state.specs.declared.ingress.NotReserved.TheVariants as NotReserved
+use Rattle.peer_state.specs.declared.ingress.FiberIngressBudget.{FiberIngressBudget}
 use Rattle.pubkey.specs.declared.Pubkey.{Pubkey}
 use Rattle.pubkey.specs.Order.{compare_bytes}
-use Rattle.refusal.specs.Refusal.{Said, gives, refused}
+use Rattle.refusal.specs.Refusal.{Said, gives, refused, number_of}
 use Rattle.bucket_terms.specs.Limit.{byte_disabled}
 use Rattle.table.specs.Table.{look, by_order}
 use Rattle.peer_settings.specs.declared.config.PeerMessagePolicyConfig.{PeerMessagePolicyConfig}
 use Rattle.peer_state.specs.declared.entry.PeerMessagePolicyEntry.{PeerMessagePolicyEntry}
-use Rattle.peer_state.specs.declared.ingress.Reservation.{Reservation}
 use Rattle.peer_settings.specs.Config.{message_limit_disabled, bytes_of}
 use Rattle.peer_state.specs.Entry.{entry_is_spent}
 use Rattle.peer_verdict.specs.declared.verdict.Shortage.TheVariants as Shortage
@@ -142,23 +145,23 @@ Within c now size log =
 -- ════ What the ceiling says ════
 
 -- the cause that it gives: allowed where there is room, short where there is none, refusal 4 where a number would overflow
-abbrev pub ceiling_cause : Reservation → Cause
-ceiling_cause (Reservation.Reserved after) = Cause.Allowed
-ceiling_cause Reservation.NoSlot = Cause.Short Shortage.Slot
-ceiling_cause (Reservation.BytesShort k) = Cause.Short (Shortage.CeilingBytes k)
-ceiling_cause (Reservation.Refused n) = Cause.Refused n
+abbrev pub ceiling_cause : Result FiberIngressBudget NotReserved → Cause
+ceiling_cause (Ok after) = Cause.Allowed
+ceiling_cause (Err NotReserved.NoSlot) = Cause.Short Shortage.Slot
+ceiling_cause (Err (NotReserved.BytesShort k)) = Cause.Short (Shortage.CeilingBytes k)
+ceiling_cause (Err (NotReserved.Refused n)) = Cause.Refused n
 
 -- what an Allow says
 abbrev pub allow : Said
 allow = cause_says Cause.Allowed
 
 -- Allow, Disconnect with the ceiling's name and by how much it ran short, or refusal 4
-abbrev pub ceiling_says : Reservation → Said
+abbrev pub ceiling_says : Result FiberIngressBudget NotReserved → Said
 ceiling_says reservation = cause_says (ceiling_cause reservation)
 
 -- the same, merged: Allow, Disconnect or the refusal
-abbrev pub ceiling_merged : Reservation → Said
-ceiling_merged (Reservation.Reserved after) = gives (0 ∷ [])
-ceiling_merged Reservation.NoSlot = gives (1 ∷ [])
-ceiling_merged (Reservation.BytesShort k) = gives (1 ∷ [])
-ceiling_merged (Reservation.Refused n) = refused n
+abbrev pub ceiling_merged : Result FiberIngressBudget NotReserved → Said
+ceiling_merged (Ok after) = gives (0 ∷ [])
+ceiling_merged (Err NotReserved.NoSlot) = gives (1 ∷ [])
+ceiling_merged (Err (NotReserved.BytesShort k)) = gives (1 ∷ [])
+ceiling_merged (Err (NotReserved.Refused n)) = refused (number_of n)

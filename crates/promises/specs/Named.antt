@@ -1,11 +1,14 @@
 -- Which limit admit names, and where: what `named` speaks of. Definitions only.
 use Rattle.std.specs.Prelude.{◌≡◌, Bool, true, false, cond, List, ◌∷◌, ℕ, ◌≤◌}
 use Rattle.std.proofs.Math.Option.{Option, none, some}
+use Rattle.std.specs.Prelude.{Result, Ok, Err}
+use Rattle.peer_state.specs.declared.ingress.NotReserved.{NotReserved}
+use Rattle.peer_state.specs.declared.ingress.NotReserved.TheVariants as NotReserved
+use Rattle.peer_state.specs.declared.ingress.FiberIngressBudget.{FiberIngressBudget}
 use Rattle.pubkey.specs.declared.Pubkey.{Pubkey}
 use Rattle.table.specs.Table.{look}
 use Rattle.peer_settings.specs.declared.config.PeerMessagePolicyConfig.{PeerMessagePolicyConfig}
 use Rattle.peer_state.specs.declared.entry.PeerMessagePolicyEntry.{PeerMessagePolicyEntry}
-use Rattle.peer_state.specs.declared.ingress.Reservation.{Reservation}
 use Rattle.peer_state.specs.Entry.{entry_new, entry_is_spent}
 use Rattle.peer_state.specs.Ingress.{try_reserve}
 use Rattle.peer_verdict.specs.declared.verdict.Shortage.TheVariants as Shortage
@@ -31,11 +34,11 @@ pub record BucketsPass (c : PeerMessagePolicyConfig) (e : PeerMessagePolicyEntry
   pub bytes : passes (take_bytes c e.bytes size now).answer ≡ true
 
 -- the ceiling has no room: no slot, or too few bytes
-abbrev pub NoRoom : Reservation → Type 0
-NoRoom (Reservation.Reserved after) = ⊥
-NoRoom Reservation.NoSlot = Unit {0}
-NoRoom (Reservation.BytesShort k) = Unit {0}
-NoRoom (Reservation.Refused n) = ⊥
+abbrev pub NoRoom : Result FiberIngressBudget NotReserved → Type 0
+NoRoom (Ok after) = ⊥
+NoRoom (Err NotReserved.NoSlot) = Unit {0}
+NoRoom (Err (NotReserved.BytesShort k)) = Unit {0}
+NoRoom (Err (NotReserved.Refused n)) = ⊥
 
 -- we were busy: no ban on the peer is live, both buckets pass, and the ceiling has no room
 pub record Busy (p : PeerMessagePolicy) (s : List ℕ) (k : Pubkey) (size now : ℕ) : Type 0 where

@@ -50,17 +50,17 @@ pub record At : Type 0 where
 -- messages asked for at these times
 unfoldable pub messages : DiscreteTokenBucket → List ℕ → List Said
 messages b [] = []
-messages b (now ∷ times) = consumed_says (discrete_try_consume b now).answer ∷ messages (discrete_try_consume b now).bucket times
+messages b (now ∷ times) = consumed_says (discrete_try_consume b now).answer ∷ messages (discrete_try_consume b now).state times
 
 -- bytes asked for
 unfoldable pub bytes : ByteTokenBucket → List At → List Said
 bytes b [] = []
 bytes b (z ∷ zs) =
-    consumed_says (byte_try_consume b z.bytes z.time).answer ∷ bytes (byte_try_consume b z.bytes z.time).bucket zs
+    consumed_says (byte_try_consume b z.bytes z.time).answer ∷ bytes (byte_try_consume b z.bytes z.time).state zs
 
 -- bytes promised, and then whether there is debt at these times
 unfoldable pub promised : ByteTokenBucket → At → List ℕ → List Said
-promised b z times = delay_says (byte_reserve b z.bytes z.time).answer ∷ debts (byte_reserve b z.bytes z.time).bucket times
+promised b z times = delay_says (byte_reserve b z.bytes z.time).answer ∷ debts (byte_reserve b z.bytes z.time).state times
   where
     debts : ByteTokenBucket → List ℕ → List Said
     debts b [] = []

@@ -2,14 +2,16 @@
 -- it left. Definitions only.
 use Rattle.std.specs.Prelude.{List, [], ◌∷◌, ℕ}
 use Rattle.std.proofs.Math.Option.{Option, none, some}
+use Rattle.std.specs.Prelude.{Result}
+use Rattle.peer_state.specs.declared.ingress.NotReserved.{NotReserved}
+use Rattle.peer_state.specs.declared.ingress.FiberIngressBudget.{FiberIngressBudget}
 use Rattle.pubkey.specs.declared.Pubkey.{Pubkey}
 use Rattle.refusal.specs.Refusal.{Said, gives, refused}
-use Rattle.peer_state.specs.declared.ingress.Reservation.{Reservation}
 use Rattle.peer_rows.specs.Rows.{Peers}
 
 -- a call that can change rows, by its peer and its time; admit with what the ceiling says to it
 pub data CoreCall : Type 0 where
-  admit : (peer : Pubkey) (size now : ℕ) (reservation : Reservation) → CoreCall
+  admit : (peer : Pubkey) (size now : ℕ) (reservation : Result FiberIngressBudget NotReserved) → CoreCall
   record_invalid : (peer : Pubkey) (now : ℕ) → CoreCall
   is_banned : (peer : Pubkey) (now : ℕ) → CoreCall
   on_disconnected : (peer : Pubkey) (now : ℕ) → CoreCall

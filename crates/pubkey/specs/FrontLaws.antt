@@ -8,8 +8,8 @@ use Rattle.lent_bytes.specs.LentBytesLaws.{length_part, Bytes_part}
 use Rattle.lent_bytes.specs.FrontLaws.{front_part}
 use Rattle.pubkey.specs.Order.{◌then◌, compare_numbers, compare_bytes}
 use Rattle.pubkey.specs.OrderLaws.{then_assoc, numbers_less, numbers_equal, numbers_greater, numbers_cases, compare_from}
-use Rattle.pubkey.specs.declared.Ordering.{Ordering}
-use Rattle.pubkey.specs.declared.Ordering.TheVariants.{Less, Greater}
+use Rattle.std.specs.declared.cmp.Ordering.{Ordering}
+use Rattle.std.specs.declared.cmp.Ordering.TheVariants.{Less, Greater}
 
 -- ════ Numbers of two digits ════
 

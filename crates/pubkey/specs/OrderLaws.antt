@@ -6,8 +6,8 @@ use Rattle.std.specs.Prelude.{◌≡◌, ℕ, ◌+◌, ◌<◌, ◌≤◌, Bool,
 use Rattle.std.proofs.Common.{inl, inr, ⊎_elim, sym, ap, ◌∙◌, add-one, arith, ltb-true, ltb-false, lt-ltb, le-ltb, length-append, drop_of_length-le, drop-cons}
 use Rattle.refusal.specs.OneOutcomeLaws.{one_outcome}
 use Rattle.pubkey.specs.Order.{◌then◌, compare_numbers, compare_bytes, compare_sides, side_byte, limiter_key, compare_limiter_keys, limiter_key_bytes}
-use Rattle.pubkey.specs.declared.Ordering.{Ordering}
-use Rattle.pubkey.specs.declared.Ordering.TheVariants.{Less, Equal, Greater}
+use Rattle.std.specs.declared.cmp.Ordering.{Ordering}
+use Rattle.std.specs.declared.cmp.Ordering.TheVariants.{Less, Equal, Greater}
 use Rattle.pubkey.specs.declared.Pubkey.{Pubkey}
 use Rattle.pubkey.specs.declared.OutPoint.{OutPoint}
 use Rattle.pubkey.specs.declared.ChannelUpdateLimiterKey.{ChannelUpdateLimiterKey}

@@ -23,21 +23,13 @@ pub fn add_word(sum: u64, n: u64) -> u64
     add(add(sum, low_half(n)), high_half(n))
 }
 
-fn wide(b: u8) -> u32
-    ensures { result ≡ b }
-{
-    b as u32
-}
-
 // Every byte, the first one first.
 pub fn add_bytes(sum: u64, bytes: &[u8]) -> u64
     ensures { result ≡ all_added sum bytes.now }
 {
     let mut all = sum;
-    let mut i: usize = 0;
-    while i < bytes.len() {
-        all = add(all, wide(bytes[i]));
-        i += 1;
+    for &b in bytes {
+        all = add(all, u32::from(b));
     }
     all
 }
@@ -47,11 +39,9 @@ pub fn fill(memory: &mut [u8], seed: u64) -> u64
     ensures { Filled memory.old seed result memory.new }
 {
     let mut sum = seed;
-    let mut i: usize = 0;
-    while i < memory.len() {
+    for i in 0..memory.len() {
         sum = add(sum, 7);
         memory[i] = (sum % 256) as u8;
-        i += 1;
     }
     sum
 }

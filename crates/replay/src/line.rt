@@ -5,6 +5,7 @@ ghost use Rattle.text_pieces.specs.Text.{number_text, refusal_piece};
 ghost use Rattle.decimal.specs.Decimal.{digits_of};
 
 use amount::Amount;
+use amount_limbs::halves::Halves;
 use decimal::MOST_DIGITS;
 
 // How many bytes a line has room for.
@@ -43,10 +44,8 @@ impl Line {
         ensures { written result ≡ extended (written self) s.now }
     {
         let mut line = self;
-        let mut i: usize = 0;
-        while i < s.len() {
-            line = line.byte(s[i]);
-            i += 1;
+        for &b in s {
+            line = line.byte(b);
         }
         line
     }
@@ -80,10 +79,9 @@ impl Line {
     pub fn amount(self, a: Amount) -> Line
         ensures { written result ≡ extended (written self) (amount_text a) }
     {
-        let limbs = a.limbs;
         self.truth(a.negative)
-            .then(joined(limbs[0], limbs[1]))
-            .then(joined(limbs[2], limbs[3]))
+            .then(joined(a.limbs[0], a.limbs[1]))
+            .then(joined(a.limbs[2], a.limbs[3]))
     }
 
     pub fn refusal(self, number: u32) -> Line
@@ -93,8 +91,8 @@ impl Line {
     }
 }
 
-fn joined(lower: u32, upper: u32) -> u64
-    ensures { result ≡ lower + 4294967296 * upper }
+fn joined(low: u32, high: u32) -> u64
+    ensures { result ≡ low + 4294967296 * high }
 {
-    lower as u64 + 0x1_0000_0000 * (upper as u64)
+    Halves { low, high }.joined()
 }

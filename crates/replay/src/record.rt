@@ -4,6 +4,7 @@ ghost use Rattle.amount.specs.Amount.{value};
 ghost use Rattle.replay.specs.Record.{record_of, key_of, minus, spelled};
 
 use amount::Amount;
+use amount_limbs::halves::Halves;
 use lent_bytes::number::{get_u64, put_u64};
 
 // Eight words of eight bytes.
@@ -40,14 +41,14 @@ pub fn decoded(bytes: &[u8; RECORD_SIZE]) -> Record
 pub fn low_half(n: u64) -> u32
     ensures { result ≡ n % 4294967296 }
 {
-    (n % 0x1_0000_0000) as u32
+    Halves::of(n).low
 }
 
 // A word's high half.
 pub fn high_half(n: u64) -> u32
     ensures { result ≡ n / 4294967296 }
 {
-    (n / 0x1_0000_0000) as u32
+    Halves::of(n).high
 }
 
 // The key that five words spell: their first 33 bytes.

@@ -5,31 +5,14 @@
 
 use amount::Amount;
 use replay::line::Line;
-use replay::program::Next;
 use replay::record::Record;
 use replay::{program, record};
 
 // What the recorded products are over, and times.
 const THOUSAND: u32 = 1_000;
 
-// A proved loop has to end, and nothing says that the input does: so rounds are counted down from a number that no run uses up.
 fn main(rt: HostRuntime) {
-    let mut rounds = u64::MAX;
-    while rounds > 0 && answer_next(&rt) {
-        rounds -= 1;
-    }
-}
-
-// Answers one record, and says whether to go on.
-fn answer_next(rt: &HostRuntime) -> bool {
-    match program::next_record(rt) {
-        Next::Whole(r) => program::print(rt, answer(r)),
-        Next::Cut => {
-            program::print_cut(rt);
-            false
-        }
-        Next::End => false,
-    }
+    program::for_each_record(&rt, |r| program::print(&rt, answer(r)));
 }
 
 fn answer(r: Record) -> Line {
@@ -37,8 +20,8 @@ fn answer(r: Record) -> Line {
     let b = record::amount_of(r.fourth, r.fifth, r.sixth);
     let n = r.fourth;
     let line = Line::empty();
-    let operation = r.operation;
-    match operation {
+    // Kept: each number of the recorded list stands here alone; an enum between would only name it once more.
+    match r.operation {
         0 => line.amount(Amount::from_u64(r.first)),
         1 => line.truth(a.is_negative()),
         2 => line.truth(a.is_below(b)),
@@ -52,7 +35,7 @@ fn answer(r: Record) -> Line {
         10 => line.amount(Amount::product_over(r.first, r.second, THOUSAND)),
         11 => line.amount(a.times(THOUSAND)),
         12 => quotient(line, a, n),
-        _ => line.text(b"unknown operation").then(operation),
+        _ => line.text(b"unknown operation").then(r.operation),
     }
 }
 

@@ -1,95 +1,66 @@
 // The recorded steps of the discrete bucket.
-use crate::{answers, compared, lending};
+use crate::answers::{Recorded, agreed, nothing};
+use crate::lending::on_lent;
+use refusal::Answered;
 use replay::line::Line;
 use replay::record::Record;
 use token_bucket::discrete::DiscreteTokenBucket;
+use token_bucket::lent;
 
-// The bucket after a step, and what the step answered.
-#[derive(Clone, Copy)]
-pub struct DiscreteStep {
-    pub bucket: DiscreteTokenBucket,
-    pub line: Line,
-}
-
-pub(crate) fn step(b: DiscreteTokenBucket, r: Record) -> DiscreteStep {
-    let operation = r.operation;
-    match operation {
+// The bucket after a step, and what the step answered. A step that changes a bucket is run by value and lent, which must give the same.
+pub(crate) fn step(b: DiscreteTokenBucket, r: Record) -> Answered<DiscreteTokenBucket, Line> {
+    match r.operation {
         0 => made(b, r.first, r.second),
-        1 => refilled(b, r.first),
-        2 => consumed(b, r.first),
-        3 => DiscreteStep {
-            bucket: b,
-            line: answers::told(b.is_full()),
+        1 => agreed(
+            b.refill(r.first),
+            on_lent(b, |lent| lent::discrete::refill(lent, r.first)),
+        ),
+        2 => agreed(
+            b.try_consume(r.first),
+            on_lent(b, |lent| lent::discrete::try_consume(lent, r.first)),
+        ),
+        3 => Answered {
+            state: b,
+            answer: b.is_full().recorded(),
         },
         _ => set(b, r),
     }
 }
 
-// By value and lent, which must give the same.
-fn refilled(b: DiscreteTokenBucket, now_ms: u64) -> DiscreteStep {
-    let done = b.refill(now_ms);
-    let bucket = done.bucket;
-    let answer = done.answer;
-    let lent = lending::discrete_refill(b, now_ms);
-    let left = lent.bucket;
-    let said = lent.answer;
-    let same = compared::same_discrete(bucket, left) && compared::same_refilled(answer, said);
-    DiscreteStep {
-        bucket,
-        line: compared::agreed(answers::refilled(answer), same),
-    }
-}
-
-// By value and lent, which must give the same.
-fn consumed(b: DiscreteTokenBucket, now_ms: u64) -> DiscreteStep {
-    let done = b.try_consume(now_ms);
-    let bucket = done.bucket;
-    let answer = done.answer;
-    let lent = lending::discrete_try_consume(b, now_ms);
-    let left = lent.bucket;
-    let said = lent.answer;
-    let same = compared::same_discrete(bucket, left) && compared::same_consumed(answer, said);
-    DiscreteStep {
-        bucket,
-        line: compared::agreed(answers::consumed(answer), same),
-    }
-}
-
-fn made(b: DiscreteTokenBucket, interval_ms: u64, capacity: u64) -> DiscreteStep {
-    if capacity > 0xffff_ffff {
+fn made(
+    b: DiscreteTokenBucket,
+    interval_ms: u64,
+    capacity: u64,
+) -> Answered<DiscreteTokenBucket, Line> {
+    let Ok(capacity) = u32::try_from(capacity) else {
         return too_wide(b);
-    }
-    DiscreteStep {
-        bucket: DiscreteTokenBucket::new(interval_ms, capacity as u32),
-        line: answers::nothing(),
+    };
+    Answered {
+        state: DiscreteTokenBucket::new(interval_ms, capacity),
+        answer: nothing(),
     }
 }
 
 // Any bucket, an unsound one too.
-fn set(b: DiscreteTokenBucket, r: Record) -> DiscreteStep {
-    let capacity = r.second;
-    let available = r.third;
-    if capacity > 0xffff_ffff {
+fn set(b: DiscreteTokenBucket, r: Record) -> Answered<DiscreteTokenBucket, Line> {
+    let (Ok(capacity), Ok(available)) = (u32::try_from(r.second), u32::try_from(r.third)) else {
         return too_wide(b);
-    }
-    if available > 0xffff_ffff {
-        return too_wide(b);
-    }
-    DiscreteStep {
-        bucket: DiscreteTokenBucket {
+    };
+    Answered {
+        state: DiscreteTokenBucket {
             interval_ms: r.first,
-            capacity: capacity as u32,
-            available: available as u32,
+            capacity,
+            available,
             last_refill_ms: r.fourth,
         },
-        line: answers::nothing(),
+        answer: nothing(),
     }
 }
 
-fn too_wide(b: DiscreteTokenBucket) -> DiscreteStep {
-    DiscreteStep {
-        bucket: b,
-        line: Line::empty().text(b"more than 32 bits"),
+fn too_wide(b: DiscreteTokenBucket) -> Answered<DiscreteTokenBucket, Line> {
+    Answered {
+        state: b,
+        answer: Line::empty().text(b"more than 32 bits"),
     }
 }
 

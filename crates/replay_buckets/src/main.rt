@@ -6,13 +6,11 @@
 
 mod answers;
 mod byte_steps;
-mod compared;
 mod discrete_steps;
 mod lending;
 
 use replay::line::Line;
 use replay::program;
-use replay::program::Next;
 use replay::record::Record;
 use token_bucket::bytes::{ByteRateLimitConfig, ByteTokenBucket};
 use token_bucket::discrete::DiscreteTokenBucket;
@@ -24,79 +22,27 @@ struct Buckets {
     bytes: ByteTokenBucket,
 }
 
-// The buckets after a record, and whether to go on.
-#[derive(Clone, Copy)]
-struct Progress {
-    buckets: Buckets,
-    more: bool,
-}
-
-// A proved loop has to end, and nothing says that the input does: so rounds are counted down from a number that no run uses up.
 fn main(rt: HostRuntime) {
     let mut buckets = Buckets {
         discrete: DiscreteTokenBucket::new(0, 0),
         bytes: ByteTokenBucket::new(ByteRateLimitConfig::new(0, 0)),
     };
-    let mut rounds = u64::MAX;
-    while rounds > 0 {
-        let progress = answer_next(&rt, buckets);
-        if !progress.more {
-            return;
-        }
-        buckets = progress.buckets;
-        rounds -= 1;
-    }
+    program::for_each_record(&rt, |r| program::print(&rt, answer(&mut buckets, r)));
 }
 
-fn answer_next(rt: &HostRuntime, buckets: Buckets) -> Progress {
-    match program::next_record(rt) {
-        Next::Whole(r) => answer(rt, buckets, r),
-        Next::Cut => {
-            program::print_cut(rt);
-            Progress {
-                buckets,
-                more: false,
-            }
-        }
-        Next::End => Progress {
-            buckets,
-            more: false,
-        },
-    }
-}
-
-fn answer(rt: &HostRuntime, buckets: Buckets, r: Record) -> Progress {
-    let operation = r.operation;
-    let discrete = buckets.discrete;
-    let bytes = buckets.bytes;
-    match operation {
+// Kept: each number of the recorded list stands in one match alone; an enum between would only name it once more.
+fn answer(buckets: &mut Buckets, r: Record) -> Line {
+    match r.operation {
         0..=3 | 13 => {
-            let step = discrete_steps::step(discrete, r);
-            let after = step.bucket;
-            let line = step.line;
-            Progress {
-                buckets: Buckets {
-                    discrete: after,
-                    bytes,
-                },
-                more: program::print(rt, discrete_steps::with_bucket(line, after)),
-            }
+            let step = discrete_steps::step(buckets.discrete, r);
+            buckets.discrete = step.state;
+            discrete_steps::with_bucket(step.answer, step.state)
         }
         4..=12 | 14 => {
-            let step = byte_steps::step(bytes, r);
-            let after = step.bucket;
-            let line = step.line;
-            Progress {
-                buckets: Buckets {
-                    discrete,
-                    bytes: after,
-                },
-                more: program::print(rt, byte_steps::with_bucket(line, after)),
-            }
+            let step = byte_steps::step(buckets.bytes, r);
+            buckets.bytes = step.state;
+            byte_steps::with_bucket(step.answer, step.state)
         }
-        _ => Progress {
-            buckets,
-            more: program::print(rt, Line::empty().text(b"unknown operation").then(operation)),
-        },
+        _ => Line::empty().text(b"unknown operation").then(r.operation),
     }
 }

@@ -1,23 +1,17 @@
 // What the records drive: the words that the C functions get, the keys, and how much of each memory is lent.
+use c_terms::reply::Reply;
 use lent_bytes::number::{put_u32, put_u64};
 use replay::line::Line;
 use replay::record::{Record, high_half, key_of, low_half};
 
 #[derive(Clone, Copy)]
-pub struct Held {
+pub(crate) struct Held {
     pub longs: [u64; 10],
     pub shorts: [u32; 6],
     pub peer: [u8; 33],
     pub outpoint: [u8; 36],
     pub first_lent: usize,
     pub second_lent: usize,
-}
-
-// What is held after a record, and the line that answers it.
-#[derive(Clone, Copy)]
-pub struct Answer {
-    pub held: Held,
-    pub line: Line,
 }
 
 impl Held {
@@ -33,30 +27,20 @@ impl Held {
         }
     }
 
-    pub(crate) fn says(self, text: &[u8]) -> Answer {
-        Answer {
-            held: self,
-            line: Line::empty().text(text),
-        }
-    }
-
     // Longs 0 to 6.
-    pub(crate) fn with_longs(mut self, r: Record) -> Held {
-        let longs = self.longs;
+    pub(crate) fn set_longs(&mut self, r: Record) {
+        let [.., seventh, eighth, ninth] = self.longs;
         self.longs = [
-            r.first, r.second, r.third, r.fourth, r.fifth, r.sixth, r.seventh, longs[7], longs[8],
-            longs[9],
+            r.first, r.second, r.third, r.fourth, r.fifth, r.sixth, r.seventh, seventh, eighth,
+            ninth,
         ];
-        self
     }
 
     // Longs 7 to 9, and all shorts, two a word.
-    pub(crate) fn with_more(mut self, r: Record) -> Held {
-        let longs = self.longs;
-        self.longs = [
-            longs[0], longs[1], longs[2], longs[3], longs[4], longs[5], longs[6], r.first,
-            r.second, r.third,
-        ];
+    pub(crate) fn set_more(&mut self, r: Record) {
+        self.longs[7] = r.first;
+        self.longs[8] = r.second;
+        self.longs[9] = r.third;
         self.shorts = [
             low_half(r.fourth),
             high_half(r.fourth),
@@ -65,48 +49,48 @@ impl Held {
             low_half(r.sixth),
             high_half(r.sixth),
         ];
-        self
     }
 
-    pub(crate) fn with_peer(mut self, r: Record) -> Held {
-        let peer = key_of(r.first, r.second, r.third, r.fourth, r.fifth);
-        self.peer = peer;
-        self
+    pub(crate) fn set_peer(&mut self, r: Record) {
+        self.peer = key_of(r.first, r.second, r.third, r.fourth, r.fifth);
     }
 
-    pub(crate) fn with_outpoint(mut self, r: Record) -> Held {
-        let outpoint = outpoint_of(r);
-        self.outpoint = outpoint;
-        self
+    // The first 36 bytes of five words.
+    pub(crate) fn set_outpoint(&mut self, r: Record) {
+        put_u64(&mut self.outpoint, 0, r.first);
+        put_u64(&mut self.outpoint, 8, r.second);
+        put_u64(&mut self.outpoint, 16, r.third);
+        put_u64(&mut self.outpoint, 24, r.fourth);
+        put_u32(&mut self.outpoint, 32, low_half(r.fifth));
     }
 
-    pub(crate) fn with_lengths(mut self, r: Record) -> Held {
+    pub(crate) fn set_lengths(&mut self, r: Record) {
         self.first_lent = r.first as usize;
         self.second_lent = r.second as usize;
-        self
     }
 
-    // The words of a ban tracker or a limiter, which are the first of all, as a call left them.
-    pub(crate) fn with_front(mut self, three: [u64; 3], one: [u32; 1]) -> Held {
-        let mut longs = self.longs;
-        longs[0] = three[0];
-        longs[1] = three[1];
-        longs[2] = three[2];
-        self.longs = longs;
-        let mut shorts = self.shorts;
-        shorts[0] = one[0];
-        self.shorts = shorts;
-        self
+    // Makes a call on the words of a ban tracker or a limiter, which are the first of all.
+    pub(crate) fn on_front<F>(&mut self, call: F) -> Reply
+    where
+        F: FnOnce(&mut [u64; 3], &mut [u32; 1], &mut [u64; 1]) -> u32,
+        requires { F.IsAlwaysCallable call }
+    {
+        let [a, b, c, ..] = self.longs;
+        let mut longs = [a, b, c];
+        let mut shorts = [self.shorts[0]];
+        let mut value = [0u64; 1];
+        let number = call(&mut longs, &mut shorts, &mut value);
+        self.longs[0] = longs[0];
+        self.longs[1] = longs[1];
+        self.longs[2] = longs[2];
+        self.shorts[0] = shorts[0];
+        Reply {
+            number,
+            value: value[0],
+        }
     }
 }
 
-// The first 36 bytes of five words.
-fn outpoint_of(r: Record) -> [u8; 36] {
-    let mut bytes = [0u8; 36];
-    put_u64(&mut bytes, 0, r.first);
-    put_u64(&mut bytes, 8, r.second);
-    put_u64(&mut bytes, 16, r.third);
-    put_u64(&mut bytes, 24, r.fourth);
-    put_u32(&mut bytes, 32, low_half(r.fifth));
-    bytes
+pub(crate) fn says(text: &[u8]) -> Line {
+    Line::empty().text(text)
 }

@@ -10,70 +10,33 @@ mod held;
 mod memory;
 mod rows;
 
-use held::{Answer, Held};
+use held::{Held, says};
+use replay::line::Line;
 use replay::program;
-use replay::program::Next;
 use replay::record::Record;
-
-// What is held after a record, and whether to go on.
-#[derive(Clone, Copy)]
-struct Progress {
-    held: Held,
-    more: bool,
-}
 
 fn main(rt: HostRuntime) {
     let mut first = [0u8; 96560];
     let mut second = [0u8; 96560];
-    run(&rt, &mut first, &mut second);
-}
-
-// A proved loop has to end, and nothing says that the input does: so rounds are counted down from a number that no run uses up.
-fn run(rt: &HostRuntime, first: &mut [u8], second: &mut [u8]) {
     let mut held = Held::lending(0, 0);
-    let mut rounds = u64::MAX;
-    while rounds > 0 {
-        let progress = answer_next(rt, held, first, second);
-        if !progress.more {
-            return;
-        }
-        held = progress.held;
-        rounds -= 1;
-    }
+    program::for_each_record(&rt, |r| {
+        program::print(&rt, stepped(&mut held, &mut first, &mut second, r))
+    });
 }
 
-fn answer_next(rt: &HostRuntime, held: Held, first: &mut [u8], second: &mut [u8]) -> Progress {
-    match program::next_record(rt) {
-        Next::Whole(r) => printed(rt, stepped(held, first, second, r)),
-        Next::Cut => {
-            program::print_cut(rt);
-            Progress { held, more: false }
-        }
-        Next::End => Progress { held, more: false },
+// Kept: each number of the recorded list stands in one match alone; an enum between would only name it once more.
+fn stepped(held: &mut Held, first: &mut [u8], second: &mut [u8], r: Record) -> Line {
+    match r.operation {
+        0 => memory::lend(held, first, second, r),
+        1 => held.set_longs(r),
+        2 => held.set_more(r),
+        3 => held.set_peer(r),
+        4 => held.set_outpoint(r),
+        5 => return memory::call(held, first, second, r),
+        6 => return memory::write(first, second, r),
+        7 => return memory::fill_rows(first, second, r),
+        8 => held.set_lengths(r),
+        _ => return says(b"unknown record"),
     }
-}
-
-fn printed(rt: &HostRuntime, answer: Answer) -> Progress {
-    let held = answer.held;
-    let line = answer.line;
-    Progress {
-        held,
-        more: program::print(rt, line),
-    }
-}
-
-fn stepped(held: Held, first: &mut [u8], second: &mut [u8], r: Record) -> Answer {
-    let operation = r.operation;
-    match operation {
-        0 => memory::lend(first, second, r),
-        1 => held.with_longs(r).says(b"-"),
-        2 => held.with_more(r).says(b"-"),
-        3 => held.with_peer(r).says(b"-"),
-        4 => held.with_outpoint(r).says(b"-"),
-        5 => memory::call(held, first, second, r),
-        6 => memory::write(held, first, second, r),
-        7 => memory::fill_rows(held, first, second, r),
-        8 => held.with_lengths(r).says(b"-"),
-        _ => held.says(b"unknown record"),
-    }
+    says(b"-")
 }

@@ -1,25 +1,23 @@
 // The records that reach into the two memories: 0 fills and lends them, 5 makes a call over what is lent, 6 writes a word, 7 writes rows.
-use crate::held::{Answer, Held};
+use crate::held::{Held, says};
 use crate::{calls, rows};
 use replay::checksum::fill;
+use replay::line::Line;
 use replay::memory::put_word;
 use replay::record::Record;
 
 // One stream of made-up bytes fills both.
-pub(crate) fn lend(first: &mut [u8], second: &mut [u8], r: Record) -> Answer {
+pub(crate) fn lend(held: &mut Held, first: &mut [u8], second: &mut [u8], r: Record) {
     let rest = fill(first, r.first);
     fill(second, rest);
-    Held::lending(r.second as usize, r.third as usize).says(b"-")
+    *held = Held::lending(r.second as usize, r.third as usize);
 }
 
-pub(crate) fn call(held: Held, first: &mut [u8], second: &mut [u8], r: Record) -> Answer {
+pub(crate) fn call(held: &mut Held, first: &mut [u8], second: &mut [u8], r: Record) -> Line {
     let first_lent = held.first_lent;
     let second_lent = held.second_lent;
-    if first_lent > first.len() {
-        return beyond(held);
-    }
-    if second_lent > second.len() {
-        return beyond(held);
+    if first_lent > first.len() || second_lent > second.len() {
+        return beyond();
     }
     calls::answered(
         held,
@@ -29,32 +27,27 @@ pub(crate) fn call(held: Held, first: &mut [u8], second: &mut [u8], r: Record) -
     )
 }
 
-pub(crate) fn write(held: Held, first: &mut [u8], second: &mut [u8], r: Record) -> Answer {
-    let memory = r.first;
+pub(crate) fn write(first: &mut [u8], second: &mut [u8], r: Record) -> Line {
     let at = r.second as usize;
-    match memory {
-        0 => done(held, put_word(first, at, r.third)),
-        1 => done(held, put_word(second, at, r.third)),
-        _ => beyond(held),
+    match r.first {
+        0 => done(put_word(first, at, r.third)),
+        1 => done(put_word(second, at, r.third)),
+        _ => beyond(),
     }
 }
 
-pub(crate) fn fill_rows(held: Held, first: &mut [u8], second: &mut [u8], r: Record) -> Answer {
-    let memory = r.first;
-    match memory {
-        0 => done(held, rows::put_rows(first, r)),
-        1 => done(held, rows::put_rows(second, r)),
-        _ => beyond(held),
+pub(crate) fn fill_rows(first: &mut [u8], second: &mut [u8], r: Record) -> Line {
+    match r.first {
+        0 => done(rows::put_rows(first, r)),
+        1 => done(rows::put_rows(second, r)),
+        _ => beyond(),
     }
 }
 
-fn done(held: Held, within: bool) -> Answer {
-    if within {
-        return held.says(b"-");
-    }
-    beyond(held)
+fn done(within: bool) -> Line {
+    if within { says(b"-") } else { beyond() }
 }
 
-fn beyond(held: Held) -> Answer {
-    held.says(b"beyond the memory")
+fn beyond() -> Line {
+    says(b"beyond the memory")
 }

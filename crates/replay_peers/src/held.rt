@@ -1,32 +1,14 @@
 // What the records drive: a policy, how many bytes of the table are lent to it, and the settings that the next one is made with.
 use peer_message_policy::policy::PeerMessagePolicy;
 use peer_settings::config::PeerMessagePolicyConfig;
+use refusal::Refusal;
 use replay::line::Line;
 
 #[derive(Clone, Copy)]
-pub struct Held {
+pub(crate) struct Held {
     pub policy: PeerMessagePolicy,
     pub next: PeerMessagePolicyConfig,
     pub lent: usize,
-}
-
-// What is held after a record, and the beginning of the line that answers it.
-#[derive(Clone, Copy)]
-pub struct Answer {
-    pub held: Held,
-    pub line: Line,
-}
-
-impl Answer {
-    // The same with a number behind it.
-    pub(crate) fn then(self, n: u64) -> Answer {
-        let held = self.held;
-        let line = self.line;
-        Answer {
-            held,
-            line: line.then(n),
-        }
-    }
 }
 
 impl Held {
@@ -39,37 +21,26 @@ impl Held {
         }
     }
 
-    pub(crate) fn says(self, text: &[u8]) -> Answer {
-        Answer {
-            held: self,
-            line: Line::empty().text(text),
-        }
+    // Holds the policy that a call left, and says what the call answered.
+    pub(crate) fn left(&mut self, policy: PeerMessagePolicy, text: &[u8]) -> Line {
+        self.policy = policy;
+        says(text)
     }
 
-    pub(crate) fn says_number(self, n: u64) -> Answer {
-        Answer {
-            held: self,
-            line: Line::empty().decimal(n),
+    // The same of a call that answers nothing else.
+    pub(crate) fn changed(&mut self, answer: Result<PeerMessagePolicy, Refusal>) -> Line {
+        match answer {
+            Ok(policy) => self.left(policy, b"-"),
+            Err(n) => refused(n),
         }
     }
+}
 
-    pub(crate) fn refused(self, number: u32) -> Answer {
-        Answer {
-            held: self,
-            line: Line::empty().refusal(number),
-        }
-    }
+// The beginning of the line that answers a record.
+pub(crate) fn says(text: &[u8]) -> Line {
+    Line::empty().text(text)
+}
 
-    // The same with the policy that a call left, and what the call answered.
-    pub(crate) fn left(self, policy: PeerMessagePolicy, text: &[u8]) -> Answer {
-        let next = self.next;
-        Answer {
-            held: Held {
-                policy,
-                next,
-                lent: self.lent,
-            },
-            line: Line::empty().text(text),
-        }
-    }
+pub(crate) fn refused(n: Refusal) -> Line {
+    Line::empty().refusal(n.number())
 }

@@ -1,7 +1,7 @@
 // The steps of the bucket that counts bytes: each writes its line.
+use refusal::Refusal;
 use replay::line::Line;
 use replay::program;
-use token_bucket::answer::{Delay, Told};
 use token_bucket::bytes::ByteTokenBucket;
 
 // Asks for bytes, and answers the bucket after it.
@@ -13,14 +13,14 @@ pub(crate) fn take(
     now_ms: u64,
 ) -> ByteTokenBucket {
     let done = b.try_consume(bytes, now_ms);
-    let bucket = done.bucket;
-    let answer = done.answer;
-    let line = begun(letter, bucket).text(b"take").then(bytes);
-    program::print(
-        rt,
-        crate::consumed(line.text(b" at").then(now_ms).byte(b' '), answer),
-    );
-    bucket
+    let line = begun(letter, done.state)
+        .text(b"take")
+        .then(bytes)
+        .text(b" at")
+        .then(now_ms)
+        .byte(b' ');
+    program::print(rt, crate::consumed(line, done.answer));
+    done.state
 }
 
 // Takes bytes in any case, and answers the bucket after it.
@@ -32,11 +32,14 @@ pub(crate) fn reserve(
     now_ms: u64,
 ) -> ByteTokenBucket {
     let done = b.reserve(bytes, now_ms);
-    let bucket = done.bucket;
-    let answer = done.answer;
-    let line = begun(letter, bucket).text(b"reserve").then(bytes);
-    program::print(rt, delay(line.text(b" at").then(now_ms).byte(b' '), answer));
-    bucket
+    let line = begun(letter, done.state)
+        .text(b"reserve")
+        .then(bytes)
+        .text(b" at")
+        .then(now_ms)
+        .byte(b' ');
+    program::print(rt, delay(line, done.answer));
+    done.state
 }
 
 // Asks for debt, which changes nothing.
@@ -45,28 +48,27 @@ pub(crate) fn ask_debt(rt: &HostRuntime, letter: u8, b: ByteTokenBucket, now_ms:
     program::print(rt, told(line, b.has_debt(now_ms)));
 }
 
-fn delay(line: Line, answer: Delay) -> Line {
+fn delay(line: Line, answer: Result<u64, Refusal>) -> Line {
     match answer {
-        Delay::Wait(ms) => line.text(b"delay").then(ms),
-        Delay::Refused(n) => line.refusal(n),
+        Ok(ms) => line.text(b"delay").then(ms),
+        Err(n) => line.refusal(n.number()),
     }
 }
 
-fn told(line: Line, answer: Told) -> Line {
+fn told(line: Line, answer: Result<bool, Refusal>) -> Line {
     match answer {
-        Told::Yes => line.text(b"yes"),
-        Told::No => line.text(b"no"),
-        Told::Refused(n) => line.refusal(n),
+        Ok(true) => line.text(b"yes"),
+        Ok(false) => line.text(b"no"),
+        Err(n) => line.refusal(n.number()),
     }
 }
 
 fn begun(letter: u8, b: ByteTokenBucket) -> Line {
-    let config = b.config;
     Line::empty()
         .byte(letter)
         .text(b" rate")
-        .then(config.rate_bytes_per_sec)
+        .then(b.config.rate_bytes_per_sec)
         .text(b", burst")
-        .then(config.burst_bytes)
+        .then(b.config.burst_bytes)
         .text(b": ")
 }

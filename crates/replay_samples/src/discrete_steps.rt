@@ -11,11 +11,12 @@ pub(crate) fn take(
     now_ms: u64,
 ) -> DiscreteTokenBucket {
     let done = b.try_consume(now_ms);
-    let bucket = done.bucket;
-    let answer = done.answer;
-    let line = begun(letter, bucket).text(b"at").then(now_ms).byte(b' ');
-    program::print(rt, crate::consumed(line, answer));
-    bucket
+    let line = begun(letter, done.state)
+        .text(b"at")
+        .then(now_ms)
+        .byte(b' ');
+    program::print(rt, crate::consumed(line, done.answer));
+    done.state
 }
 
 fn begun(letter: u8, b: DiscreteTokenBucket) -> Line {

@@ -7,35 +7,18 @@
 mod byte_steps;
 mod discrete_steps;
 
+use bucket_terms::answer::NotGiven;
 use replay::line::Line;
 use replay::program;
-use replay::program::Next;
 use replay::record::Record;
-use token_bucket::answer::Consumed;
 use token_bucket::bytes::{ByteRateLimitConfig, ByteTokenBucket};
 use token_bucket::discrete::DiscreteTokenBucket;
 
-// A proved loop has to end, and nothing says that the input does: so rounds are counted down from a number that no run uses up.
 fn main(rt: HostRuntime) {
-    let mut rounds = u64::MAX;
-    while rounds > 0 && run_next(&rt) {
-        rounds -= 1;
-    }
-}
-
-// Runs one sample, and says whether to go on.
-fn run_next(rt: &HostRuntime) -> bool {
-    match program::next_record(rt) {
-        Next::Whole(r) => {
-            run(rt, r);
-            true
-        }
-        Next::Cut => {
-            program::print_cut(rt);
-            false
-        }
-        Next::End => false,
-    }
+    program::for_each_record(&rt, |r| {
+        run(&rt, r);
+        true
+    });
 }
 
 fn run(rt: &HostRuntime, r: Record) {
@@ -59,16 +42,14 @@ fn byte_bucket(r: Record) -> ByteTokenBucket {
 
 // Interval, burst, and the times: five in sample A, four in sample B.
 fn one_token_each_time(rt: &HostRuntime, letter: u8, r: Record) {
-    let burst = r.second;
-    if burst > 0xffff_ffff {
+    let Ok(burst) = u32::try_from(r.second) else {
         program::print(rt, Line::empty().byte(letter).text(b" more than 32 bits"));
         return;
+    };
+    let mut bucket = DiscreteTokenBucket::new(r.first, burst);
+    for now_ms in [r.third, r.fourth, r.fifth, r.sixth] {
+        bucket = discrete_steps::take(rt, letter, bucket, now_ms);
     }
-    let mut bucket = DiscreteTokenBucket::new(r.first, burst as u32);
-    bucket = discrete_steps::take(rt, letter, bucket, r.third);
-    bucket = discrete_steps::take(rt, letter, bucket, r.fourth);
-    bucket = discrete_steps::take(rt, letter, bucket, r.fifth);
-    bucket = discrete_steps::take(rt, letter, bucket, r.sixth);
     if letter == b'A' {
         discrete_steps::take(rt, letter, bucket, r.seventh);
     }
@@ -77,9 +58,9 @@ fn one_token_each_time(rt: &HostRuntime, letter: u8, r: Record) {
 // Rate, burst, bytes, and three times.
 fn same_bytes_three_times(rt: &HostRuntime, letter: u8, r: Record) {
     let mut bucket = byte_bucket(r);
-    bucket = byte_steps::take(rt, letter, bucket, r.third, r.fourth);
-    bucket = byte_steps::take(rt, letter, bucket, r.third, r.fifth);
-    byte_steps::take(rt, letter, bucket, r.third, r.sixth);
+    for now_ms in [r.fourth, r.fifth, r.sixth] {
+        bucket = byte_steps::take(rt, letter, bucket, r.third, now_ms);
+    }
 }
 
 // Rate, burst, bytes, a time, and two times at which debt is asked for.
@@ -90,10 +71,10 @@ fn debt_after_reserve(rt: &HostRuntime, letter: u8, r: Record) {
 }
 
 // Whether what was asked for was there, and taken.
-pub(crate) fn consumed(line: Line, answer: Consumed) -> Line {
+pub(crate) fn consumed(line: Line, answer: Result<(), NotGiven>) -> Line {
     match answer {
-        Consumed::Yes => line.text(b"yes"),
-        Consumed::No(_) => line.text(b"no"),
-        Consumed::Refused(n) => line.refusal(n),
+        Ok(()) => line.text(b"yes"),
+        Err(NotGiven::Short(_)) => line.text(b"no"),
+        Err(NotGiven::Refused(n)) => line.refusal(n.number()),
     }
 }

@@ -5,38 +5,17 @@
 #![tactic(auto)]
 
 mod calls;
-mod checksum;
 
 use replay::program;
-use replay::program::Next;
 use replay::record::Record;
-use standard::Input;
 
 fn main(rt: HostRuntime) {
     let mut snapshot = [0u8; 2304];
     let mut table = [0u8; 2304];
     let mut output = [0u8; 2304];
-    run(&rt, &mut snapshot, &mut table, &mut output);
-}
-
-// A proved loop has to end, and nothing says that the input does: so rounds are counted down from a number that no run uses up.
-fn run(rt: &HostRuntime, snapshot: &mut [u8], table: &mut [u8], output: &mut [u8]) {
-    let mut rounds = u64::MAX;
-    while rounds > 0 {
-        if !answer_next(rt, snapshot, table, output) {
-            return;
-        }
-        rounds -= 1;
-    }
-}
-
-// Answers the next record, and whether to go on.
-fn answer_next(rt: &HostRuntime, snapshot: &mut [u8], table: &mut [u8], output: &mut [u8]) -> bool {
-    match program::next_record(rt) {
-        Next::Whole(r) => answer(rt, r, snapshot, table, output),
-        Next::Cut => cut(rt),
-        Next::End => false,
-    }
+    program::for_each_record(&rt, |r| {
+        answer(&rt, r, &mut snapshot, &mut table, &mut output)
+    });
 }
 
 fn cut(rt: &HostRuntime) -> bool {
@@ -44,7 +23,7 @@ fn cut(rt: &HostRuntime) -> bool {
     false
 }
 
-// A record that asks for more memory than there is counts as cut.
+// Answers whether to go on. A record that asks for more memory than there is counts as cut.
 fn answer(
     rt: &HostRuntime,
     r: Record,
@@ -55,21 +34,16 @@ fn answer(
     let length = r.first as usize;
     let table_lent = r.second as usize;
     let output_lent = r.third as usize;
-    if length > snapshot.len() {
+    if length > snapshot.len() || table_lent > table.len() || output_lent > output.len() {
         return cut(rt);
     }
-    if table_lent > table.len() {
-        return cut(rt);
-    }
-    if output_lent > output.len() {
-        return cut(rt);
-    }
-    if !is_read(rt, &mut snapshot[..length]) {
+    let snapshot = &mut snapshot[..length];
+    if !is_read(rt, snapshot) {
         return cut(rt);
     }
     let line = calls::answered(
         r,
-        &snapshot[..length],
+        snapshot,
         &mut table[..table_lent],
         &mut output[..output_lent],
     );
@@ -78,9 +52,5 @@ fn answer(
 
 // Reads the snapshot behind a record, and answers whether all of it was there.
 fn is_read(rt: &HostRuntime, snapshot: &mut [u8]) -> bool {
-    let input = standard::read(rt, snapshot);
-    match input {
-        Input::Failed => false,
-        Input::Bytes(count) => count == snapshot.len(),
-    }
+    standard::read(rt, snapshot) == Some(snapshot.len())
 }

@@ -7,9 +7,9 @@
 
 mod parts;
 
-use parts::Part;
 use replay::line::Line;
 use replay::program;
+use replay::program::Next;
 use trace_output::write_answers;
 
 fn main(rt: HostRuntime) {
@@ -20,42 +20,23 @@ fn main(rt: HostRuntime) {
 
 // A proved loop has to end, and nothing says that the input does: so the traces are counted up to a number that no run reaches.
 fn replay(rt: &HostRuntime, buffer: &mut [u8], table: &mut [u8]) {
-    let mut number: u64 = 1;
-    while number < u64::MAX {
+    for number in 1..u64::MAX {
         if !replay_next(rt, number, buffer, table) {
             return;
         }
-        number += 1;
     }
 }
 
 // Answers the next trace, and whether to go on.
 fn replay_next(rt: &HostRuntime, number: u64, buffer: &mut [u8], table: &mut [u8]) -> bool {
-    let part = parts::next(rt, buffer);
-    match part {
-        Part::Whole(length) => answer_part(rt, number, buffer, length, table),
-        Part::Cut => {
+    match parts::next(rt, buffer) {
+        Next::Whole(trace) => write_title(rt, number) && write_answers(rt, trace, table),
+        Next::Cut => {
             program::print_cut(rt);
             false
         }
-        Part::End => false,
+        Next::End => false,
     }
-}
-
-fn answer_part(
-    rt: &HostRuntime,
-    number: u64,
-    buffer: &[u8],
-    length: usize,
-    table: &mut [u8],
-) -> bool {
-    if length > buffer.len() {
-        return false;
-    }
-    if !write_title(rt, number) {
-        return false;
-    }
-    write_answers(rt, &buffer[..length], table)
 }
 
 // Writes `trace K`.

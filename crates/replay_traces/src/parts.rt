@@ -1,45 +1,24 @@
 // The recorded traces on standard input: each its length as eight little-endian bytes, then its bytes.
-use lent_bytes::number::get_u64;
-use standard::Input;
+use replay::program::Next;
 
-// A trace of this length was read; the input ended in the middle of one; or it ended, or failed, behind the last.
-#[derive(Clone, Copy)]
-pub enum Part {
-    Whole(usize),
-    Cut,
-    End,
-}
-
-// Reads the next trace into the buffer.
-pub(crate) fn next(rt: &HostRuntime, buffer: &mut [u8]) -> Part {
+// Reads the next trace into the buffer. One that the buffer has no room for counts as cut.
+pub(crate) fn next<'a>(rt: &HostRuntime, buffer: &'a mut [u8]) -> Next<&'a [u8]> {
     let mut header = [0u8; 8];
-    let input = standard::read(rt, &mut header);
-    match input {
-        Input::Failed => Part::End,
-        Input::Bytes(count) => {
-            if count == 0 {
-                return Part::End;
-            }
-            if count < 8 {
-                return Part::Cut;
-            }
-            read_body(rt, buffer, get_u64(&header, 0) as usize)
-        }
+    match standard::read(rt, &mut header) {
+        None | Some(0) => Next::End,
+        Some(8) => read_body(rt, buffer, u64::from_le_bytes(header) as usize),
+        Some(_) => Next::Cut,
     }
 }
 
-fn read_body(rt: &HostRuntime, buffer: &mut [u8], length: usize) -> Part {
+fn read_body<'a>(rt: &HostRuntime, buffer: &'a mut [u8], length: usize) -> Next<&'a [u8]> {
     if length > buffer.len() {
-        return Part::Cut;
+        return Next::Cut;
     }
-    let input = standard::read(rt, &mut buffer[..length]);
-    match input {
-        Input::Failed => Part::End,
-        Input::Bytes(count) => {
-            if count < length {
-                return Part::Cut;
-            }
-            Part::Whole(length)
-        }
+    let trace = &mut buffer[..length];
+    match standard::read(rt, trace) {
+        None => Next::End,
+        Some(count) if count < length => Next::Cut,
+        Some(_) => Next::Whole(trace),
     }
 }

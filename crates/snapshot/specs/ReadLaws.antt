@@ -2,18 +2,19 @@
 use Rattle.std.specs.Prelude.{◌≡◌, List, ◌++◌, ℕ, ◌+◌, ◌-◌, ◌*◌, ◌/◌, ◌≤◌, ◌<◌, length, take, drop}
 use Rattle.std.proofs.Math.Path.{refl, subst}
 use Rattle.std.proofs.Common.{sym, ap, ◌∙◌, zero-add, arith, length-take, length-drop}
+use Rattle.std.specs.Prelude.{Result, Ok, Err}
+use Rattle.refusal.specs.declared.Refusal.{Refusal}
+use Rattle.refusal.specs.declared.Refusal.TheVariants as Refusal
 use Rattle.lent_bytes.specs.LentBytes.{put, zeros, Bytes}
 use Rattle.lent_bytes.specs.LentBytesLaws.{put_put_at, Bytes_drop}
 use Rattle.table.specs.Memory.{rows, table_bytes, Holds}
 use Rattle.table.specs.MemoryLaws.{length_rows, table_bytes_rows, fit_rows, laid_put, holds}
 use Rattle.table.specs.OutcomeLaws.{one_meets}
 use Rattle.table_laws.specs.LentLaws.{long_enough_lem, too_short_lem}
-use Rattle.refusal.specs.Refusal.{too_short}
 use Rattle.peer_settings.specs.Config.{limit}
 use Rattle.peer_rows.specs.Rows.{row_width, peer_layout}
 use Rattle.peer_rows.specs.RowsLaws.{peer_faithful}
 use Rattle.peer_message_policy.specs.declared.policy.PeerMessagePolicy.{PeerMessagePolicy}
-use Rattle.peer_message_policy.specs.declared.answer.Made.{Made}
 use Rattle.peer_message_policy.specs.Policy.{rows_of}
 use Rattle.snapshot.specs.Form.{Form, rows_place}
 use Rattle.snapshot.specs.Snapshot.{policy_in, read_outcome, ReadMeets}
@@ -23,19 +24,19 @@ module _ (f : Form) where
 
   module _ (z before : List ℕ) where
     -- a snapshot that is refused by itself
-    pub read_refused : (n : ℕ) → policy_in f z ≡ Made.Refused n → ReadMeets f z before (Made.Refused n) before
+    pub read_refused : (n : Refusal) → policy_in f z ≡ Err n → ReadMeets f z before (Err n) before
     unfolding ReadMeets read_outcome
     read_refused n h = rw h (record { answers = refl; leaves = refl })
 
-    module _ (p : PeerMessagePolicy) (h : policy_in f z ≡ Made.Policy p) where
+    module _ (p : PeerMessagePolicy) (h : policy_in f z ≡ Ok p) where
       -- a table that is too short
-      pub read_short : length before / row_width < limit p.config → ReadMeets f z before (Made.Refused too_short) before
+      pub read_short : length before / row_width < limit p.config → ReadMeets f z before (Err Refusal.TooShort) before
       unfolding ReadMeets read_outcome
       read_short l = rw (h, too_short_lem peer_layout (limit p.config) before (omega arith) l) (record { answers = refl; leaves = refl })
 
       -- a table that is long enough
       pub read_done : limit p.config ≤ length before / row_width → (n : ℕ) → n ≡ limit p.config → (t : List ℕ)
-          → Holds peer_layout before t n (rows_of p (drop (rows_place f) z)) → ReadMeets f z before (Made.Policy p) t
+          → Holds peer_layout before t n (rows_of p (drop (rows_place f) z)) → ReadMeets f z before (Ok p) t
       unfolding ReadMeets read_outcome
       read_done l n e t held =
           rw (h, long_enough_lem peer_layout (limit p.config) before (omega arith) l)
@@ -64,6 +65,6 @@ module _ (f : Form) where
   -- ════ One outcome ════
 
   -- read has one answer and leaves one table
-  pub read_one : (z before : List ℕ) {r q : Made} {x y : List ℕ} → ReadMeets f z before r x → ReadMeets f z before q y → (r ≡ q) × (x ≡ y)
+  pub read_one : (z before : List ℕ) {r q : Result PeerMessagePolicy Refusal} {x y : List ℕ} → ReadMeets f z before r x → ReadMeets f z before q y → (r ≡ q) × (x ≡ y)
   unfolding ReadMeets
   read_one z before h k = one_meets h k

@@ -2,12 +2,14 @@
 use Rattle.std.specs.Prelude.{◌≡◌, true, false, ℕ, ◌+◌, ◌*◌, ◌≤◌, ◌<◌, length}
 use Rattle.std.proofs.Common.{sym, ◌∙◌, arith, length-append, length-take}
 use Rattle.std.proofs.Math.Path.{ap}
+use Rattle.std.specs.Prelude.{Result, Ok, Err}
+use Rattle.refusal.specs.declared.Refusal.{Refusal}
+use Rattle.refusal.specs.declared.Refusal.TheVariants as Refusal
 use mathlib.Core.List.{List, [], ◌∷◌, ◌++◌, append_assoc, append-nil}
 use borrow.Author.Tests.{le-leb, lt-leb}
 use Rattle.std.proofs.Math.ListN.{take}
 use Rattle.lent_bytes.specs.LentBytes.{put}
 use Rattle.lent_bytes.specs.LentBytesLaws.{put_put_at}
-use Rattle.refusal.specs.Refusal.{too_short, unsound}
 use Rattle.peer_message_policy.specs.declared.policy.PeerMessagePolicy.{PeerMessagePolicy}
 use Rattle.peer_message_policy.specs.Policy.{sound}
 use Rattle.peer_laws.specs.SoundLaws.{policy_holds}
@@ -17,7 +19,6 @@ use Rattle.snapshot_settings.specs.Settings.{settings_size, settings_bytes}
 use Rattle.snapshot_settings.specs.SettingsLaws.{length_settings_bytes}
 use Rattle.snapshot_settings.specs.Load.{load_size, load_bytes}
 use Rattle.snapshot_settings.specs.LoadLaws.{length_load_bytes}
-use Rattle.snapshot.specs.declared.answer.Written.{Written}
 use Rattle.peer_rows.specs.Rows.{row_width}
 use Rattle.snapshot.specs.Form.{Form, first, sizes, form_slots, settings_place, load_place, rows_place, FormFits}
 use Rattle.snapshot.specs.FormLaws.{form_count, slots_of_parts}
@@ -33,23 +34,23 @@ sound_rows p s h =
 
 module _ (p : PeerMessagePolicy) (s out : List ℕ) where
   -- an unsound policy or table
-  pub write_unsound : sound p s ≡ false → WriteMeets p s out (Written.Refused unsound) out
+  pub write_unsound : sound p s ≡ false → WriteMeets p s out (Err Refusal.Unsound) out
   unfolding write_outcome
   write_unsound h = record { answers = rw h; leaves = rw h }
 
   module _ (h : sound p s ≡ true) where
     -- an output that is too short
-    pub write_short : length out < snapshot_length first p → WriteMeets p s out (Written.Refused too_short) out
+    pub write_short : length out < snapshot_length first p → WriteMeets p s out (Err Refusal.TooShort) out
     unfolding write_outcome
     write_short l = let short = lt-leb (snapshot_length first p) (length out) l in record { answers = rw (h, short); leaves = rw (h, short) }
 
     -- an output that is long enough
     pub write_done : snapshot_length first p ≤ length out → (n : ℕ) → n ≡ snapshot_length first p → (t : List ℕ) → t ≡ put out 0 (snapshot_bytes first p s [])
-        → WriteMeets p s out (Written.Length n) t
+        → WriteMeets p s out (Ok n) t
     unfolding write_outcome
     write_done l n m t e =
         let long = le-leb (snapshot_length first p) (length out) l in
-        record { answers = ap Written.Length m ∙ rw (h, long); leaves = e ∙ rw (h, long) }
+        record { answers = ap Ok m ∙ rw (h, long); leaves = e ∙ rw (h, long) }
 
 -- ════ Written ════
 
@@ -106,6 +107,6 @@ module _ (p : PeerMessagePolicy) (s : List ℕ) (inside : row_width * p.rows ≤
 -- ════ One outcome ════
 
 -- write has one answer and leaves one output
-pub write_one : (p : PeerMessagePolicy) (s before : List ℕ) {r q : Written} {x y : List ℕ} → WriteMeets p s before r x → WriteMeets p s before q y
+pub write_one : (p : PeerMessagePolicy) (s before : List ℕ) {r q : Result ℕ Refusal} {x y : List ℕ} → WriteMeets p s before r x → WriteMeets p s before q y
     → (r ≡ q) × (x ≡ y)
 write_one p s before h k = (h.answers ∙ sym k.answers, h.leaves ∙ sym k.leaves)

@@ -1,15 +1,14 @@
 // The rows of a snapshot, copied into a table.
-ghost use Rattle.std.specs.Prelude.{◌≡◌, ◌+◌, ◌*◌, ◌≤◌, length, drop};
+ghost use Rattle.std.specs.Prelude.{◌≡◌, ◌+◌, ◌*◌, ◌≤◌, length, drop, Ok};
 ghost use Rattle.table.specs.Memory.{rows, Holds};
 ghost use Rattle.peer_rows.specs.Rows.{row_width, peer_layout};
-ghost use Rattle.peer_message_policy.specs.declared.answer.Made.TheVariants as Made;
 ghost use Rattle.snapshot.specs.Form.{first, rows_place};
 ghost use Rattle.snapshot.specs.Snapshot.{policy_in, ReadMeets};
 
 use super::form;
-use peer_message_policy::answer::Made;
 use peer_message_policy::policy::PeerMessagePolicy;
 use peer_rows::row::ROW_WIDTH;
+use refusal::Refusal;
 
 // Copies so many rows, and writes zeros into the places of the limit behind them.
 fn copy_rows(snapshot: &[u8], table: &mut [u8], count: usize, limit: usize)
@@ -25,15 +24,18 @@ fn copy_rows(snapshot: &[u8], table: &mut [u8], count: usize, limit: usize)
 }
 
 // A policy that stands in the snapshot takes the table, if it has room for the limit.
-pub(crate) fn restore(policy: PeerMessagePolicy, snapshot: &[u8], table: &mut [u8]) -> Made
-    requires { policy_in first snapshot.now ≡ Made.Policy policy }
+pub(crate) fn restore(
+    policy: PeerMessagePolicy,
+    snapshot: &[u8],
+    table: &mut [u8],
+) -> Result<PeerMessagePolicy, Refusal>
+    requires { policy_in first snapshot.now ≡ Ok policy }
     ensures { ReadMeets first snapshot.now table.old result table.new }
 {
-    let config = policy.config;
-    let limit = config.limit();
+    let limit = policy.config.limit();
     if ((table.len() / ROW_WIDTH) as u64) < limit {
-        return Made::Refused(refusal::TOO_SHORT);
+        return Err(Refusal::TooShort);
     }
     copy_rows(snapshot, table, policy.rows as usize, limit as usize);
-    Made::Policy(policy)
+    Ok(policy)
 }

@@ -4,7 +4,6 @@
 // no byte.
 #![tactic(auto)]
 
-pub mod answer;
 mod copy;
 mod form;
 mod judge;

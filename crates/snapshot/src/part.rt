@@ -5,32 +5,25 @@ ghost use Rattle.snapshot_layout.specs.Layout.{place_of};
 ghost use Rattle.snapshot.specs.Form.{first, rows_in, form_slots};
 ghost use Rattle.snapshot.specs.Snapshot.{placed, part_place, part_of};
 
-use super::answer::PartPlace;
 use super::{form, judge};
-use snapshot_layout::place::Place;
-use snapshot_settings::settings::ReadSettings;
+use refusal::Refusal;
 
 // Where the part of the kind stands, if the layout is right.
-fn kind_place(snapshot: &[u8], kind: u16) -> PartPlace
+fn kind_place(snapshot: &[u8], kind: u16) -> Result<(usize, usize), Refusal>
     ensures { result ≡ placed (place_of kind (form_slots first (rows_in first snapshot.now))) }
 {
     let kinds = form::kinds();
     let lengths = form::lengths(judge::rows_in(snapshot));
-    let found = snapshot_layout::place::place_of(&kinds, &lengths, kind);
-    match found {
-        Place::At(from, end) => PartPlace::At(from, end),
-        Place::Absent => PartPlace::Refused(refusal::WRONG_LAYOUT),
-    }
+    snapshot_layout::place::place_of(&kinds, &lengths, kind).ok_or(Refusal::WrongLayout)
 }
 
 // Where the part of the kind stands. Refused with 6 where the layout is wrong or has no such kind; an empty part is no refusal.
-pub fn place_of_kind(snapshot: &[u8], kind: u16) -> PartPlace
+pub fn place_of_kind(snapshot: &[u8], kind: u16) -> Result<(usize, usize), Refusal>
     ensures { result ≡ part_place first snapshot.now kind }
 {
-    let settings = judge::settings_in(snapshot);
-    match settings {
-        ReadSettings::OutOfRange => PartPlace::Refused(refusal::WRONG_LAYOUT),
-        ReadSettings::Read(_) => kind_place(snapshot, kind),
+    match judge::settings_in(snapshot) {
+        None => Err(Refusal::WrongLayout),
+        Some(_) => kind_place(snapshot, kind),
     }
 }
 
@@ -38,9 +31,8 @@ pub fn place_of_kind(snapshot: &[u8], kind: u16) -> PartPlace
 pub fn part(snapshot: &[u8], kind: u16) -> &[u8]
     ensures { result.now ≡ part_of snapshot.now (part_place first snapshot.now kind) }
 {
-    let place = place_of_kind(snapshot, kind);
-    match place {
-        PartPlace::At(from, end) => &snapshot[from..end],
-        PartPlace::Refused(_) => &snapshot[..0],
+    match place_of_kind(snapshot, kind) {
+        Ok((from, end)) => &snapshot[from..end],
+        Err(_) => &snapshot[..0],
     }
 }

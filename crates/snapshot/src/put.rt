@@ -16,11 +16,9 @@ fn put_bodies(output: &mut [u8], policy: PeerMessagePolicy, table: &[u8])
     requires rows_in_bounds { row_width * policy.rows ≤ length table.now }
     ensures { output.new ≡ put output.old (settings_place first) (bodies (policy_parts first policy table.now [])) }
 {
-    let config = policy.config;
-    let ingress = policy.ingress;
     let end = ROW_WIDTH * (policy.rows as usize);
-    snapshot_settings::settings::put_settings(output, form::SETTINGS_PLACE, config);
-    snapshot_settings::load::put_load(output, form::LOAD_PLACE, ingress);
+    snapshot_settings::settings::put_settings(output, form::SETTINGS_PLACE, policy.config);
+    snapshot_settings::load::put_load(output, form::LOAD_PLACE, policy.ingress);
     lent_bytes::run::put_slice(output, form::ROWS_PLACE, &table[..end]);
 }
 

@@ -4,17 +4,17 @@
 use Rattle.std.specs.Prelude.{◌≡◌, Bool, true, false, cond, leb, length, take, drop}
 use Rattle.std.proofs.Math.Path.{refl, sym, ap}
 use Rattle.std.proofs.Common.{◌∙◌, subst, arith, leb-true}
+use Rattle.std.specs.Prelude.{Result, Ok, Err}
+use Rattle.refusal.specs.declared.Refusal.{Refusal}
+use Rattle.refusal.specs.declared.Refusal.TheVariants as Refusal
 use mathlib.Core.List.{List, []}
 use Prim.Native.Nat.{ℕ, ◌+◌, ◌*◌, ◌≤◌}
 use Rattle.lent_bytes.specs.LentBytes.{part, put, Bytes}
 use Rattle.lent_bytes.specs.LentBytesLaws.{part_put_at, Bytes_nil, Bytes_append, Bytes_take, Bytes_drop}
-use Rattle.refusal.specs.Refusal.{too_short, unsound}
 use Rattle.peer_message_policy.specs.declared.policy.PeerMessagePolicy.{PeerMessagePolicy}
-use Rattle.peer_message_policy.specs.declared.answer.Made.{Made}
 use Rattle.peer_message_policy.specs.Policy.{rows_of, long_enough, sound, Change, become}
 use Rattle.peer_message_policy.specs.Calls.{refuse}
 use Rattle.peer_laws.specs.Fits.{PolicyFits}
-use Rattle.snapshot.specs.declared.answer.Written.{Written}
 use Rattle.peer_rows.specs.Rows.{row_width}
 use Rattle.snapshot.specs.Form.{Form, first, sizes, joined, rows_place, FormFits}
 use Rattle.snapshot.specs.FormLaws.{first_fits}
@@ -27,7 +27,7 @@ use Rattle.snapshot_laws.specs.ReadLaws.{Restored, read_restored, restored_rows,
 
 -- an answer that goes by a test
 chosen : (p : PeerMessagePolicy) (b : Bool) (change : Change)
-    → (cond b (record { answer = Made.Policy p; change = change }) (refuse (Made.Refused too_short))).answer ≡ cond b (Made.Policy p) (Made.Refused too_short)
+    → (cond b (record { answer = Ok p; change = change }) (refuse (Err Refusal.TooShort))).answer ≡ cond b (Ok p) (Err Refusal.TooShort)
 chosen p true change = refl
 chosen p false change = refl
 
@@ -37,11 +37,11 @@ module _ (f : Form) (fits : FormFits f) (p : PeerMessagePolicy) (s : List ℕ) (
     (numbers : PolicyFits p) (before after : List ℕ) where
   -- it is the same policy
   pub snapshot_reads : Bytes s → Bytes (joined behind) → Bytes before → (q : PeerMessagePolicy)
-      → ReadMeets f (snapshot_bytes f p s behind) before (Made.Policy q) after → Alike (record { policy = p; memory = s }) (record { policy = q; memory = after })
+      → ReadMeets f (snapshot_bytes f p s behind) before (Ok q) after → Alike (record { policy = p; memory = s }) (record { policy = q; memory = after })
   snapshot_reads b more free q read =
       let z : List ℕ = snapshot_bytes f p s behind in
       let r : Restored f z before q after = read_restored f z before q after read in
-      let both : Made.Policy q ≡ Made.Policy p = sym (describes_policy f z q r.described) ∙ written_policy f fits p s h behind e numbers in
+      let both : (Ok q) ≡ (Ok p) = sym (describes_policy f z q r.described) ∙ written_policy f fits p s h behind e numbers in
       let is : q ≡ p = cc in
       let bytes : Bytes (drop (rows_place f) z) =
       subst Bytes (sym (written_tail f fits p s h behind e)) (Bytes_append (take (row_width * p.rows) s) (joined behind) (Bytes_take (row_width * p.rows) s b) more) in
@@ -58,13 +58,13 @@ module _ (f : Form) (fits : FormFits f) (p : PeerMessagePolicy) (s : List ℕ) (
       }
 
   -- it is refused with 1 alone, by a table that is too short
-  pub snapshot_answers : (r : Made) → ReadMeets f (snapshot_bytes f p s behind) before r after
-      → r ≡ cond (long_enough p.config before) (Made.Policy p) (Made.Refused too_short)
+  pub snapshot_answers : (r : Result PeerMessagePolicy Refusal) → ReadMeets f (snapshot_bytes f p s behind) before r after
+      → r ≡ cond (long_enough p.config before) (Ok p) (Err Refusal.TooShort)
   unfolding ReadMeets read_outcome
   snapshot_answers r read =
       let z : List ℕ = snapshot_bytes f p s behind in
       read.answers
-      ∙ ap (λ (x : Made). (restored f z before x).answer) (written_policy f fits p s h behind e numbers)
+      ∙ ap (λ (x : Result PeerMessagePolicy Refusal). (restored f z before x).answer) (written_policy f fits p s h behind e numbers)
       ∙ chosen p (long_enough p.config before) (become (rows_of p (drop (rows_place f) z)))
 
 -- ════ A write that was not refused ════
@@ -79,12 +79,12 @@ pub record Wrote (p : PeerMessagePolicy) (s out : List ℕ) (n : ℕ) (after : L
 wrote_by : (p : PeerMessagePolicy) (s out : List ℕ) (n : ℕ) (after : List ℕ) (a b : Bool) → sound p s ≡ a → leb (snapshot_length first p) (length out) ≡ b
     → (o : WriteOutcome)
     → o ≡ cond a
-    (cond b (record { answer = Written.Length (snapshot_length first p); output = put out 0 (snapshot_bytes first p s []) })
-    (record { answer = Written.Refused too_short; output = out }))
-    (record { answer = Written.Refused unsound; output = out })
-    → Written.Length n ≡ o.answer → after ≡ o.output → Wrote p s out n after
+    (cond b (record { answer = Ok (snapshot_length first p); output = put out 0 (snapshot_bytes first p s []) })
+    (record { answer = Err Refusal.TooShort; output = out }))
+    (record { answer = Err Refusal.Unsound; output = out })
+    → Ok n ≡ o.answer → after ≡ o.output → Wrote p s out n after
 wrote_by p s out n after true true h l o e f g =
-    let said : Written.Length n ≡ Written.Length (snapshot_length first p) = f ∙ ap (λ (x : WriteOutcome). x.answer) e in
+    let said : (Ok n) ≡ (Ok (snapshot_length first p)) = f ∙ ap (λ (x : WriteOutcome). x.answer) e in
     record {
       is_sound = h;
       long = leb-true (snapshot_length first p) (length out) l;
@@ -92,15 +92,15 @@ wrote_by p s out n after true true h l o e f g =
       output = g ∙ ap (λ (x : WriteOutcome). x.output) e;
     }
 wrote_by p s out n after true false h l o e f g =
-    let said : Written.Length n ≡ Written.Refused too_short = f ∙ ap (λ (x : WriteOutcome). x.answer) e in
+    let said : (Ok n) ≡ (Err Refusal.TooShort) = f ∙ ap (λ (x : WriteOutcome). x.answer) e in
     let no : ◌≡◌ {A = ℕ} 0 1 = cc in
     absurd (omega arith)
 wrote_by p s out n after false b h l o e f g =
-    let said : Written.Length n ≡ Written.Refused unsound = f ∙ ap (λ (x : WriteOutcome). x.answer) e in
+    let said : (Ok n) ≡ (Err Refusal.Unsound) = f ∙ ap (λ (x : WriteOutcome). x.answer) e in
     let no : ◌≡◌ {A = ℕ} 0 1 = cc in
     absurd (omega arith)
 
-module _ (p : PeerMessagePolicy) (s out : List ℕ) (n : ℕ) (out' : List ℕ) (m : WriteMeets p s out (Written.Length n) out') where
+module _ (p : PeerMessagePolicy) (s out : List ℕ) (n : ℕ) (out' : List ℕ) (m : WriteMeets p s out (Ok n) out') where
   pub wrote : Wrote p s out n out'
   unfolding write_outcome
   wrote = wrote_by p s out n out' (sound p s) (leb (snapshot_length first p) (length out)) refl refl (write_outcome p s out) refl m.answers m.leaves
@@ -116,15 +116,15 @@ module _ (p : PeerMessagePolicy) (s out : List ℕ) (n : ℕ) (out' : List ℕ) 
 
   module _ (fits : PolicyFits p) (before after : List ℕ) where
     -- what was written and is read is the same policy
-    pub written_reads : Bytes s → Bytes before → (q : PeerMessagePolicy) → ReadMeets first (take n out') before (Made.Policy q) after
+    pub written_reads : Bytes s → Bytes before → (q : PeerMessagePolicy) → ReadMeets first (take n out') before (Ok q) after
         → Alike (record { policy = p; memory = s }) (record { policy = q; memory = after })
     written_reads b free q read =
         snapshot_reads first first_fits p s wrote.is_sound [] refl fits before after b Bytes_nil free q
-        (subst (λ (z : List ℕ). ReadMeets first z before (Made.Policy q) after) front_is read)
+        (subst (λ (z : List ℕ). ReadMeets first z before (Ok q) after) front_is read)
 
     -- reading it is refused with 1 alone, by a table that is too short
-    pub written_answers : (r : Made) → ReadMeets first (take n out') before r after
-        → r ≡ cond (long_enough p.config before) (Made.Policy p) (Made.Refused too_short)
+    pub written_answers : (r : Result PeerMessagePolicy Refusal) → ReadMeets first (take n out') before r after
+        → r ≡ cond (long_enough p.config before) (Ok p) (Err Refusal.TooShort)
     written_answers r read =
         snapshot_answers first first_fits p s wrote.is_sound [] refl fits before after r
         (subst (λ (z : List ℕ). ReadMeets first z before r after) front_is read)
@@ -132,9 +132,9 @@ module _ (p : PeerMessagePolicy) (s out : List ℕ) (n : ℕ) (out' : List ℕ) 
 -- ════ Read and written ════
 
 -- what was read and is written is the same bytes, and every further byte of the output stays
-pub read_writes : (z before after : List ℕ) (q : PeerMessagePolicy) → Bytes z → ReadMeets first z before (Made.Policy q) after
-    → (out : List ℕ) → length z ≤ length out → (r : Written) (out' : List ℕ) → WriteMeets q after out r out'
-    → (r ≡ Written.Length (length z)) × (out' ≡ put out 0 z)
+pub read_writes : (z before after : List ℕ) (q : PeerMessagePolicy) → Bytes z → ReadMeets first z before (Ok q) after
+    → (out : List ℕ) → length z ≤ length out → (r : Result ℕ Refusal) (out' : List ℕ) → WriteMeets q after out r out'
+    → (r ≡ Ok (length z)) × (out' ≡ put out 0 z)
 read_writes z before after q b read out long r out' m =
     let back : Restored first z before q after = read_restored first z before q after read in
     let tail : Bytes (drop (rows_place first) z) = Bytes_drop (rows_place first) z b in

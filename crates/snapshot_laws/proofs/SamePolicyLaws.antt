@@ -4,15 +4,16 @@ use Rattle.std.specs.Prelude.{◌≡◌, refl, true, ℕ, ◌*◌, ◌≤◌, le
 use Rattle.std.proofs.Math.Path.{sym}
 use Rattle.std.proofs.Common.{ap, ◌∙◌}
 use Rattle.std.proofs.Math.Bool.{cond}
+use Rattle.std.specs.Prelude.{Ok, Err}
+use Rattle.refusal.specs.declared.Refusal.TheVariants as Refusal
 use mathlib.Core.List.{List, [], ◌∷◌}
 use Rattle.lent_bytes.specs.LentBytes.{put, Bytes}
 use Rattle.table.specs.Memory.{table_bytes}
 use Rattle.table.specs.MemoryLaws.{table_bytes_rows}
-use Rattle.refusal.specs.Refusal.{Said, too_short, unsound}
+use Rattle.refusal.specs.Refusal.{Said}
 use Rattle.peer_rows.specs.Rows.{row_width, peer_layout}
 use Rattle.peer_rows.specs.RowsLaws.{peer_faithful}
 use Rattle.peer_message_policy.specs.declared.policy.PeerMessagePolicy.{PeerMessagePolicy}
-use Rattle.peer_message_policy.specs.declared.answer.Made.TheVariants as Made
 use Rattle.peer_message_policy.specs.Policy.{sound}
 use Rattle.peer_message_policy.specs.Calls.{changed_rows}
 use Rattle.peer_laws.specs.Fits.{PolicyFits}
@@ -22,7 +23,6 @@ use Rattle.peer_runs.specs.EffectLaws.{step_effect}
 use Rattle.snapshot_settings.specs.Settings.{settings_bytes}
 use Rattle.snapshot_settings.specs.Load.{load_bytes}
 use Rattle.snapshot_layout.specs.Layout.{snapshot_of}
-use Rattle.snapshot.specs.declared.answer.Written.TheVariants as Written
 use Rattle.snapshot.specs.Form.{Form, first, parts}
 use Rattle.snapshot.specs.Snapshot.{policy_parts, snapshot_bytes, snapshot_length, WriteOutcome, write_outcome, WriteMeets, ReadMeets}
 use Rattle.snapshot.specs.WriteLaws.{sound_rows}
@@ -84,9 +84,9 @@ module _ (s t : State) (a : Alike s t) where
       (λ d.
       cond (both-sound d)
       (cond (leb (snapshot_length first (a.policy d)) (length out))
-      (record { answer = Written.Length (snapshot_length first (a.policy d)); output = put out 0 (snapshot_alike first [] d) })
-      (record { answer = Written.Refused too_short; output = out }))
-      (record { answer = Written.Refused unsound; output = out }))
+      (record { answer = Ok (snapshot_length first (a.policy d)); output = put out 0 (snapshot_alike first [] d) })
+      (record { answer = Err Refusal.TooShort; output = out }))
+      (record { answer = Err Refusal.Unsound; output = out }))
 
   -- a write answers the same on both, and writes the same bytes
   pub writes_alike : WrittenAlike s t
@@ -112,8 +112,8 @@ alike_same s t a calls saids others u v one two =
     let later = calls_alike a one two in (later.0, later.1, writes_alike u v later.1)
 
 -- what was written and is read is the same policy
-pub same_policy : (p : PeerMessagePolicy) (s out : List ℕ) (n : ℕ) (out' : List ℕ) → WriteMeets p s out (Written.Length n) out' → PolicyFits p
-    → (before after : List ℕ) → Bytes s → Bytes before → (q : PeerMessagePolicy) → ReadMeets first (take n out') before (Made.Policy q) after
+pub same_policy : (p : PeerMessagePolicy) (s out : List ℕ) (n : ℕ) (out' : List ℕ) → WriteMeets p s out (Ok n) out' → PolicyFits p
+    → (before after : List ℕ) → Bytes s → Bytes before → (q : PeerMessagePolicy) → ReadMeets first (take n out') before (Ok q) after
     → SamePolicy (record { policy = p; memory = s }) (record { policy = q; memory = after })
 same_policy p s out n out' m fits before after b c q read =
     alike_same (record { policy = p; memory = s }) (record { policy = q; memory = after }) (written_reads p s out n out' m fits before after b c q read)

@@ -1,11 +1,12 @@
 -- What it means that two states are the same policy: they are alike now, and whatever is called from here on says the same on both and
 -- leaves them alike. Bytes that hold no row may differ, and so may the memories' lengths. Definitions only.
 use Rattle.std.specs.Prelude.{◌≡◌, true, List, [], ◌∷◌, ℕ, take}
+use Rattle.std.specs.Prelude.{Result, Ok}
+use Rattle.refusal.specs.declared.Refusal.{Refusal}
 use Rattle.lent_bytes.specs.LentBytes.{Bytes}
 use Rattle.refusal.specs.Refusal.{Said}
 use Rattle.peer_message_policy.specs.Policy.{sound}
 use Rattle.peer_runs.specs.Runs.{Call, State, rows_in, Step, CallFits}
-use Rattle.snapshot.specs.declared.answer.Written.{Written}
 use Rattle.snapshot.specs.Snapshot.{WriteMeets}
 
 -- the same policy, with the same rows in both memories, and both sound; memory holds bytes, as all memory does
@@ -26,11 +27,11 @@ pub data Calls : State → List Call → List Said → State → Type 0 where
 -- a snapshot of either is the same
 pub record WrittenAlike (s t : State) : Type 0 where
   -- written into the same output, it is answered the same and leaves the same output
-  pub same_output : (out : List ℕ) (r q : Written) (x y : List ℕ) → WriteMeets s.policy s.memory out r x
+  pub same_output : (out : List ℕ) (r q : Result ℕ Refusal) (x y : List ℕ) → WriteMeets s.policy s.memory out r x
       → WriteMeets t.policy t.memory out q y → (r ≡ q) × (x ≡ y)
   -- written into any two outputs, it has the same length and the same bytes
-  pub any_outputs : (out other : List ℕ) (n m : ℕ) (x y : List ℕ) → WriteMeets s.policy s.memory out (Written.Length n) x
-      → WriteMeets t.policy t.memory other (Written.Length m) y → (n ≡ m) × (take n x ≡ take m y)
+  pub any_outputs : (out other : List ℕ) (n m : ℕ) (x y : List ℕ) → WriteMeets s.policy s.memory out (Ok n) x
+      → WriteMeets t.policy t.memory other (Ok m) y → (n ≡ m) × (take n x ≡ take m y)
 
 -- the same policy: after any calls, none included, both have said the same and are alike, and so are their snapshots
 abbrev pub SamePolicy : State → State → Type 0

@@ -3,6 +3,9 @@
 use Rattle.std.specs.Prelude.{◌≡◌, Bool, true, false, cond, take}
 use Rattle.std.proofs.Math.Path.{refl, sym, ap}
 use Rattle.std.proofs.Common.{◌∙◌, subst, arith, leb-true, length-drop}
+use Rattle.std.specs.Prelude.{Result, Ok, Err}
+use Rattle.refusal.specs.declared.Refusal.{Refusal}
+use Rattle.refusal.specs.declared.Refusal.TheVariants as Refusal
 use mathlib.Core.List.{List, ◌∷◌, ◌++◌}
 use Prim.Native.Nat.{ℕ, ◌+◌, ◌-◌, ◌*◌, ◌≤◌, max}
 use Rattle.std.proofs.Math.Seq.{take_at}
@@ -14,12 +17,10 @@ use Rattle.table.specs.Table.{every, ascending}
 use Rattle.table.specs.Memory.{rows, table_bytes, laid, Holds}
 use Rattle.table.specs.MemoryLaws.{AllFit, length_rows, length_table_bytes, table_bytes_rows, fit_rows}
 use Rattle.table.specs.MemoryLaws as memory
-use Rattle.refusal.specs.Refusal.{too_short}
 use Rattle.peer_settings.specs.Config.{limit}
 use Rattle.peer_rows.specs.Rows.{row_width, Peers, peer_layout, peer_sound}
 use Rattle.peer_rows.specs.RowsLaws.{EntryFits, peer_faithful}
 use Rattle.peer_message_policy.specs.declared.policy.PeerMessagePolicy.{PeerMessagePolicy}
-use Rattle.peer_message_policy.specs.declared.answer.Made.{Made}
 use Rattle.peer_message_policy.specs.Policy.{rows_of, long_enough, sound, become}
 use Rattle.peer_message_policy.specs.Calls.{Meets, refuse}
 use Rattle.peer_laws.specs.SoundLaws.{record_holds, holds_policy}
@@ -45,24 +46,24 @@ module _ (f : Form) where
 
   module _ (z before : List ℕ) (q : PeerMessagePolicy) (after : List ℕ) where
     -- by the table's length
-    fitted_is : (p : PeerMessagePolicy) → policy_in f z ≡ Made.Policy p → (b : Bool) → long_enough p.config before ≡ b
-        → Meets (Made.Policy q) before after (limit p.config)
-        (cond b (record { answer = Made.Policy p; change = become (rows_of p (drop (rows_place f) z)) }) (refuse (Made.Refused too_short)))
+    fitted_is : (p : PeerMessagePolicy) → policy_in f z ≡ Ok p → (b : Bool) → long_enough p.config before ≡ b
+        → Meets (Ok q) before after (limit p.config)
+        (cond b (record { answer = Ok p; change = become (rows_of p (drop (rows_place f) z)) }) (refuse (Err Refusal.TooShort)))
         → Restored z before q after
-    fitted_is p h false l m = let no : Made.Policy q ≡ Made.Refused too_short = m.answers in let z : ◌≡◌ {A = ℕ} 0 1 = cc in absurd (omega arith)
+    fitted_is p h false l m = let no : (Ok q) ≡ (Err Refusal.TooShort) = m.answers in let z : ◌≡◌ {A = ℕ} 0 1 = cc in absurd (omega arith)
     fitted_is p h true l m =
-        let same : Made.Policy q ≡ Made.Policy p = m.answers in
+        let same : (Ok q) ≡ (Ok p) = m.answers in
         let is : p ≡ q = cc in
         subst (λ (x : PeerMessagePolicy). Restored z before x after) is
         (record { described = policy_describes f z p h; long = leb-true (row_width * limit p.config) (length before) l; held = m.leaves })
 
     -- by what the snapshot holds
-    restored_is : (x : Made) → policy_in f z ≡ x → Meets (Made.Policy q) before after (limit_of x) (restored f z before x) → Restored z before q after
-    restored_is (Made.Refused n) h m = let no : Made.Policy q ≡ Made.Refused n = m.answers in let z : ◌≡◌ {A = ℕ} 0 1 = cc in absurd (omega arith)
-    restored_is (Made.Policy p) h m = fitted_is p h (long_enough p.config before) refl m
+    restored_is : (x : Result PeerMessagePolicy Refusal) → policy_in f z ≡ x → Meets (Ok q) before after (limit_of x) (restored f z before x) → Restored z before q after
+    restored_is (Err n) h m = let no : (Ok q) ≡ (Err n) = m.answers in let z : ◌≡◌ {A = ℕ} 0 1 = cc in absurd (omega arith)
+    restored_is (Ok p) h m = fitted_is p h (long_enough p.config before) refl m
 
     -- what a read that answers a policy leaves
-    pub read_restored : ReadMeets f z before (Made.Policy q) after → Restored z before q after
+    pub read_restored : ReadMeets f z before (Ok q) after → Restored z before q after
     unfolding ReadMeets read_outcome
     read_restored m = restored_is (policy_in f z) refl m
 

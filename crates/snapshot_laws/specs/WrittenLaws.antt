@@ -6,20 +6,19 @@ use Rattle.std.proofs.Common.{◌∙◌, subst, arith, drop-drop}
 use Rattle.std.proofs.Math.Bool.{cond}
 use Rattle.std.proofs.Math.Seq.{take_at, drop_at}
 use Rattle.std.proofs.Math.ListN.{length}
+use Rattle.std.specs.Prelude.{Ok, None}
 use Rattle.truths.specs.TruthLaws.{both}
 use Rattle.lent_bytes.specs.LentBytes.{part}
 use Rattle.table.specs.Table.{every, ascending}
 use Rattle.table.specs.MemoryLaws.{rows_front}
 use Rattle.peer_rows.specs.Rows.{row_width, Peers, peer_layout, peer_sound}
 use Rattle.peer_message_policy.specs.declared.policy.PeerMessagePolicy.{PeerMessagePolicy}
-use Rattle.peer_message_policy.specs.declared.answer.Made.TheVariants as Made
 use Rattle.peer_message_policy.specs.Policy.{rows_of, sound}
 use Rattle.peer_laws.specs.SoundLaws.{policy_holds, holds_record}
 use Rattle.peer_laws.specs.Fits.{PolicyFits}
 use Rattle.snapshot_layout.specs.Layout.{contents_size, slots_of, snapshot_size, contents, bodies, snapshot_of, laid_out, SlotsFit}
 use Rattle.snapshot_layout.specs.SlotLaws.{length_contents}
 use Rattle.snapshot_layout.specs.LayoutLaws.{length_snapshot, laid_out_lem}
-use Rattle.snapshot_settings.specs.declared.settings.ReadSettings.TheVariants as ReadSettings
 use Rattle.snapshot_settings.specs.Settings.{settings_size, settings_bytes, settings_of}
 use Rattle.snapshot_settings.specs.SettingsLaws.{length_settings_bytes, settings_read_back}
 use Rattle.snapshot_settings.specs.Load.{load_size, load_bytes, load_of}
@@ -119,7 +118,7 @@ module _ (f : Form) (fits : FormFits f) (p : PeerMessagePolicy) (s : List ℕ) (
         let holds = policy_holds p s h in
         record {
           settings =
-              ap (λ (b : Bool). cond b (settings_of (part z (settings_place f) settings_size)) ReadSettings.OutOfRange) written_laid
+              ap (λ (b : Bool). cond b (settings_of (part z (settings_place f) settings_size)) None) written_laid
               ∙ ap settings_of written_settings
               ∙ settings_read_back p.config numbers.config;
           tracked = holds.own.tracked;
@@ -131,5 +130,5 @@ module _ (f : Form) (fits : FormFits f) (p : PeerMessagePolicy) (s : List ℕ) (
         }
 
     -- so it is judged to hold it
-    pub written_policy : policy_in f (snapshot_bytes f p s behind) ≡ Made.Policy p
+    pub written_policy : policy_in f (snapshot_bytes f p s behind) ≡ Ok p
     written_policy = describes_policy f z p written_describes

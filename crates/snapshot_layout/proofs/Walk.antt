@@ -1,5 +1,6 @@
 -- One step of a loop over the lists of kinds and lengths: what is written, told or found of the slots that are left is what the
 -- first of them says and what the others do. Assumes nothing.
+use Rattle.std.specs.Prelude.{Some}
 use mathlib.Core.Path.{◌≡◌, refl, sym, ap, ◌∙◌}
 use mathlib.Core.Bool.{Bool, true, false, ◌&&◌, cond}
 use mathlib.Core.List.{List, [], ◌∷◌, ◌++◌}
@@ -10,7 +11,6 @@ use lib.Dec.{eqb}
 use lib.ListN.{length, drop, get_or, drop_of_length-le}
 use Rattle.lent_bytes.specs.LentBytes.{put, bytes}
 use Rattle.lent_bytes.specs.LentBytesLaws.{length_put, put_put_at}
-use Rattle.snapshot_layout.specs.declared.place.Place.{Place}
 use Rattle.snapshot_layout.specs.Layout.{count_size, kind_size, number_size, slot_size, contents_size, Slot, slots, bodies_size, slot_bytes, contents_from, contents}
 use Rattle.snapshot_layout.specs.Layout.{slot_says, says_from, place_from}
 use Rattle.snapshot_layout.specs.SlotLaws.{slots_cons, length_slots, length_slot_bytes, past_end}
@@ -97,7 +97,7 @@ module _ (ks ns : List ℕ) (i : ℕ) (h : i < length ks) (e : length ns ≡ len
   -- what is found
   pub place_step : (kind from : ℕ)
       → place_from kind from (slots_left ks ns i)
-      ≡ cond (eqb (get_or ks i 0) kind) (Place.At from (from + get_or ns i 0)) (place_from kind (from + get_or ns i 0) (slots_left ks ns (i + 1)))
+      ≡ cond (eqb (get_or ks i 0) kind) (Some (from, (from + get_or ns i 0))) (place_from kind (from + get_or ns i 0) (slots_left ks ns (i + 1)))
   unfolding place_from
   place_step kind from = ap (place_from kind from) left_cons
 

@@ -1,10 +1,10 @@
 -- How a snapshot's bytes are laid out: first the contents, which tell of each part its kind, its place and its length, then the parts'
 -- bodies in the same order, with no gap between them and nothing after the last. One definition for any list of parts, so that a
 -- further form of the snapshot is a further list. Definitions only; their laws are in `SlotLaws`, `LayoutLaws` and `PlaceLaws`.
+use Rattle.std.specs.Prelude.{Option, Some, None}
 use Prim.{Unit}
 use Rattle.std.specs.Prelude.{Bool, ◌&&◌, cond, List, [], ◌∷◌, ◌++◌, ℕ, ◌+◌, ◌*◌, ◌^◌, ◌<◌, ◌≤◌, eqb, length}
 use Rattle.lent_bytes.specs.LentBytes.{part, le, bytes}
-use Rattle.snapshot_layout.specs.declared.place.Place.{Place}
 
 -- ════ Sizes, in bytes ════
 
@@ -116,12 +116,12 @@ body_of kind [] = []
 body_of kind (p ∷ ps) = cond (eqb p.kind kind) p.body (body_of kind ps)
 
 -- where the first part of a kind stands, among bodies that stand one after another from a place on
-unfoldable pub place_from : ℕ → ℕ → List Slot → Place
-place_from kind from [] = Place.Absent
-place_from kind from (q ∷ qs) = cond (eqb q.kind kind) (Place.At from (from + q.size)) (place_from kind (from + q.size) qs)
+unfoldable pub place_from : ℕ → ℕ → List Slot → Option (ℕ × ℕ)
+place_from kind from [] = None
+place_from kind from (q ∷ qs) = cond (eqb q.kind kind) (Some (from, (from + q.size))) (place_from kind (from + q.size) qs)
 
 -- where the first part of a kind stands in a snapshot
-unfoldable pub place_of : ℕ → List Slot → Place
+unfoldable pub place_of : ℕ → List Slot → Option (ℕ × ℕ)
 place_of kind qs = place_from kind (contents_size (length qs)) qs
 
 -- the bytes from a to e stand between two places

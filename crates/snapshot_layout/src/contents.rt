@@ -1,8 +1,11 @@
 // A snapshot's contents, written and compared. Places come from the lists of kinds and lengths.
+// Kept: these are two slices and not one of pairs, since the contracts of `put_contents`, `laid_out` and `place_of` speak of each.
 ghost use Rattle.std.specs.Prelude.{◌≡◌, ◌+◌, ◌*◌, ◌≤◌, length};
 ghost use Rattle.lent_bytes.specs.LentBytes.{put};
 ghost use Rattle.snapshot_layout.specs.Layout.{count_size, slot_size, contents_size, slots, snapshot_size};
 ghost use Rattle.snapshot_layout.specs.Layout.{slot_bytes, contents, slot_says, says_from, laid_out};
+
+use lent_bytes::number::{get_u16, get_u32, put_u16, put_u32};
 
 // Sizes in bytes: of the count of the parts, of a kind, of a place or a length, and of what the contents tell of one part.
 pub const COUNT_SIZE: usize = 2;
@@ -26,9 +29,9 @@ fn put_slot(output: &mut [u8], at: usize, kind: u16, from: u32, size: u32)
     requires { at + slot_size ≤ length output.old }
     ensures { output.new ≡ put output.old at (slot_bytes from (record { kind = kind; size = size })) }
 {
-    lent_bytes::number::put_u16(output, at, kind);
-    lent_bytes::number::put_u32(output, at + KIND_SIZE, from);
-    lent_bytes::number::put_u32(output, at + KIND_SIZE + NUMBER_SIZE, size);
+    put_u16(output, at, kind);
+    put_u32(output, at + KIND_SIZE, from);
+    put_u32(output, at + KIND_SIZE + NUMBER_SIZE, size);
 }
 
 // Writes the contents of a snapshot with parts of these kinds and lengths at the beginning of the output.
@@ -39,10 +42,9 @@ pub fn put_contents(output: &mut [u8], kinds: &[u16], lengths: &[usize])
     requires kinds_in_bounds { contents_size (length kinds.now) ≤ length output.old }
     ensures { output.new ≡ put output.old 0 (contents (slots kinds.now lengths.now)) }
 {
-    lent_bytes::number::put_u16(output, 0, kinds.len() as u16);
+    put_u16(output, 0, kinds.len() as u16);
     let mut from: usize = contents_size(kinds.len());
-    let mut i: usize = 0;
-    while i < kinds.len() {
+    for i in 0..kinds.len() {
         let size = lengths[i];
         put_slot(
             output,
@@ -52,7 +54,6 @@ pub fn put_contents(output: &mut [u8], kinds: &[u16], lengths: &[usize])
             size as u32,
         );
         from += size;
-        i += 1;
     }
 }
 
@@ -61,13 +62,13 @@ fn slot_says(snapshot: &[u8], at: usize, kind: u16, from: usize, size: usize) ->
     requires { at + slot_size ≤ length snapshot.now }
     ensures { result ≡ slot_says snapshot.now at from (record { kind = kind; size = size }) }
 {
-    if lent_bytes::number::get_u16(snapshot, at) != kind {
+    if get_u16(snapshot, at) != kind {
         return false;
     }
-    if lent_bytes::number::get_u32(snapshot, at + KIND_SIZE) as usize != from {
+    if get_u32(snapshot, at + KIND_SIZE) as usize != from {
         return false;
     }
-    lent_bytes::number::get_u32(snapshot, at + KIND_SIZE + NUMBER_SIZE) as usize == size
+    get_u32(snapshot, at + KIND_SIZE + NUMBER_SIZE) as usize == size
 }
 
 // Whether contents that are there tell of parts of these kinds and lengths, with no gap between the bodies and nothing after the last.
@@ -77,8 +78,7 @@ fn slots_say(snapshot: &[u8], kinds: &[u16], lengths: &[usize]) -> bool
     ensures { result ≡ says_from snapshot.now count_size (contents_size (length kinds.now)) (slots kinds.now lengths.now) }
 {
     let mut from: usize = contents_size(kinds.len());
-    let mut i: usize = 0;
-    while i < kinds.len() {
+    for i in 0..kinds.len() {
         let size = lengths[i];
         if !slot_says(snapshot, COUNT_SIZE + SLOT_SIZE * i, kinds[i], from, size) {
             return false;
@@ -87,7 +87,6 @@ fn slots_say(snapshot: &[u8], kinds: &[u16], lengths: &[usize]) -> bool
             return false;
         }
         from += size;
-        i += 1;
     }
     snapshot.len() == from
 }
@@ -100,7 +99,7 @@ pub fn laid_out(snapshot: &[u8], kinds: &[u16], lengths: &[usize]) -> bool
     if snapshot.len() < COUNT_SIZE {
         return false;
     }
-    if lent_bytes::number::get_u16(snapshot, 0) as usize != kinds.len() {
+    if get_u16(snapshot, 0) as usize != kinds.len() {
         return false;
     }
     if snapshot.len() < contents_size(kinds.len()) {

@@ -1,13 +1,16 @@
 -- Laws of the walk over a snapshot's rows. Assumes nothing.
-use Rattle.std.specs.Prelude.{◌≡◌, true, false, List, ◌++◌, ℕ, ◌+◌, ◌-◌, ◌*◌, ◌%◌, ◌≤◌, ◌<◌, leb, eqb, get_or, drop, take}
+use Rattle.std.specs.Prelude.{◌≡◌, Bool, ◌&&◌, true, false, List, ◌++◌, ℕ, ◌+◌, ◌-◌, ◌*◌, ◌%◌, ◌≤◌, ◌<◌, leb, eqb, get_or, drop, take}
 use Rattle.std.proofs.Math.Path.{refl}
 use Rattle.std.proofs.Common.{sym, ap, ◌∙◌, append-nil, drop-drop, drop_of_length-le}
+use Rattle.std.specs.Prelude.{Result, Ok, Err, Option, Some, None, is_ok}
+use Rattle.std.proofs.Math.Logic.{◌⊎◌, inl, inr}
+use Rattle.refusal.specs.declared.Refusal.{Refusal}
+use Rattle.peer_settings.specs.declared.config.PeerMessagePolicyConfig.{PeerMessagePolicyConfig}
 use native.Mathlib.Omega.{arith}
 use borrow.Author.Tests.{leb-true, le-leb, lt-leb, eqb-true, eq-eqb, ne_eqb}
 use Rattle.std.proofs.Math.ListN.{length}
 use Rattle.truths.specs.TruthLaws.{both_parts}
 use Rattle.lent_bytes.specs.LentBytes.{part, put}
-use Rattle.refusal.specs.Refusal.{wrong_layout}
 use Rattle.table.specs.Table.{Row, row_under}
 use Rattle.table.specs.Memory.{row_of, rows}
 use Rattle.table.specs.MemoryLaws.{get_d_rows, key_row_of}
@@ -15,13 +18,11 @@ use Rattle.peer_state.specs.declared.entry.PeerMessagePolicyEntry.{PeerMessagePo
 use Rattle.peer_rows.specs.Rows.{row_width, peer_layout, row_from}
 use Rattle.peer_rows.specs.RowsLaws.{peer_faithful}
 use Rattle.snapshot_layout.specs.Layout.{place_from, place_of}
-use Rattle.snapshot_settings.specs.declared.settings.ReadSettings.{ReadSettings}
-use Rattle.snapshot.specs.declared.answer.PartPlace.{PartPlace}
 use Rattle.snapshot.specs.Form.{first, rows_place, rows_in}
 use Rattle.snapshot.specs.Snapshot.{was_read, settings_in, layout_right, kind_place, part_place}
 use Rattle.snapshot.specs.FormLaws.{first_fits}
 use Rattle.snapshot.specs.JudgeLaws.{read_length}
-use Rattle.snapshot_reader.specs.Reader.{given, done, given_at, ended, row_place, stands, step_at}
+use Rattle.snapshot_reader.specs.Reader.{given_at, row_place, stands, step_at}
 
 -- bytes written over all of a list are what is left
 pub put_all : (s b : List ℕ) → length b ≡ length s → put s 0 b ≡ b
@@ -33,26 +34,34 @@ put_all s b h =
 -- ════ The layout ════
 
 -- the rows have a place just where the layout is right
-place_read : (z : List ℕ) (x : ReadSettings) → (a e : ℕ) → kind_place first z 3 x ≡ PartPlace.At a e → was_read x ≡ true
-place_read z ReadSettings.OutOfRange a e h = let no : ◌≡◌ {A = ℕ} 0 1 = cc in absurd (omega arith)
-place_read z (ReadSettings.Read c) a e h = refl
+place_read : (z : List ℕ) (x : Option PeerMessagePolicyConfig) → (a e : ℕ) → kind_place first z 3 x ≡ Ok (a, e) → was_read x ≡ true
+place_read z None a e h = let no : ◌≡◌ {A = ℕ} 0 1 = cc in absurd (omega arith)
+place_read z (Some c) a e h = refl
 
-place_unread : (z : List ℕ) (x : ReadSettings) → (n : ℕ) → kind_place first z 3 x ≡ PartPlace.Refused n → was_read x ≡ false
+place_unread : (z : List ℕ) (x : Option PeerMessagePolicyConfig) → (n : Refusal) → kind_place first z 3 x ≡ Err n → was_read x ≡ false
 unfolding place_of place_from
-place_unread z ReadSettings.OutOfRange n h = refl
-place_unread z (ReadSettings.Read c) n h = let no : ◌≡◌ {A = ℕ} 0 1 = cc in absurd (omega arith)
+place_unread z None n h = refl
+place_unread z (Some c) n h = let no : ◌≡◌ {A = ℕ} 0 1 = cc in absurd (omega arith)
 
-pub opens_right : (z : List ℕ) (a e : ℕ) → part_place first z 3 ≡ PartPlace.At a e → layout_right first z ≡ true
+pub opens_right : (z : List ℕ) (a e : ℕ) → part_place first z 3 ≡ Ok (a, e) → layout_right first z ≡ true
 unfolding part_place
 opens_right z a e h = place_read z (settings_in first z) a e h
 
-pub opens_wrong : (z : List ℕ) (n : ℕ) → part_place first z 3 ≡ PartPlace.Refused n → layout_right first z ≡ false
+pub opens_wrong : (z : List ℕ) (n : Refusal) → part_place first z 3 ≡ Err n → layout_right first z ≡ false
 unfolding part_place
 opens_wrong z n h = place_unread z (settings_in first z) n h
 
-right_length : (z : List ℕ) (x : ReadSettings) → settings_in first z ≡ x → was_read x ≡ true → length z ≡ rows_place first + row_width * rows_in first z
-right_length z ReadSettings.OutOfRange s h = let no : ◌≡◌ {A = ℕ} 0 1 = cc in absurd (omega arith)
-right_length z (ReadSettings.Read c) s h = omega (arith, read_length first z c s first_fits)
+-- asking for the rows says whether the layout is right
+pub opens_told : (z : List ℕ) → is_ok (part_place first z 3) ≡ layout_right first z
+opens_told z = go (part_place first z 3) refl
+  where
+    go : (r : Result (ℕ × ℕ) Refusal) → part_place first z 3 ≡ r → is_ok r ≡ layout_right first z
+    go (Ok (a, e)) h = sym (opens_right z a e h)
+    go (Err n) h = sym (opens_wrong z n h)
+
+right_length : (z : List ℕ) (x : Option PeerMessagePolicyConfig) → settings_in first z ≡ x → was_read x ≡ true → length z ≡ rows_place first + row_width * rows_in first z
+right_length z None s h = let no : ◌≡◌ {A = ℕ} 0 1 = cc in absurd (omega arith)
+right_length z (Some c) s h = omega (arith, read_length first z c s first_fits)
 
 -- ════ The place ════
 
@@ -78,6 +87,22 @@ module _ (z : List ℕ) (at : ℕ) where
       pub stands_whole : at ≤ length z → stands z at ≡ eqb ((at - rows_place first) % row_width) 0
       stands_whole l = stands_place ∙ rw (le-leb (rows_place first) at f, le-leb at (length z) l)
 
+  -- a test that fails: of the layout, of the first row's place, of the end
+  pub stands_not : (layout_right first z ≡ false) ⊎ ((at < rows_place first) ⊎ (length z < at)) → stands z at ≡ false
+  unfolding stands
+  stands_not (inl h) = stands_wrong h
+  stands_not (inr (inl l)) = go (layout_right first z)
+    where
+      go : (b : Bool) → b && row_place z at ≡ false
+      go true = rw (lt-leb (rows_place first) at l)
+      go false = refl
+  stands_not (inr (inr l)) = go (layout_right first z) (leb (rows_place first) at)
+    where
+      go : (b f : Bool) → b && (f && (leb at (length z) && eqb ((at - rows_place first) % row_width) 0)) ≡ false
+      go true true = rw (lt-leb at (length z) l)
+      go true false = refl
+      go false f = refl
+
   -- a place that is not the end has a row behind it
   pub row_fits : stands z at ≡ true → (at ≡ length z → ⊥) → at + row_width ≤ length z
   unfolding stands
@@ -93,15 +118,15 @@ module _ (z : List ℕ) (at : ℕ) where
 
   -- ════ The step ════
 
-  pub step_refused : stands z at ≡ false → step_at z at ≡ ended wrong_layout at
+  pub step_refused : stands z at ≡ false → step_at z at ≡ Err Refusal.WrongLayout
   unfolding step_at
   step_refused h = rw h
 
-  pub step_done : stands z at ≡ true → at ≡ length z → step_at z at ≡ ended done at
+  pub step_done : stands z at ≡ true → at ≡ length z → step_at z at ≡ Ok None
   unfolding step_at
   step_done h e = rw (h, eq-eqb at (length z) e)
 
-  pub step_given : stands z at ≡ true → (at ≡ length z → ⊥) → step_at z at ≡ record { row = given_at z at; mark = given; at = at + row_width }
+  pub step_given : stands z at ≡ true → (at ≡ length z → ⊥) → step_at z at ≡ Ok (Some (record { row = given_at z at; at = at + row_width }))
   unfolding step_at
   step_given h e = rw (h, ne_eqb at (length z) e)
 
@@ -121,13 +146,13 @@ module _ (z : List ℕ) (h : layout_right first z ≡ true) (k : ℕ) where
       stands_whole z (place_of_row k) h (omega arith) (omega (arith, size_here)) ∙ eq-eqb ((place_of_row k - rows_place first) % row_width) 0 (omega arith)
 
   -- the walk gives each row once: the k-th, and then goes on to the one behind it
-  pub walk_row : k < rows_in first z → step_at z (place_of_row k) ≡ record { row = given_at z (place_of_row k); mark = given; at = place_of_row (k + 1) }
+  pub walk_row : k < rows_in first z → step_at z (place_of_row k) ≡ Ok (Some (record { row = given_at z (place_of_row k); at = place_of_row (k + 1) }))
   walk_row l =
       step_given z (place_of_row k) (place_here (omega arith)) (λ e. omega (arith, size_here))
-      ∙ ap (λ (n : ℕ). record { row = given_at z (place_of_row k); mark = given; at = n }) (omega arith)
+      ∙ ap (λ (n : ℕ). Ok (Some (record { row = given_at z (place_of_row k); at = n }))) (omega arith)
 
--- behind the last row it is done, and stays there
-pub walk_done : (z : List ℕ) → layout_right first z ≡ true → step_at z (place_of_row (rows_in first z)) ≡ ended done (place_of_row (rows_in first z))
+-- behind the last row it is done
+pub walk_done : (z : List ℕ) → layout_right first z ≡ true → step_at z (place_of_row (rows_in first z)) ≡ Ok None
 walk_done z h =
     step_done z (place_of_row (rows_in first z)) (place_here z h (rows_in first z) (omega arith)) (sym (size_here z h (rows_in first z)))
 

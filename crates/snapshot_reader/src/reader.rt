@@ -4,6 +4,7 @@ ghost use Rattle.std.specs.Prelude.{◌≡◌};
 ghost use Rattle.snapshot_reader.specs.Reader.{step_at, Advanced};
 
 use super::row::{FIRST_ROW, RowStep, row_at};
+use refusal::Refusal;
 
 #[derive(Clone, Copy)]
 pub struct SnapshotReader<'a> {
@@ -11,39 +12,42 @@ pub struct SnapshotReader<'a> {
     pub at: usize,
 }
 
-// A reader at the first row's place, whatever the bytes: `row::opens` says whether they can be walked, and so does the first step.
-pub fn opened<'a>(snapshot: &'a [u8]) -> SnapshotReader<'a>
-    ensures { (result.snapshot ≡ snapshot.entry) × (result.at ≡ 120) }
-{
-    SnapshotReader {
-        snapshot,
-        at: FIRST_ROW,
+impl<'a> SnapshotReader<'a> {
+    // A reader at the first row's place, whatever the bytes: `row::opens` says whether they can be walked, and so does the first step.
+    pub fn opened(snapshot: &'a [u8]) -> SnapshotReader<'a>
+        ensures { (result.snapshot ≡ snapshot.entry) × (result.at ≡ 120) }
+    {
+        SnapshotReader {
+            snapshot,
+            at: FIRST_ROW,
+        }
     }
-}
 
-// The step at the reader's place.
-pub fn next<'a>(reader: SnapshotReader<'a>) -> RowStep
-    ensures { result ≡ step_at reader.entry.snapshot.now reader.entry.at }
-{
-    row_at(reader.snapshot, reader.at)
-}
-
-// The reader at another place: that of the last step.
-pub fn moved<'a>(reader: SnapshotReader<'a>, at: usize) -> SnapshotReader<'a>
-    ensures { (result.snapshot ≡ reader.entry.snapshot) × (result.at ≡ at) }
-{
-    SnapshotReader {
-        snapshot: reader.snapshot,
-        at,
+    // The step at the reader's place.
+    pub fn next(self) -> Result<Option<RowStep>, Refusal>
+        ensures { result ≡ step_at self.entry.snapshot.now self.entry.at }
+    {
+        row_at(self.snapshot, self.at)
     }
-}
 
-// Hands out the step at the reader's place, and moves the reader to the step's place: called again and again on what `opened` made, it
-// gives each row once, in their order, and then says for ever that all were given.
-pub fn advance<'s, 'a>(reader: &'s mut SnapshotReader<'a>) -> RowStep
-    ensures { Advanced reader.old result reader.new }
-{
-    let step = row_at(reader.snapshot, reader.at);
-    reader.at = step.at;
-    step
+    // The reader at another place: that of the last step.
+    pub fn moved(self, at: usize) -> SnapshotReader<'a>
+        ensures { (result.snapshot ≡ self.entry.snapshot) × (result.at ≡ at) }
+    {
+        SnapshotReader { at, ..self }
+    }
+
+    // Kept: no Iterator, since the end and a refusal are said again for ever at the same place, and theorem `advance_done` speaks of that.
+    //
+    // Hands out the step at the reader's place, and moves the reader to the place that the step gives: called again and again on what
+    // `opened` made, it gives each row once, in their order, and then says for ever that all were given.
+    pub fn advance(&mut self) -> Result<Option<RowStep>, Refusal>
+        ensures { Advanced self.old result self.new }
+    {
+        let step = row_at(self.snapshot, self.at)?;
+        if let Some(given) = step {
+            self.at = given.at;
+        }
+        Ok(step)
+    }
 }

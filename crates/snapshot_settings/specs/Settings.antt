@@ -1,9 +1,9 @@
 -- The settings as kind 1 of a snapshot: nine numbers of eight bytes, in the Rust's order. Definitions only; their laws are in
 -- `SettingsLaws`.
 use Rattle.std.specs.Prelude.{Bool, ◌&&◌, cond, List, [], ◌∷◌, ℕ, leb}
+use Rattle.std.specs.Prelude.{Option, Some, None}
 use Rattle.table.specs.Memory.{word_bytes, word_of}
 use Rattle.peer_settings.specs.declared.config.PeerMessagePolicyConfig.{PeerMessagePolicyConfig}
-use Rattle.snapshot_settings.specs.declared.settings.ReadSettings.{ReadSettings}
 
 -- the size of the settings, in bytes
 abbrev pub settings_size : ℕ
@@ -51,9 +51,9 @@ abbrev pub settings_narrow : (ℕ → ℕ) → Bool
 settings_narrow w = narrow (w 1) && (narrow (w 4) && narrow (w 7))
 
 -- the settings whose numbers are these, or that one is out of range
-abbrev pub settings_from : (ℕ → ℕ) → ReadSettings
-settings_from w = cond (settings_narrow w) (ReadSettings.Read (config_of w)) ReadSettings.OutOfRange
+abbrev pub settings_from : (ℕ → ℕ) → Option PeerMessagePolicyConfig
+settings_from w = cond (settings_narrow w) (Some (config_of w)) None
 
 -- the settings that bytes spell, or that a number is out of range
-unfoldable pub settings_of : List ℕ → ReadSettings
+unfoldable pub settings_of : List ℕ → Option PeerMessagePolicyConfig
 settings_of s = settings_from (λ i. word_of s i)

@@ -1,4 +1,5 @@
 -- Laws of the settings' bytes: what is written is read back, what is read is written back, and where each number stands. Assumes nothing.
+use Rattle.std.specs.Prelude.{Some, None}
 use Prim.{tt}
 use Rattle.std.specs.Prelude.{◌≡◌, refl, Bool, true, false, ◌&&◌, cond, List, ℕ, ◌<◌, length, get_or}
 use Rattle.std.proofs.Common.{sym, ap, ◌∙◌, subst, arith, leb-true, le-leb}
@@ -7,7 +8,6 @@ use Rattle.table.specs.Memory.{word_bytes, word_of}
 use Rattle.table.specs.MemoryLaws.{Words, length_word_bytes, Bytes_word_bytes, word_of_word_bytes, word_bytes_all, word_of_lt}
 use Rattle.peer_settings.specs.declared.config.PeerMessagePolicyConfig.{PeerMessagePolicyConfig}
 use Rattle.peer_settings.specs.Fits.{ConfigFits}
-use Rattle.snapshot_settings.specs.declared.settings.ReadSettings.{ReadSettings}
 use Rattle.snapshot_settings.specs.Settings.{settings_size, narrow, settings_words, settings_bytes, config_of, settings_narrow, settings_from, settings_of}
 use Rattle.table_laws.specs.WordsLaws.{each_fits}
 use Rattle.snapshot_settings.specs.WordLaws.{word_at, word_place}
@@ -53,7 +53,7 @@ settings_words_lem c f =
     (f.interval, (omega arith, (f.rate, (f.burst_bytes, (omega arith, (f.duration, (f.tracked, (omega arith, (f.bytes, tt)))))))))
 
 -- settings that were written are read back
-pub settings_read_back : (c : PeerMessagePolicyConfig) → ConfigFits c → settings_of (settings_bytes c) ≡ ReadSettings.Read c
+pub settings_read_back : (c : PeerMessagePolicyConfig) → ConfigFits c → settings_of (settings_bytes c) ≡ Some c
 unfolding settings_of settings_bytes settings_words
 settings_read_back c f =
     settings_same (λ i. word_of (word_bytes (settings_words c)) i) (λ i. get_or (settings_words c) i 0)
@@ -72,12 +72,12 @@ both true b h = (refl, h)
 both false b h = (h, cc)
 
 -- what was read, and that its numbers are in range
-read_is : (b : Bool) (x c : PeerMessagePolicyConfig) → cond b (ReadSettings.Read x) ReadSettings.OutOfRange ≡ ReadSettings.Read c → (b ≡ true) × (x ≡ c)
+read_is : (b : Bool) (x c : PeerMessagePolicyConfig) → cond b (Some x) None ≡ Some c → (b ≡ true) × (x ≡ c)
 read_is true x c h = (refl, cc)
 read_is false x c h = (cc, cc)
 
 -- settings that were read are written back
-pub settings_write_back : (s : List ℕ) (c : PeerMessagePolicyConfig) → Bytes s → length s ≡ settings_size → settings_of s ≡ ReadSettings.Read c → settings_bytes c ≡ s
+pub settings_write_back : (s : List ℕ) (c : PeerMessagePolicyConfig) → Bytes s → length s ≡ settings_size → settings_of s ≡ Some c → settings_bytes c ≡ s
 unfolding settings_of settings_bytes settings_words
 settings_write_back s c b n h =
     let is = read_is (settings_narrow (λ i. word_of s i)) (config_of (λ i. word_of s i)) c h in
@@ -101,7 +101,7 @@ words_fit s b n h =
     }
 
 -- settings that were read are within their fields
-pub settings_read_fit : (s : List ℕ) (c : PeerMessagePolicyConfig) → Bytes s → length s ≡ settings_size → settings_of s ≡ ReadSettings.Read c → ConfigFits c
+pub settings_read_fit : (s : List ℕ) (c : PeerMessagePolicyConfig) → Bytes s → length s ≡ settings_size → settings_of s ≡ Some c → ConfigFits c
 unfolding settings_of
 settings_read_fit s c b n h =
     let w : ℕ → ℕ = λ i. word_of s i in

@@ -6,32 +6,24 @@ ghost use Rattle.snapshot_settings.specs.Load.{load_size, load_words, load_bytes
 use lent_bytes::number::get_u64;
 use peer_state::ingress::FiberIngressBudget;
 
-// The load, or that the messages are above what their field holds.
-#[derive(Clone, Copy)]
-pub enum ReadLoad {
-    Read(FiberIngressBudget),
-    OutOfRange,
-}
-
 // How many numbers it is, and the size that they take, in bytes.
 const LOAD_WORDS: usize = 2;
 
 pub const LOAD_SIZE: usize = 8 * LOAD_WORDS;
 
 // The load that stands at the place.
-pub fn read_load(bytes: &[u8], at: usize) -> ReadLoad
+pub fn read_load(bytes: &[u8], at: usize) -> Option<FiberIngressBudget>
     requires { at + load_size ≤ length bytes.now }
     ensures { result ≡ load_of (part bytes.now at load_size) }
 {
     let messages = get_u64(bytes, at);
     if messages > 0xffff_ffff {
-        return ReadLoad::OutOfRange;
+        return None;
     }
-    let load = FiberIngressBudget {
+    Some(FiberIngressBudget {
         in_flight_messages: messages as u32,
         in_flight_bytes: get_u64(bytes, at + 8),
-    };
-    ReadLoad::Read(load)
+    })
 }
 
 // The two numbers in their order.
@@ -46,6 +38,5 @@ pub fn put_load(output: &mut [u8], at: usize, load: FiberIngressBudget)
     requires { at + load_size ≤ length output.old }
     ensures { output.new ≡ put output.old at (load_bytes load) }
 {
-    let words = words_of(load);
-    table::rows::put_words(output, at, &words);
+    table::rows::put_words(output, at, &words_of(load));
 }

@@ -6,36 +6,29 @@ ghost use Rattle.snapshot_settings.specs.Settings.{settings_size, settings_words
 use lent_bytes::number::get_u64;
 use peer_settings::config::PeerMessagePolicyConfig;
 
-// The settings, or that a number is above what its field holds.
-#[derive(Clone, Copy)]
-pub enum ReadSettings {
-    Read(PeerMessagePolicyConfig),
-    OutOfRange,
-}
-
 // How many numbers they are, and the size that they take, in bytes.
 const SETTINGS_WORDS: usize = 9;
 
 pub const SETTINGS_SIZE: usize = 8 * SETTINGS_WORDS;
 
 // The settings that stand at the place.
-pub fn read_settings(bytes: &[u8], at: usize) -> ReadSettings
+pub fn read_settings(bytes: &[u8], at: usize) -> Option<PeerMessagePolicyConfig>
     requires { at + settings_size ≤ length bytes.now }
     ensures { result ≡ settings_of (part bytes.now at settings_size) }
 {
     let burst = get_u64(bytes, at + 8);
     if burst > 0xffff_ffff {
-        return ReadSettings::OutOfRange;
+        return None;
     }
     let threshold = get_u64(bytes, at + 32);
     if threshold > 0xffff_ffff {
-        return ReadSettings::OutOfRange;
+        return None;
     }
     let messages = get_u64(bytes, at + 56);
     if messages > 0xffff_ffff {
-        return ReadSettings::OutOfRange;
+        return None;
     }
-    let config = PeerMessagePolicyConfig {
+    Some(PeerMessagePolicyConfig {
         peer_message_interval_ms: get_u64(bytes, at),
         peer_message_burst: burst as u32,
         peer_message_rate_bytes_per_sec: get_u64(bytes, at + 16),
@@ -45,8 +38,7 @@ pub fn read_settings(bytes: &[u8], at: usize) -> ReadSettings
         max_tracked_peers: get_u64(bytes, at + 48),
         max_in_flight_messages: messages as u32,
         max_in_flight_bytes: get_u64(bytes, at + 64),
-    };
-    ReadSettings::Read(config)
+    })
 }
 
 // The nine settings in their order.
@@ -71,6 +63,5 @@ pub fn put_settings(output: &mut [u8], at: usize, config: PeerMessagePolicyConfi
     requires { at + settings_size ≤ length output.old }
     ensures { output.new ≡ put output.old at (settings_bytes config) }
 {
-    let words = words_of(config);
-    table::rows::put_words(output, at, &words);
+    table::rows::put_words(output, at, &words_of(config));
 }

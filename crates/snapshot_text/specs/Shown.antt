@@ -2,14 +2,16 @@
 --
 -- A line for each number with its name, then the rows as a table; or one line with the refusal that reading the snapshot comes to.
 use Rattle.std.specs.Prelude.{cond, ℕ, ◌+◌, ◌-◌, ltb, length, get_or, drop}
+use Rattle.std.specs.Prelude.{Result, Ok, Err}
+use Rattle.refusal.specs.declared.Refusal.{Refusal}
+use Rattle.refusal.specs.declared.Refusal.TheVariants as Refusal
+use Rattle.refusal.specs.Refusal.{number_of}
 use mathlib.Core.List.{List, [], ◌∷◌, ◌++◌, map, flatten}
 use Rattle.lent_bytes.specs.LentBytes.{zeros}
-use Rattle.refusal.specs.Refusal.{wrong_layout}
 use Rattle.table.specs.Table.{Row}
 use Rattle.peer_state.specs.declared.entry.PeerMessagePolicyEntry.{PeerMessagePolicyEntry}
 use Rattle.peer_rows.specs.Rows.{entry_words, Peers}
 use Rattle.peer_message_policy.specs.declared.policy.PeerMessagePolicy.{PeerMessagePolicy}
-use Rattle.peer_message_policy.specs.declared.answer.Made.{Made}
 use Rattle.peer_message_policy.specs.Policy.{rows_of}
 use Rattle.snapshot.specs.Form.{first, rows_place}
 use Rattle.snapshot.specs.Snapshot.{policy_in}
@@ -133,17 +135,17 @@ abbrev pub policy_shown : PeerMessagePolicy → Peers → List (List ℕ)
 policy_shown p rs = map field_text_of (fields_of p) ++ rows_shown rs
 
 -- what reading a snapshot came to
-abbrev pub made_shown : List ℕ → Made → List (List ℕ)
-made_shown z (Made.Policy p) = policy_shown p (rows_of p (drop (rows_place first) z))
-made_shown z (Made.Refused n) = refusal_text n ∷ []
+abbrev pub made_shown : List ℕ → Result PeerMessagePolicy Refusal → List (List ℕ)
+made_shown z (Ok p) = policy_shown p (rows_of p (drop (rows_place first) z))
+made_shown z (Err n) = refusal_text (number_of n) ∷ []
 
 -- the longest snapshot: that of 1,024 rows
 abbrev pub longest_snapshot : ℕ
 longest_snapshot = 124024
 
 -- what reading an input comes to, in a table with room for every limit: what is longer than any snapshot has a wrong layout
-unfoldable pub made_of : List ℕ → Made
-made_of z = cond (ltb longest_snapshot (length z)) (Made.Refused wrong_layout) (policy_in first z)
+unfoldable pub made_of : List ℕ → Result PeerMessagePolicy Refusal
+made_of z = cond (ltb longest_snapshot (length z)) (Err Refusal.WrongLayout) (policy_in first z)
 
 -- the lines that are shown of an input
 unfoldable pub shown_lines : List ℕ → List (List ℕ)

@@ -4,21 +4,22 @@ use Rattle.std.specs.Prelude.{◌≡◌, Bool, cond, ltb, length}
 use Rattle.std.proofs.Math.Path.{refl, ap, subst}
 use Rattle.std.proofs.Common.{sym, ◌∙◌, le-leb, lt-ltb, eq-eqb, ne_eqb}
 use Rattle.std.proofs.Math.Bool.{true, false}
+use Rattle.std.specs.Prelude.{Result, Ok, Err, Some, None}
+use Rattle.refusal.specs.declared.Refusal.{Refusal}
+use Rattle.refusal.specs.declared.Refusal.TheVariants as Refusal
 use mathlib.Core.List.{List, [], ◌∷◌, ◌++◌, map, flatten}
 use Prim.Native.Nat.{ℕ, zero, suc, ◌+◌, ◌*◌, ◌≤◌, ◌<◌}
 use native.Mathlib.Omega.{arith}
 use Rattle.std.proofs.Math.Seq.{drop-drop}
 use Rattle.std.proofs.Math.ListN.{drop}
-use Rattle.truths.specs.TruthLaws.{true_is_not_false}
 use Rattle.lent_bytes.specs.LentBytes.{part}
-use Rattle.refusal.specs.Refusal.{wrong_layout}
+use Rattle.refusal.specs.Refusal.{number_of}
 use Rattle.table.specs.Memory.{rows}
 use Rattle.table.specs.MemoryLaws.{key_row_of}
 use Rattle.peer_settings.specs.Config.{limit}
 use Rattle.peer_rows.specs.Rows.{key_width, row_width, peer_layout, row_from}
 use Rattle.peer_rows.specs.RowsLaws.{peer_faithful}
 use Rattle.peer_message_policy.specs.declared.policy.PeerMessagePolicy.{PeerMessagePolicy}
-use Rattle.peer_message_policy.specs.declared.answer.Made.{Made}
 use Rattle.peer_message_policy.specs.Policy.{rows_of}
 use Rattle.snapshot.specs.Form.{first, rows_place, rows_in}
 use Rattle.snapshot.specs.Snapshot.{was_read, layout_right, policy_in, restored, read_outcome, ReadMeets}
@@ -33,7 +34,6 @@ use Rattle.snapshot_text.specs.Scan.{
   begun,
   OpenBy,
   OpenMeets,
-  ended,
   row_handed,
   numbers,
   policy_next,
@@ -51,40 +51,37 @@ use Rattle.snapshot_text.specs.LineLaws.{text_of_line}
 module _ (z : List ℕ) where
   -- what is handed out from a scan on is determined
   hands_one : {scan : Scan} {xs ys : List (List ℕ)} → HandsOut z scan xs → HandsOut z scan ys → xs ≡ ys
-  hands_one (ends e d) (ends f g) = refl
-  hands_one (ends e d) (hands f g v) = absurd (true_is_not_false (ap (λ (h : Handed). h.done) (f ∙ sym e) ∙ d) g)
-  hands_one (hands e d w) (ends f g) = absurd (true_is_not_false (ap (λ (h : Handed). h.done) (e ∙ sym f) ∙ g) d)
-  hands_one (hands {r = r} {others = xs} e d w) (hands {r = q} {others = ys} f g v) =
-      let same : q ≡ r = f ∙ sym e in
+  hands_one (ends e) (ends f) = refl
+  hands_one (ends e) (hands f v) = let no : ◌≡◌ {A = ℕ} 0 1 = cc in absurd (omega arith)
+  hands_one (hands e w) (ends f) = let no : ◌≡◌ {A = ℕ} 0 1 = cc in absurd (omega arith)
+  hands_one (hands {r = r} {others = xs} e w) (hands {r = q} {others = ys} f v) =
+      let same : q ≡ r = cc in
       let rest : xs ≡ ys = hands_one w (subst (λ (s : Scan). HandsOut z s ys) (ap (λ (h : Handed). h.scan) same) v) in
       (λ i. text_of (sym same i).line ∷ rest i)
 
   -- a call that hands out a text
   hands_next : {scan behind : Scan} {text : List ℕ} {others : List (List ℕ)}
-      → next_of scan z ≡ record { done = false; line = line_of text; scan = behind } → HandsOut z behind others → HandsOut z scan (text ∷ others)
+      → next_of scan z ≡ Some (record { line = line_of text; scan = behind }) → HandsOut z behind others → HandsOut z scan (text ∷ others)
   hands_next {scan} {behind} {text} {others} e w =
-      subst (λ (t : List ℕ). HandsOut z scan (t ∷ others)) (text_of_line text) (hands (sym e) refl w)
-
-  ends_here : {scan : Scan} → next_of scan z ≡ ended scan → HandsOut z scan []
-  ends_here e = ends (sym e) refl
+      subst (λ (t : List ℕ). HandsOut z scan (t ∷ others)) (text_of_line text) (hands e w)
 
   -- ════ A refusal ════
 
-  refused_shown : (n : ℕ) → HandsOut z (begun (Made.Refused n)) (refusal_text n ∷ [])
+  refused_shown : (n : Refusal) → HandsOut z (begun (Err n)) (refusal_text (number_of n) ∷ [])
   unfolding next_of refused_next
   refused_shown n =
-      let behind : Scan = record { made = Made.Refused n; line = 1; at = rows_place first } in
-      hands_next {behind = behind} {text = refusal_text n} refl (ends_here {scan = behind} refl)
+      let behind : Scan = record { made = Err n; line = 1; at = rows_place first } in
+      hands_next {behind = behind} {text = refusal_text (number_of n)} refl (ends {scan = behind} refl)
 
   -- ════ A policy's numbers ════
 
   module _ (p : PeerMessagePolicy) where
     -- the scan before this line, and at this row
     abbrev before_line : ℕ → Scan
-    before_line k = record { made = Made.Policy p; line = k; at = rows_place first }
+    before_line k = record { made = Ok p; line = k; at = rows_place first }
 
     abbrev at_row : ℕ → Scan
-    at_row k = record { made = Made.Policy p; line = numbers + 1; at = place_of_row k }
+    at_row k = record { made = Ok p; line = numbers + 1; at = place_of_row k }
 
     number_shown : (k : ℕ) → k < numbers → {others : List (List ℕ)} → HandsOut z (before_line (k + 1)) others
         → HandsOut z (before_line k) (field_line p k ∷ others)
@@ -108,7 +105,7 @@ module _ (z : List ℕ) where
       rows_shown_lem zero k e =
           let here : k ≡ rows_in first z = omega arith in
           let step : step_at z (place_of_row k) ≡ _ = ap (λ (n : ℕ). step_at z (place_of_row n)) here ∙ walk_done z right in
-          ends_here (ap (row_handed (at_row k)) step)
+          ends (ap (row_handed (at_row k)) step)
       rows_shown_lem (suc m) k e =
           let at : ℕ = place_of_row k in
           let step = walk_row z right k (omega arith) in
@@ -122,24 +119,24 @@ module _ (z : List ℕ) where
       -- the head, where there are rows
       table_shown : (n : ℕ) → p.rows ≡ n → n ≡ rows_in first z → HandsOut z (before_line numbers) (rows_shown (rows peer_layout (drop (rows_place first) z) n))
       unfolding next_of policy_next rows
-      table_shown zero e count = ends_here (rw (eq-eqb p.rows 0 e))
+      table_shown zero e count = ends (rw (eq-eqb p.rows 0 e))
       table_shown (suc m) e count =
           hands_next (rw (ne_eqb p.rows 0 (λ (none : p.rows ≡ 0). omega arith))) (rows_shown_lem (suc m) 0 (omega arith))
 
-    policy_shown_lem : Describes first z p → HandsOut z (begun (Made.Policy p)) (policy_shown p (rows_of p (drop (rows_place first) z)))
+    policy_shown_lem : Describes first z p → HandsOut z (begun (Ok p)) (policy_shown p (rows_of p (drop (rows_place first) z)))
     policy_shown_lem d = numbers_shown (table_shown (ap was_read d.settings) p.rows refl d.count)
 
   -- ════ An input ════
 
-  judged : (b : Bool) (n : ℕ) (x : Made) {p : PeerMessagePolicy} → cond b (Made.Refused n) x ≡ Made.Policy p → x ≡ Made.Policy p
+  judged : (b : Bool) (n : Refusal) (x : Result PeerMessagePolicy Refusal) {p : PeerMessagePolicy} → cond b (Err n) x ≡ Ok p → x ≡ Ok p
   judged true n x h = cc
   judged false n x h = h
 
-  made_shown_lem : (m : Made) → made_of z ≡ m → HandsOut z (begun m) (made_shown z m)
+  made_shown_lem : (m : Result PeerMessagePolicy Refusal) → made_of z ≡ m → HandsOut z (begun m) (made_shown z m)
   unfolding made_of
-  made_shown_lem (Made.Policy p) e =
-      policy_shown_lem p (policy_describes first z p (judged (ltb longest_snapshot (length z)) wrong_layout (policy_in first z) e))
-  made_shown_lem (Made.Refused n) e = refused_shown n
+  made_shown_lem (Ok p) e =
+      policy_shown_lem p (policy_describes first z p (judged (ltb longest_snapshot (length z)) Refusal.WrongLayout (policy_in first z) e))
+  made_shown_lem (Err n) e = refused_shown n
 
   input_shown : HandsOut z (begun (made_of z)) (shown_lines z)
   unfolding shown_lines
@@ -149,18 +146,18 @@ module _ (z : List ℕ) where
 
 module _ (z before : List ℕ) (long : 123904 ≤ length before) where
   -- in a table with room for every limit, reading answers what the snapshot was judged to be
-  read_judged : (m : Made) → policy_in first z ≡ m → (restored first z before m).answer ≡ m
-  read_judged (Made.Policy p) e =
+  read_judged : (m : Result PeerMessagePolicy Refusal) → policy_in first z ≡ m → (restored first z before m).answer ≡ m
+  read_judged (Ok p) e =
       let d : Describes first z p = policy_describes first z p e in
       let room : row_width * limit p.config ≤ length before = omega (arith, d.tracked) in
       rw (le-leb (row_width * limit p.config) (length before) room)
-  read_judged (Made.Refused n) e = refl
+  read_judged (Err n) e = refl
 
   opened_made : (r : Scan) (after : List ℕ) → OpenMeets z before r after → r ≡ begun (made_of z)
   unfolding OpenMeets made_of ReadMeets read_outcome
   opened_made r after m = go (ltb longest_snapshot (length z)) m
     where
-      go : (b : Bool) → OpenBy b z before r after → r ≡ begun (cond b (Made.Refused wrong_layout) (policy_in first z))
+      go : (b : Bool) → OpenBy b z before r after → r ≡ begun (cond b (Err Refusal.WrongLayout) (policy_in first z))
       go true h = h.0
       go false (made, e, reads) = e ∙ ap begun (reads.answers ∙ read_judged (policy_in first z) refl)
 

@@ -1,11 +1,13 @@
 // The lines that a snapshot is shown by, each by value.
 ghost use Rattle.std.specs.Prelude.{◌≡◌, ◌<◌, ◌≤◌, length};
+ghost use Rattle.refusal.specs.Refusal.{number_of};
 ghost use Rattle.text_pieces.specs.Text.{refusal_text};
 ghost use Rattle.snapshot_text.specs.Words.{rate_name};
 ghost use Rattle.snapshot_text.specs.Shown.{line_of, field_text, field_line, head_text, row_text};
 ghost use Rattle.snapshot_text.specs.Scan.{numbers};
 
 use peer_message_policy::policy::PeerMessagePolicy;
+use refusal::Refusal;
 use snapshot_reader::row::SnapshotRow;
 use text_pieces::column::{put_column, put_columns};
 use text_pieces::hex::put_hex;
@@ -27,15 +29,12 @@ const NUMBERS_END: usize = 51;
 const ROW_COLUMN: usize = 13;
 
 // `refusal N`
-pub(crate) fn refusal_line(number: u32) -> ShownLine
-    ensures { result ≡ line_of (refusal_text number) }
+pub(crate) fn refusal_line(refusal: Refusal) -> ShownLine
+    ensures { result ≡ line_of (refusal_text (number_of refusal)) }
 {
-    let mut out = [0u8; LINE_SIZE];
-    let end = put_refusal(&mut out, number as u64);
-    ShownLine {
-        bytes: out,
-        length: end,
-    }
+    let mut bytes = [0u8; LINE_SIZE];
+    let length = put_refusal(&mut bytes, refusal.number() as u64);
+    ShownLine { bytes, length }
 }
 
 // A name, and its number so that all such lines end alike. None is longer than `peer_message_rate_bytes_per_sec`.
@@ -90,16 +89,13 @@ pub(crate) fn number_line(policy: PeerMessagePolicy, index: usize) -> ShownLine
 pub(crate) fn head_line() -> ShownLine
     ensures { result ≡ line_of head_text }
 {
-    let mut out = [0u8; LINE_SIZE];
-    let end = put_text(
-        &mut out,
+    let mut bytes = [0u8; LINE_SIZE];
+    let length = put_text(
+        &mut bytes,
         0,
         b"key                                                                     messages      refilled         bytes      refilled       limited         since       invalid         since           ban         until     last_used\n",
     );
-    ShownLine {
-        bytes: out,
-        length: end,
-    }
+    ShownLine { bytes, length }
 }
 
 // A row: its key, and its eleven numbers.
@@ -107,11 +103,8 @@ pub(crate) fn row_line(row: SnapshotRow) -> ShownLine
     ensures { result ≡ line_of (row_text row.key.bytes row.entry) }
 {
     let mut out = [0u8; LINE_SIZE];
-    let key = row.key;
-    let key_bytes = key.bytes;
-    let after_key = put_hex(&mut out, 0, &key_bytes);
-    let entry = row.entry;
-    let numbers = peer_rows::row::words_of(entry);
+    let after_key = put_hex(&mut out, 0, &row.key.bytes);
+    let numbers = peer_rows::row::words_of(row.entry);
     let after_numbers = put_columns(&mut out, after_key, ROW_COLUMN, &numbers);
     out[after_numbers] = b'\n';
     ShownLine {

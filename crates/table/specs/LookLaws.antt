@@ -5,7 +5,7 @@ use Rattle.std.proofs.Common.{inl, inr, ⊎_elim, ◌∙◌, arith}
 use Rattle.std.proofs.Math.Path.{refl, sym}
 use mathlib.Core.List.{List, [], ◌∷◌}
 use Rattle.std.proofs.Math.Option.{Option, none, some}
-use Rattle.pubkey.specs.declared.Ordering.TheVariants.{Less, Equal, Greater}
+use Rattle.std.specs.declared.cmp.Ordering.TheVariants.{Less, Equal, Greater}
 use Rattle.pubkey.specs.Order.{compare_bytes}
 use Rattle.pubkey.specs.OrderLaws.{compare_self, compare_equal, transitive}
 use Rattle.table.specs.Table.{Row, row_under, by_order, below, ascending, every, look, store, erase}

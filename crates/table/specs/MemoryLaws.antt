@@ -14,8 +14,8 @@ use Rattle.std.proofs.Math.Seq.{length-take-le, take_at, drop_at, take-take, tak
 use Rattle.lent_bytes.specs.LentBytes.{part, put, le, bytes, zeros, Bytes}
 use Rattle.lent_bytes.specs.LentBytesLaws.{length_part, length_bytes, length_zeros, length_put, le_bytes, bytes_le, le_lt, part_append, part_put_after}
 use Rattle.lent_bytes.specs.LentBytesLaws.{Bytes_nil, Bytes_append, Bytes_take, Bytes_drop, Bytes_part, Bytes_zeros, Bytes_bytes, put_put}
-use Rattle.pubkey.specs.declared.Ordering.{Ordering}
-use Rattle.pubkey.specs.declared.Ordering.TheVariants.{Less, Equal, Greater}
+use Rattle.std.specs.declared.cmp.Ordering.{Ordering}
+use Rattle.std.specs.declared.cmp.Ordering.TheVariants.{Less, Equal, Greater}
 use Rattle.pubkey.specs.Order.{compare_bytes}
 use Rattle.table.specs.Table.{Row, by_order, store, erase, remove_at, retain}
 use Rattle.table.specs.Private.{insert_at, remove_run}

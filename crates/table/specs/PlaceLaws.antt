@@ -8,7 +8,7 @@ use Rattle.std.proofs.Math.Option.{none, some}
 use Rattle.std.proofs.Math.ListN.{length-take}
 use Rattle.std.proofs.lemmas.List.{set_split}
 use Rattle.truths.specs.TruthLaws.{by_test, both_parts}
-use Rattle.pubkey.specs.declared.Ordering.TheVariants.{Less, Equal, Greater}
+use Rattle.std.specs.declared.cmp.Ordering.TheVariants.{Less, Equal, Greater}
 use Rattle.pubkey.specs.Order.{compare_bytes}
 use Rattle.pubkey.specs.OrderLaws.{compare_self, compare_equal, less_flip}
 use Rattle.table.specs.declared.seek.Seek.{Seek}

@@ -1,8 +1,8 @@
 -- A table as a list of rows, ordered by key: what the Rust's maps are here. Definitions only; their laws are in `TableLaws`.
 use Rattle.std.specs.Prelude.{Bool, true, false, ◌&&◌, cond, List, [], ◌∷◌, ◌++◌, ℕ, ◌+◌, ltb, take, drop}
 use Rattle.std.proofs.Math.Option.{Option, none, some}
-use Rattle.pubkey.specs.declared.Ordering.{Ordering}
-use Rattle.pubkey.specs.declared.Ordering.TheVariants.{Less, Equal, Greater}
+use Rattle.std.specs.declared.cmp.Ordering.{Ordering}
+use Rattle.std.specs.declared.cmp.Ordering.TheVariants.{Less, Equal, Greater}
 use Rattle.pubkey.specs.Order.{compare_bytes}
 
 -- a row: the bytes of its key, and what stands beside them

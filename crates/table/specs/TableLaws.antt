@@ -9,8 +9,8 @@ use Prim.Native.Nat.{ℕ, zero, suc, ◌+◌, ◌≤◌, ◌<◌}
 use Rattle.std.proofs.Common.{suc-add, arith}
 use Rattle.std.proofs.Math.Numerals.{add-one}
 use Rattle.truths.specs.TruthLaws.{true_is_not_false, both_parts, by_test, both}
-use Rattle.pubkey.specs.declared.Ordering.{Ordering}
-use Rattle.pubkey.specs.declared.Ordering.TheVariants.{Less, Equal, Greater}
+use Rattle.std.specs.declared.cmp.Ordering.{Ordering}
+use Rattle.std.specs.declared.cmp.Ordering.TheVariants.{Less, Equal, Greater}
 use Rattle.pubkey.specs.Order.{compare_bytes}
 use Rattle.pubkey.specs.OrderLaws.{compare_equal, transitive, greater_flip}
 use Rattle.table.specs.Table.{Row, row_under, below, ascending, every, store, erase, retain, remove_at}

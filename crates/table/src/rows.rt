@@ -10,10 +10,8 @@ pub fn put_words(table: &mut [u8], at: usize, words: &[u64])
     requires { at + 8 * length words.now ≤ length table.old }
     ensures { table.new ≡ put table.old at (word_bytes words.now) }
 {
-    let mut i: usize = 0;
-    while i < words.len() {
-        lent_bytes::number::put_u64(table, at + 8 * i, words[i]);
-        i += 1;
+    for (i, word) in words.iter().enumerate() {
+        lent_bytes::number::put_u64(table, at + 8 * i, *word);
     }
 }
 

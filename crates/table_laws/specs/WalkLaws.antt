@@ -13,7 +13,7 @@ use Rattle.truths.specs.TruthLaws.{both_parts, second_fails}
 use Rattle.lent_bytes.specs.LentBytes.{part, Bytes}
 use Rattle.lent_bytes.specs.Private.{front}
 use Rattle.lent_bytes.specs.LentBytesLaws.{part_all}
-use Rattle.pubkey.specs.declared.Ordering.TheVariants.{Less, Equal, Greater}
+use Rattle.std.specs.declared.cmp.Ordering.TheVariants.{Less, Equal, Greater}
 use Rattle.pubkey.specs.Order.{compare_bytes}
 use Rattle.pubkey.specs.OrderLaws.{transitive, less_flip, greater_flip}
 use Rattle.pubkey.specs.FrontLaws.{front_less}

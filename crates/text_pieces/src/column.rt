@@ -6,22 +6,12 @@ ghost use Rattle.text_pieces.specs.Private.{Wrote};
 
 use super::piece::{put_blanks, put_number};
 
-// How many places so many digits leave of a width.
-fn left_of(width: usize, digits: usize) -> usize
-    ensures { result ≡ width - digits }
-{
-    if width <= digits {
-        return 0;
-    }
-    width - digits
-}
-
 // Writes a blank and the number right-aligned in so many places; a longer number takes its length.
 pub fn put_column(out: &mut [u8], at: usize, width: usize, n: u64) -> usize
     requires { at + length (column_text width n) ≤ length out.old }
     ensures { Wrote out.old at (column_text width n) result out.new }
 {
-    let left = left_of(width, decimal::width(n));
+    let left = width.saturating_sub(decimal::width(n));
     let after_blanks = put_blanks(out, at, left);
     put_number(out, after_blanks, n)
 }
@@ -33,10 +23,8 @@ pub fn put_columns(out: &mut [u8], at: usize, width: usize, numbers: &[u64]) -> 
     ensures { Wrote out.old at (columns_text width numbers.now) result out.new }
 {
     let mut place = at;
-    let mut i: usize = 0;
-    while i < numbers.len() {
-        place = put_column(out, place, width, numbers[i]);
-        i += 1;
+    for &n in numbers {
+        place = put_column(out, place, width, n);
     }
     place
 }

@@ -20,13 +20,10 @@ pub fn put_hex(out: &mut [u8], at: usize, bytes: &[u8]) -> usize
     ensures { Wrote out.old at (hex_text bytes.now) result out.new }
 {
     let mut place = at;
-    let mut i: usize = 0;
-    while i < bytes.len() {
-        let byte = bytes[i];
+    for &byte in bytes {
         out[place] = hex_char(byte / 16);
         out[place + 1] = hex_char(byte % 16);
         place += 2;
-        i += 1;
     }
     place
 }

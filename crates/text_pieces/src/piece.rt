@@ -3,7 +3,7 @@ ghost use Rattle.std.specs.Prelude.{◌+◌, ◌≤◌, length};
 ghost use Rattle.text_pieces.specs.Text.{blanks, number_text, refusal_text, refusal_room};
 ghost use Rattle.text_pieces.specs.Private.{Wrote};
 
-use lent_bytes::run::put_slice;
+use lent_bytes::run::{fill, put_slice};
 
 // Writes a text.
 pub fn put_text(out: &mut [u8], at: usize, text: &[u8]) -> usize
@@ -19,11 +19,7 @@ pub fn put_blanks(out: &mut [u8], at: usize, count: usize) -> usize
     requires { at + count ≤ length out.old }
     ensures { Wrote out.old at (blanks count) result out.new }
 {
-    let mut written: usize = 0;
-    while written < count {
-        out[at + written] = b' ';
-        written += 1;
-    }
+    fill(out, at, count, b' ');
     at + count
 }
 

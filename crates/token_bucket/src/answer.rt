@@ -1,2 +1,2 @@
 // What the buckets answer.
-pub use bucket_terms::answer::{Consumed, Delay, Refilled, Told};
+pub use bucket_terms::answer::NotGiven;

@@ -2,23 +2,14 @@
 ghost use Rattle.std.specs.Prelude.{◌≡◌};
 ghost use Rattle.trace.specs.Private.{line_end_of};
 
-// The place of a line's newline.
-#[derive(Clone, Copy)]
-pub enum LineEnd {
-    At(usize),
-    Missing,
-}
-
-// The first newline at or behind the place.
-pub(crate) fn line_end(input: &[u8], at: usize) -> LineEnd
+// The place of the first newline at or behind the place.
+pub(crate) fn line_end(input: &[u8], at: usize) -> Option<usize>
     ensures { result ≡ line_end_of input.now at }
 {
-    let mut i = at;
-    while i < input.len() {
+    for i in at..input.len() {
         if input[i] == b'\n' {
-            return LineEnd::At(i);
+            return Some(i);
         }
-        i += 1;
     }
-    LineEnd::Missing
+    None
 }

@@ -3,12 +3,13 @@ ghost use Rattle.std.specs.Prelude.{◌≡◌};
 ghost use Rattle.peer_verdict.specs.Causes.{limit_of};
 ghost use Rattle.trace_lines.specs.Lines.{line_of};
 ghost use Rattle.trace.specs.Step.{admission_answered, invalid_answered, standing_answered, changed_answered};
-ghost use Rattle.trace.specs.Step.{disconnect_word, admit_spoken, invalid_spoken, spoken, spoken_text, goes_on, StepMeets};
+ghost use Rattle.trace.specs.Step.{disconnect_word, admit_spoken, invalid_spoken, stopped, stop_text, spoken, spoken_text, StepMeets};
 ghost use Rattle.trace.specs.Private.{AnsweredMeets};
 
-use peer_message_policy::answer::{Admission, Changed, Invalid, Standing};
+use peer_message_policy::answer::{Admission, Invalid, Standing};
 use peer_message_policy::policy::PeerMessagePolicy;
 use peer_verdict::verdict::{Cause, InvalidCause, Shortage};
+use refusal::{Answered, Refusal};
 use trace_lines::event::{Event, EventKind};
 use trace_lines::line::{TraceLine, Word, answer_line, bad_line, refusal_line};
 
@@ -21,23 +22,38 @@ pub enum Answer {
     Free,
     Closed,
     Released,
-    Refused(u32),
+    Refused(Refusal),
     BadLine(u64),
 }
 
-// The answer, and the policy to go on with: after a refusal or a bad line it is as it was.
+// Why nothing more is read behind a line: its call is refused, or the line with this number is bad.
 #[derive(Clone, Copy)]
-pub struct Answered {
-    pub answer: Answer,
-    pub policy: PeerMessagePolicy,
+pub enum Stop {
+    Refused(Refusal),
+    BadLine(u64),
 }
 
-// What an answer is spelled as.
-#[derive(Clone, Copy)]
-pub enum Spoken {
-    Word(Word),
-    Refusal(u32),
-    BadLine(u64),
+impl Stop {
+    // The line that says so.
+    fn line(self) -> TraceLine
+        ensures { result ≡ line_of (stop_text self) }
+    {
+        match self {
+            Stop::Refused(refusal) => refusal_line(refusal.number()),
+            Stop::BadLine(number) => bad_line(number),
+        }
+    }
+}
+
+impl From<Stop> for Answer {
+    ghost from_gives = { λ stop answer. answer ≡ stopped stop };
+
+    fn from(stop: Stop) -> Answer {
+        match stop {
+            Stop::Refused(refusal) => Answer::Refused(refusal),
+            Stop::BadLine(number) => Answer::BadLine(number),
+        }
+    }
 }
 
 // The answer to an event, the policy after it, the line to write, and whether the trace goes on behind it.
@@ -49,71 +65,73 @@ pub struct Stepped {
     pub goes_on: bool,
 }
 
-fn admission_answered(admission: Admission) -> Answered
+// The answer, and the policy to go on with: after a refusal or a bad line it is as it was.
+type Told = Answered<PeerMessagePolicy, Answer>;
+
+fn admission_answered(admission: Admission) -> Told
     ensures { result ≡ admission_answered admission }
 {
-    let cause = admission.cause;
-    let policy = admission.policy;
     Answered {
-        answer: Answer::Admit(cause),
-        policy,
+        state: admission.policy,
+        answer: Answer::Admit(admission.cause),
     }
 }
 
-fn invalid_answered(invalid: Invalid) -> Answered
+fn invalid_answered(invalid: Invalid) -> Told
     ensures { result ≡ invalid_answered invalid }
 {
-    let cause = invalid.cause;
-    let policy = invalid.policy;
     Answered {
-        answer: Answer::Invalid(cause),
-        policy,
+        state: invalid.policy,
+        answer: Answer::Invalid(invalid.cause),
     }
 }
 
 // The policy given is the one before the call.
-fn standing_answered(policy: PeerMessagePolicy, standing: Standing) -> Answered
+fn standing_answered(policy: PeerMessagePolicy, standing: Standing) -> Told
     ensures { result ≡ standing_answered policy standing }
 {
     match standing {
         Standing::Banned(after) => Answered {
+            state: after,
             answer: Answer::Banned,
-            policy: after,
         },
         Standing::Free(after) => Answered {
+            state: after,
             answer: Answer::Free,
-            policy: after,
         },
-        Standing::Refused(number) => Answered {
-            answer: Answer::Refused(number),
-            policy,
+        Standing::Refused(refusal) => Answered {
+            state: policy,
+            answer: Answer::Refused(refusal),
         },
     }
 }
 
 // The policy given is the one before the call; the answer given is the one where it was changed.
-fn changed_answered(policy: PeerMessagePolicy, answer: Answer, changed: Changed) -> Answered
+fn changed_answered(
+    policy: PeerMessagePolicy,
+    answer: Answer,
+    changed: Result<PeerMessagePolicy, Refusal>,
+) -> Told
     ensures { result ≡ changed_answered policy answer changed }
 {
     match changed {
-        Changed::Policy(after) => Answered {
+        Ok(after) => Answered {
+            state: after,
             answer,
-            policy: after,
         },
-        Changed::Refused(number) => Answered {
-            answer: Answer::Refused(number),
-            policy,
+        Err(refusal) => Answered {
+            state: policy,
+            answer: Answer::Refused(refusal),
         },
     }
 }
 
 // The call that an event from the line with this number asks for.
-fn ask(policy: PeerMessagePolicy, table: &mut [u8], event: Event, number: u64) -> Answered
+fn ask(policy: PeerMessagePolicy, table: &mut [u8], event: Event, number: u64) -> Told
     ensures { AnsweredMeets policy table.old event number result table.new }
 {
-    let kind = event.kind;
     let key = event.key;
-    match kind {
+    match event.kind {
         EventKind::Admit => {
             admission_answered(policy.admit(table, key, event.bytes, event.now_ms))
         }
@@ -136,8 +154,8 @@ fn ask(policy: PeerMessagePolicy, table: &mut [u8], event: Event, number: u64) -
             )
         }
         EventKind::Bad => Answered {
+            state: policy,
             answer: Answer::BadLine(number),
-            policy,
         },
     }
 }
@@ -154,71 +172,57 @@ fn disconnect_word(shortage: Shortage) -> Word
     }
 }
 
-fn speak_admit(cause: Cause) -> Spoken
+fn speak_admit(cause: Cause) -> Result<Word, Stop>
     ensures { result ≡ admit_spoken cause }
 {
     match cause {
-        Cause::Allowed => Spoken::Word(Word::Allow),
-        Cause::Short(shortage) => Spoken::Word(disconnect_word(shortage)),
-        Cause::LiveBan => Spoken::Word(Word::Ban),
-        Cause::BanBegun => Spoken::Word(Word::Ban),
-        Cause::Refused(number) => Spoken::Refusal(number),
+        Cause::Allowed => Ok(Word::Allow),
+        Cause::Short(shortage) => Ok(disconnect_word(shortage)),
+        Cause::LiveBan => Ok(Word::Ban),
+        Cause::BanBegun => Ok(Word::Ban),
+        Cause::Refused(refusal) => Err(Stop::Refused(refusal)),
     }
 }
 
-fn speak_invalid(cause: InvalidCause) -> Spoken
+fn speak_invalid(cause: InvalidCause) -> Result<Word, Stop>
     ensures { result ≡ invalid_spoken cause }
 {
     match cause {
-        InvalidCause::Noted => Spoken::Word(Word::Noted),
-        InvalidCause::LiveBan => Spoken::Word(Word::Banned),
-        InvalidCause::BanBegun => Spoken::Word(Word::Banned),
-        InvalidCause::Refused(number) => Spoken::Refusal(number),
+        InvalidCause::Noted => Ok(Word::Noted),
+        InvalidCause::LiveBan => Ok(Word::Banned),
+        InvalidCause::BanBegun => Ok(Word::Banned),
+        InvalidCause::Refused(refusal) => Err(Stop::Refused(refusal)),
     }
 }
 
-pub(crate) fn speak(answer: Answer) -> Spoken
+// What an answer is spelled as: a word, or why nothing more is read.
+pub(crate) fn speak(answer: Answer) -> Result<Word, Stop>
     ensures { result ≡ spoken answer }
 {
     match answer {
         Answer::Admit(cause) => speak_admit(cause),
         Answer::Invalid(cause) => speak_invalid(cause),
-        Answer::Banned => Spoken::Word(Word::Banned),
-        Answer::Free => Spoken::Word(Word::Free),
-        Answer::Closed => Spoken::Word(Word::Closed),
-        Answer::Released => Spoken::Word(Word::Released),
-        Answer::Refused(number) => Spoken::Refusal(number),
-        Answer::BadLine(number) => Spoken::BadLine(number),
+        Answer::Banned => Ok(Word::Banned),
+        Answer::Free => Ok(Word::Free),
+        Answer::Closed => Ok(Word::Closed),
+        Answer::Released => Ok(Word::Released),
+        Answer::Refused(refusal) => Err(Stop::Refused(refusal)),
+        Answer::BadLine(number) => Err(Stop::BadLine(number)),
     }
 }
 
 // The line that spells it: behind a word stand the numbers of this policy.
-pub(crate) fn spoken_line(policy: PeerMessagePolicy, words: Spoken) -> TraceLine
+pub(crate) fn spoken_line(policy: PeerMessagePolicy, words: Result<Word, Stop>) -> TraceLine
     ensures { result ≡ line_of (spoken_text policy words) }
 {
     match words {
-        Spoken::Word(word) => {
-            let ingress = policy.ingress;
-            answer_line(
-                word,
-                ingress.in_flight_messages,
-                ingress.in_flight_bytes,
-                policy.rows,
-            )
-        }
-        Spoken::Refusal(number) => refusal_line(number),
-        Spoken::BadLine(number) => bad_line(number),
-    }
-}
-
-// Behind a refusal and a bad line nothing more is read.
-fn goes_on(words: Spoken) -> bool
-    ensures { result ≡ goes_on words }
-{
-    match words {
-        Spoken::Word(_) => true,
-        Spoken::Refusal(_) => false,
-        Spoken::BadLine(_) => false,
+        Ok(word) => answer_line(
+            word,
+            policy.ingress.in_flight_messages,
+            policy.ingress.in_flight_bytes,
+            policy.rows,
+        ),
+        Err(stop) => stop.line(),
     }
 }
 
@@ -227,13 +231,12 @@ pub fn step(policy: PeerMessagePolicy, table: &mut [u8], event: Event, number: u
     ensures { StepMeets policy table.old event number result table.new }
 {
     let answered = ask(policy, table, event, number);
-    let answer = answered.answer;
-    let after = answered.policy;
-    let words = speak(answer);
+    let after = answered.state;
+    let words = speak(answered.answer);
     Stepped {
-        answer,
+        answer: answered.answer,
         policy: after,
         line: spoken_line(after, words),
-        goes_on: goes_on(words),
+        goes_on: words.is_ok(),
     }
 }

@@ -5,7 +5,7 @@ use Rattle.std.proofs.Math.Path.{refl}
 use Rattle.std.proofs.Common.{◌∙◌, add-one, arith, leb-true, leb-false, ne_eqb}
 use Rattle.std.proofs.Math.Bool.{true, false}
 use mathlib.Core.List.{List, [], ◌∷◌}
-use Rattle.std.proofs.Math.Option.{Option, none, some}
+use Rattle.std.specs.Prelude.{Option, Some, None}
 use Rattle.std.proofs.Math.Dec.{leb}
 use Rattle.std.proofs.Math.ListN.{length}
 use Rattle.std.proofs.Math.Seq.{take-append_seam}
@@ -17,12 +17,12 @@ use Rattle.peer_laws.specs.SoundLaws.{RecordHolds, policy_holds, Kept}
 use Rattle.trace_lines.specs.declared.event.Event.{Event}
 use Rattle.trace_lines.specs.Lines.{largest64, event_of, bad_event, line_size, line_of}
 use Rattle.trace.specs.declared.step.Answer.{Answer}
-use Rattle.trace.specs.declared.step.Answered.{Answered}
+use Rattle.refusal.specs.declared.Answered.{Answered}
 use Rattle.trace.specs.declared.step.Stepped.{Stepped}
 use Rattle.trace.specs.declared.scan.Scan.{Scan}
 use Rattle.trace.specs.declared.scan.Handed.{Handed}
 use Rattle.trace.specs.Step.{event_outcome, spoken, spoken_text, goes_on, step_outcome, StepMeets}
-use Rattle.trace.specs.Scan.{text_of, first_line, following, last, ended, phase_behind, moved, line_outcome, events_outcome, EventsMeets}
+use Rattle.trace.specs.Scan.{text_of, first_line, following, last, phase_behind, moved, line_outcome, events_outcome, EventsMeets}
 use Rattle.trace_laws.specs.Trace.{InputLine, whole, unended, lines_of, LineAnswer, line_answer_of, answered_then, events_of}
 use Rattle.trace_laws.specs.Running.{answers_from, Lent, Reading, Handing, over, more}
 use Rattle.trace_laws.specs.Fits.{LoadFits, PolicyFits, ScanFits}
@@ -56,10 +56,10 @@ text_of_line text = take-append_seam text (replicate (line_size - length text) 0
 
 -- a last answer
 pub hands_last : (input t : List ℕ) (scan : Scan) (a : Answer) → ScanFits scan → Lent t
-    → Handing input (line_answer_of bad_event a scan.policy ∷ []) (last scan a) t
+    → Handing input (line_answer_of bad_event a scan.policy ∷ []) (Some (last scan a)) t
 unfolding answers_from
 hands_last input t scan a fits lent =
-    more refl refl (text_of_line (spoken_text scan.policy (spoken a)))
+    more (last scan a) refl refl (text_of_line (spoken_text scan.policy (spoken a)))
     (record { fits = record { at = fits.at; number = fits.number; policy = fits.policy }; lent = lent; here = tt })
 
 -- a number that is not the largest has one behind it
@@ -68,7 +68,7 @@ unfolding following
 following_more number h = rw (ne_eqb number largest64 (λ e. omega arith)) (add-one number)
 
 module _ (scan : Scan) (input s t : List ℕ) (here : Reading scan input s) (line : List ℕ)
-    (first : first_line (drop scan.at input) ≡ some line) where
+    (first : first_line (drop scan.at input) ≡ Some line) where
   -- the place behind the line
   abbrev place : ℕ
   place = scan.at + length line + 1
@@ -88,13 +88,17 @@ module _ (scan : Scan) (input s t : List ℕ) (here : Reading scan input s) (lin
         policy = fits;
       }
 
+  -- an event's line
+  abbrev handed : Event → Answer → PeerMessagePolicy → Bool → Handed
+  handed e a q goes = record { event = e; answer = a; line = line_of (spoken_text q (spoken a)); scan = after q goes }
+
   -- an event's answer, and behind it those from its place on, or none
   hands_by : (e : Event) (a : Answer) (q : PeerMessagePolicy) (qs : Peers) → sound q t ≡ true → PolicyFits q → Lent t → rows_of q t ≡ qs → (goes : Bool)
       → Handing input (line_answer_of e a q ∷ cond goes (events_of (suc scan.number) q qs (lines_of (drop place input))) [])
-      (record { done = false; event = e; answer = a; line = line_of (spoken_text q (spoken a)); scan = after q goes }) t
+      (Some (handed e a q goes)) t
   unfolding answers_from
   hands_by e a q qs is_sound fits lent same_rows true =
-      more refl (rw (counts, same_rows)) (text_of_line (spoken_text q (spoken a)))
+      more (handed e a q true) refl (rw (counts, same_rows)) (text_of_line (spoken_text q (spoken a)))
       (record {
         fits = after_fits q true fits;
         lent = lent;
@@ -107,7 +111,7 @@ module _ (scan : Scan) (input s t : List ℕ) (here : Reading scan input s) (lin
             };
       })
   hands_by e a q qs is_sound fits lent same_rows false =
-      more refl refl (text_of_line (spoken_text q (spoken a))) (record { fits = after_fits q false fits; lent = lent; here = tt })
+      more (handed e a q false) refl refl (text_of_line (spoken_text q (spoken a))) (record { fits = after_fits q false fits; lent = lent; here = tt })
 
 -- ════ A call at an event's line ════
 
@@ -123,22 +127,22 @@ module _ (scan : Scan) (input s t : List ℕ) (fits : ScanFits scan) (lent : Len
   abbrev rest : List InputLine → List LineAnswer
   rest lines = events_of scan.number scan.policy (rows_of scan.policy s) lines
 
-  hands_step : (line : List ℕ) → first_line (drop scan.at input) ≡ some line
+  hands_step : (line : List ℕ) → first_line (drop scan.at input) ≡ Some line
       → Memory s t scan.policy.rows (step_outcome scan.policy s (event_of line) scan.number).change
       → Handing input (rest (lines_of (drop scan.at input)))
-      (moved scan (scan.at + length line + 1) (event_of line) (step_outcome scan.policy s (event_of line) scan.number).answer) t
+      (Some (moved scan (scan.at + length line + 1) (event_of line) (step_outcome scan.policy s (event_of line) scan.number).answer)) t
   unfolding StepMeets
   hands_step line first m =
       let p : PeerMessagePolicy = scan.policy in
       let rs : Peers = rows_of p s in
       let e : Event = event_of line in
-      let o : Outcome Answered = event_outcome p rs e scan.number in
+      let o : Outcome (Answered PeerMessagePolicy Answer) = event_outcome p rs e scan.number in
       let r : Stepped = (step_outcome p s e scan.number).answer in
       let behind : List InputLine = lines_of (drop (scan.at + length line + 1) input) in
       let step : Stepping p s o r t =
       stepping p s here.is_sound lent.holds_bytes t e scan.number r (event_key line) (record { answers = refl; leaves = m })
       in
-      let q : PeerMessagePolicy = o.answer.policy in
+      let q : PeerMessagePolicy = o.answer.state in
       let kept : Kept p s q t = step.leaves.kept in
       rw (step.answers, lines_at_whole input scan.at line first, events_whole scan.number p rs line behind)
       (hands_by scan input s t here line first e o.answer.answer q (changed_rows rs o.change) kept.stays_sound
@@ -146,19 +150,19 @@ module _ (scan : Scan) (input s t : List ℕ) (fits : ScanFits scan) (lent : Len
       (record { holds_bytes = kept.holds_bytes; block = kept.same_length ∙ lent.block }) step.leaves.rows
       (goes_on (spoken o.answer.answer)))
 
-  hands_line : (r : Handed) (line : Option (List ℕ)) → first_line (drop scan.at input) ≡ line → scan.at < length input
+  hands_line : (r : Option Handed) (line : Option (List ℕ)) → first_line (drop scan.at input) ≡ line → scan.at < length input
       → Meets r s t scan.policy.rows (line_outcome scan line s) → Handing input (rest (lines_of (drop scan.at input))) r t
-  hands_line r none first h m =
+  hands_line r None first h m =
       rw (m.answers, lines_at_unended input scan.at h first, events_unended scan.number scan.policy (rows_of scan.policy s))
       (hands_last input t scan (Answer.BadLine scan.number) fits (rw m.leaves lent))
-  hands_line r (some line) first h m = rw m.answers (hands_step line first m.leaves)
+  hands_line r (Some line) first h m = rw m.answers (hands_step line first m.leaves)
 
-  pub hands_event : (r : Handed) → EventsMeets scan input s r t → Handing input (rest (lines_of (drop scan.at input))) r t
+  pub hands_event : (r : Option Handed) → EventsMeets scan input s r t → Handing input (rest (lines_of (drop scan.at input))) r t
   unfolding EventsMeets events_outcome
   hands_event r m = go (leb (length input) scan.at) refl m
     where
       go : (ends : Bool) → leb (length input) scan.at ≡ ends
-          → Meets r s t scan.policy.rows (cond ends (refuse (ended scan)) (line_outcome scan (first_line (drop scan.at input)) s))
+          → Meets r s t scan.policy.rows (cond ends (refuse None) (line_outcome scan (first_line (drop scan.at input)) s))
           → Handing input (rest (lines_of (drop scan.at input))) r t
       go true e w =
           rw (w.answers, lines_at_end input scan.at (leb-true (length input) scan.at e))

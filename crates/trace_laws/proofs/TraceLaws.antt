@@ -7,7 +7,7 @@ use Rattle.std.proofs.Math.Bool.{true, false, cond}
 use native.Mathlib.Omega.{arith}
 use borrow.Author.Tests.{ltb-false}
 use Rattle.std.proofs.Math.Dec.{ltb}
-use Rattle.truths.specs.TruthLaws.{true_is_not_false}
+use Rattle.std.specs.Prelude.{Option, Some, None}
 use Rattle.lent_bytes.specs.LentBytes.{Bytes}
 use Rattle.lent_bytes.specs.LentBytesLaws.{length_zeros, Bytes_zeros}
 use Rattle.trace_lines.specs.Lines.{bad_event}
@@ -24,7 +24,7 @@ use Rattle.trace_laws.proofs.SettingsLaws.{hands_settings}
 
 -- ════ A call ════
 
-module _ (input : List ℕ) (scan : Scan) (s : List ℕ) (r : Handed) (t : List ℕ) where
+module _ (input : List ℕ) (scan : Scan) (s : List ℕ) (r : Option Handed) (t : List ℕ) where
   next_in : (phase : Phase) → ScanFits scan → Lent s → RunningIn phase scan input s → NextIn phase scan input s r t → Handing input (rest_in phase scan input s) r t
   next_in Phase.TooLong fits lent here m =
       subst (λ p. Handing input (line_answer_of bad_event (Answer.BadLine 1) p ∷ []) r t) here
@@ -96,25 +96,29 @@ module _ (input : List ℕ) where
   -- what was told is what was still to come, and each line spells what was told with it
   hands_from : {scan : Scan} {s : List ℕ} {answers : List LineAnswer} {lines : List (List ℕ)} → HandsOut input scan s answers lines
       → Running scan input s → (answers ≡ answers_from scan input s) × (lines ≡ map line_text answers)
-  hands_from (ends scan s r t m done) here = go (next_hands input scan s r t here m)
+  hands_from (ends scan s t m) here = go (next_hands input scan s None t here m)
     where
-      go : Handing input (answers_from scan input s) r t → ([] ≡ answers_from scan input s) × (◌≡◌ {A = List (List ℕ)} [] [])
+      go : Handing input (answers_from scan input s) None t → ([] ≡ answers_from scan input s) × (◌≡◌ {A = List (List ℕ)} [] [])
       go (over e none) = (sym none, refl)
-      go (more e first spelled next) = absurd (true_is_not_false done e)
-  hands_from (hands scan s r t answers lines m goes rest) here = go (λ next. hands_from rest next) (next_hands input scan s r t here m)
+      go (more h e first spelled next) = let z : ◌≡◌ {A = ℕ} 0 1 = cc in absurd (omega arith)
+  hands_from (hands scan s r t answers lines m rest) here = go (λ next. hands_from rest next) (next_hands input scan s (Some r) t here m)
     where
       go : (Running r.scan input t → (answers ≡ answers_from r.scan input t) × (lines ≡ map line_text answers))
-          → Handing input (answers_from scan input s) r t
+          → Handing input (answers_from scan input s) (Some r) t
           → (line_answer_by r ∷ answers ≡ answers_from scan input s) × (text_of r.line ∷ lines ≡ line_text (line_answer_by r) ∷ map line_text answers)
-      go from (over e none) = absurd (true_is_not_false e goes)
-      go from (more e first spelled next) =
-          let (told, written) = from next in
-          (ap (λ xs. line_answer_by r ∷ xs) told ∙ sym first, rw (spelled, written))
+      go from (over e none) = let z : ◌≡◌ {A = ℕ} 0 1 = cc in absurd (omega arith)
+      go from (more h e first spelled next) =
+          let same : h ≡ r = cc in
+          let (told, written) = from (subst (λ x. Running x.scan input t) same next) in
+          let first' : answers_from scan input s ≡ line_answer_by r ∷ answers_from r.scan input t =
+          subst (λ x. answers_from scan input s ≡ line_answer_by x ∷ answers_from x.scan input t) same first in
+          let spelled' : text_of r.line ≡ line_text (line_answer_by r) = subst (λ x. text_of x.line ≡ line_text (line_answer_by x)) same spelled in
+          (ap (λ xs. line_answer_by r ∷ xs) told ∙ sym first', rw (spelled', written))
 
   -- whatever answers every call as the contract says
   abbrev Answers : Type 0
   Answers =
-      (scan : Scan) (m : List ℕ) → ScanFits scan → Bytes m → length m ≡ block_size → (r : Handed) × (t : List ℕ) × NextMeets scan input m r t
+      (scan : Scan) (m : List ℕ) → ScanFits scan → Bytes m → length m ≡ block_size → (r : Option Handed) × (t : List ℕ) × NextMeets scan input m r t
 
   empty_is_not_more : {x : LineAnswer} {xs : List LineAnswer} → [] ≡ x ∷ xs → ⊥
   empty_is_not_more h = let z : ◌≡◌ {A = ℕ} 0 1 = cc in omega arith
@@ -126,24 +130,24 @@ module _ (input : List ℕ) where
       let (r, t, m) = answer scan s here.fits here.lent.holds_bytes here.lent.block in
       go r t m (next_hands input scan s r t here m)
     where
-      go : (r : Handed) (t : List ℕ) → NextMeets scan input s r t → Handing input (answers_from scan input s) r t → HandsOut input scan s [] []
-      go r t m (over done none) = ends scan s r t m done
-      go r t m (more goes first spelled next) = absurd (empty_is_not_more (sym e ∙ first))
+      go : (r : Option Handed) (t : List ℕ) → NextMeets scan input s r t → Handing input (answers_from scan input s) r t → HandsOut input scan s [] []
+      go r t m (over done none) = ends scan s t (subst (λ x. NextMeets scan input s x t) done m)
+      go r t m (more h goes first spelled next) = absurd (empty_is_not_more (sym e ∙ first))
   ends_from answer (x ∷ xs) scan s here e =
       let (r, t, m) = answer scan s here.fits here.lent.holds_bytes here.lent.block in
-      go r t m (λ next f. ends_from answer xs r.scan t next f) (next_hands input scan s r t here m)
+      go r t m (λ h next f. ends_from answer xs h.scan t next f) (next_hands input scan s r t here m)
     where
-      go : (r : Handed) (t : List ℕ) → NextMeets scan input s r t
-          → (Running r.scan input t → answers_from r.scan input t ≡ xs → HandsOut input r.scan t xs (map line_text xs))
+      go : (r : Option Handed) (t : List ℕ) → NextMeets scan input s r t
+          → ((h : Handed) → Running h.scan input t → answers_from h.scan input t ≡ xs → HandsOut input h.scan t xs (map line_text xs))
           → Handing input (answers_from scan input s) r t → HandsOut input scan s (x ∷ xs) (line_text x ∷ map line_text xs)
       go r t m from (over done none) = absurd (empty_is_not_more (sym none ∙ e))
-      go r t m from (more goes first spelled next) =
-          let parts : line_answer_by r ∷ answers_from r.scan input t ≡ x ∷ xs = sym first ∙ e in
-          let head : line_answer_by r ≡ x = cc parts in
-          let tail : answers_from r.scan input t ≡ xs = cc parts in
+      go r t m from (more h goes first spelled next) =
+          let parts : line_answer_by h ∷ answers_from h.scan input t ≡ x ∷ xs = sym first ∙ e in
+          let head : line_answer_by h ≡ x = cc parts in
+          let tail : answers_from h.scan input t ≡ xs = cc parts in
           subst (λ y. HandsOut input scan s (y ∷ xs) (line_text y ∷ map line_text xs)) head
-          (subst (λ text. HandsOut input scan s (line_answer_by r ∷ xs) (text ∷ map line_text xs)) spelled
-          (hands scan s r t xs (map line_text xs) m goes (from next tail)))
+          (subst (λ text. HandsOut input scan s (line_answer_by h ∷ xs) (text ∷ map line_text xs)) spelled
+          (hands scan s h t xs (map line_text xs) (subst (λ y. NextMeets scan input s y t) goes m) (from h next tail)))
 
 -- ════ The theorems ════
 
@@ -167,7 +171,7 @@ hands_out_zeroed input answers lines out =
 -- whatever answers every call on arguments that the machine can give as the contract says comes to an end, and has then told what
 -- `answers_of` gives and handed out what `trace_of` gives
 pub comes_to_an_end : (input s : List ℕ) → Bytes s → length s ≡ block_size
-    → ((scan : Scan) (m : List ℕ) → ScanFits scan → Bytes m → length m ≡ block_size → (r : Handed) × (t : List ℕ) × NextMeets scan input m r t)
+    → ((scan : Scan) (m : List ℕ) → ScanFits scan → Bytes m → length m ≡ block_size → (r : Option Handed) × (t : List ℕ) × NextMeets scan input m r t)
     → HandsOut input (open_of input) s (answers_of input) (trace_of input)
 unfolding trace_of
 comes_to_an_end input s bytes block answer =

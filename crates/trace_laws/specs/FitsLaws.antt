@@ -1,7 +1,10 @@
 -- The numbers of a policy stay within their fields' widths: those of settings that a line spells, and the load in flight after an event.
 -- Assumes nothing.
+use Rattle.std.specs.Prelude.{Option, Some, None}
 use Rattle.std.specs.Prelude.{◌≡◌, Bool, ◌||◌, List, ℕ, ◌+◌, ◌-◌, leb, eqb}
 use Rattle.std.proofs.Common.{arith}
+use Rattle.std.specs.Prelude.{Result, Ok, Err}
+use Rattle.peer_state.specs.declared.ingress.NotReserved.{NotReserved}
 use borrow.Author.Tests.{leb-false, ltb-false, eqb-false}
 use Rattle.std.proofs.Math.Dec.{ltb}
 use Rattle.truths.specs.TruthLaws.{chosen, neither}
@@ -9,7 +12,6 @@ use Rattle.table.specs.Table.{look}
 use Rattle.peer_settings.specs.declared.config.PeerMessagePolicyConfig.{PeerMessagePolicyConfig}
 use Rattle.peer_state.specs.declared.entry.PeerMessagePolicyEntry.{PeerMessagePolicyEntry}
 use Rattle.peer_state.specs.declared.ingress.FiberIngressBudget.{FiberIngressBudget}
-use Rattle.peer_state.specs.declared.ingress.Reservation.{Reservation}
 use Rattle.peer_verdict.specs.declared.verdict.Shortage.TheVariants as Shortage
 use Rattle.peer_verdict.specs.declared.verdict.Cause.{Cause}
 use Rattle.peer_verdict.specs.declared.verdict.InvalidCause.{InvalidCause}
@@ -25,7 +27,6 @@ use Rattle.peer_message_policy.specs.declared.policy.PeerMessagePolicy.{PeerMess
 use Rattle.peer_message_policy.specs.Policy.{Change, Update, banned, update, turn_of, carried_out, noted_down, entry_for_update, Turn, admit, record_invalid, is_banned, is_banned_change}
 use Rattle.peer_message_policy.specs.Calls.{policy_after, standing_changed}
 use Rattle.peer_laws.specs.CallLaws.{of_standing}
-use Rattle.trace_lines.specs.declared.settings.Settings.{Settings}
 use Rattle.trace_lines.specs.declared.event.Event.{Event}
 use Rattle.trace_lines.specs.declared.event.EventKind.{EventKind}
 use Rattle.trace_lines.specs.declared.event.EventKind.TheVariants as kind
@@ -51,9 +52,9 @@ use Rattle.trace_laws.specs.StepLaws.{of_standing_answered}
 
 -- ════ Settings ════
 
-abbrev pub SettingsFit : Settings → Type 0
-SettingsFit Settings.Bad = Unit {0}
-SettingsFit (Settings.Good c) = ConfigFits c
+abbrev pub SettingsFit : Option PeerMessagePolicyConfig → Type 0
+SettingsFit None = Unit {0}
+SettingsFit (Some c) = ConfigFits c
 
 -- a line spells no number that is too wide for its field
 pub settings_fit : (line : List ℕ) → SettingsFit (settings_of line)
@@ -77,11 +78,11 @@ settings_fit line =
 -- ════ The load in flight ════
 
 module _ (c : PeerMessagePolicyConfig) (config : ConfigFits c) (i : FiberIngressBudget) (load : LoadFits i) where
-  abbrev RoomFits : Reservation → Type 0
-  RoomFits (Reservation.Reserved after) = LoadFits after
-  RoomFits Reservation.NoSlot = Unit {0}
-  RoomFits (Reservation.BytesShort k) = Unit {0}
-  RoomFits (Reservation.Refused n) = Unit {0}
+  abbrev RoomFits : Result FiberIngressBudget NotReserved → Type 0
+  RoomFits (Ok after) = LoadFits after
+  RoomFits (Err NotReserved.NoSlot) = Unit {0}
+  RoomFits (Err (NotReserved.BytesShort k)) = Unit {0}
+  RoomFits (Err (NotReserved.Refused n)) = Unit {0}
 
   -- where there is room for a message, there is room in the numbers
   room_fits : (size : ℕ) → RoomFits (try_reserve c i size)
@@ -110,11 +111,11 @@ module _ (c : PeerMessagePolicyConfig) (config : ConfigFits c) (i : FiberIngress
   abbrev DecisionFits : Decision → Type 0
   DecisionFits d = LoadFits d.ingress
 
-  ceiling_decides_fits : (e charged : PeerMessagePolicyEntry) (room : Reservation) → RoomFits room → DecisionFits (ceiling_decides i e charged room)
-  ceiling_decides_fits e charged (Reservation.Reserved after) h = h
-  ceiling_decides_fits e charged Reservation.NoSlot h = load
-  ceiling_decides_fits e charged (Reservation.BytesShort k) h = load
-  ceiling_decides_fits e charged (Reservation.Refused n) h = load
+  ceiling_decides_fits : (e charged : PeerMessagePolicyEntry) (room : Result FiberIngressBudget NotReserved) → RoomFits room → DecisionFits (ceiling_decides i e charged room)
+  ceiling_decides_fits e charged (Ok after) h = h
+  ceiling_decides_fits e charged (Err NotReserved.NoSlot) h = load
+  ceiling_decides_fits e charged (Err (NotReserved.BytesShort k)) h = load
+  ceiling_decides_fits e charged (Err (NotReserved.Refused n)) h = load
 
   decision_fits : (e : PeerMessagePolicyEntry) (size now : ℕ) → DecisionFits (decision c i e size now (try_reserve c i size))
   unfolding decision
@@ -149,7 +150,7 @@ module _ (p : PeerMessagePolicy) (config : ConfigFits p.config) (load : LoadFits
   abbrev InFlightFits : PeerMessagePolicy → Type 0
   InFlightFits q = LoadFits q.ingress
 
-  kind_fits : (k : List ℕ) (size now number : ℕ) (which : EventKind) → InFlightFits (kind_outcome p rs k size now number which).answer.policy
+  kind_fits : (k : List ℕ) (size now number : ℕ) (which : EventKind) → InFlightFits (kind_outcome p rs k size now number which).answer.state
   kind_fits k size now number kind.Admit = admit_fits p.config config p.ingress load rs k size now
   kind_fits k size now number kind.Invalid = record_invalid_fits p.config config p.ingress load rs k now
   kind_fits k size now number kind.BanQuery =
@@ -162,6 +163,6 @@ module _ (p : PeerMessagePolicy) (config : ConfigFits p.config) (load : LoadFits
   kind_fits k size now number kind.Bad = load
 
   -- the load after an event fits its numbers
-  pub event_fits : (e : Event) (number : ℕ) → LoadFits (event_outcome p rs e number).answer.policy.ingress
+  pub event_fits : (e : Event) (number : ℕ) → LoadFits (event_outcome p rs e number).answer.state.ingress
   unfolding event_outcome
   event_fits e number = kind_fits e.key.bytes e.bytes e.now_ms number e.kind

@@ -2,12 +2,12 @@
 -- Assumes nothing.
 use Rattle.std.specs.Prelude.{◌≡◌, List, ℕ, drop}
 use Rattle.std.proofs.Common.{subst}
-use Rattle.std.proofs.Math.Option.{Option, none, some}
+use Rattle.std.specs.Prelude.{Option, Some, None, Result, Ok, Err}
 use Rattle.refusal.specs.OneOutcomeLaws.{one_outcome}
 use Rattle.table.specs.OutcomeLaws.{one_meets}
 use Rattle.peer_message_policy.specs.declared.policy.PeerMessagePolicy.{PeerMessagePolicy}
 use Rattle.trace_lines.specs.declared.event.Event.{Event}
-use Rattle.trace.specs.declared.settle.Settled.{Settled}
+use Rattle.trace.specs.declared.step.Stop.{Stop}
 use Rattle.trace.specs.declared.scan.Phase.{Phase}
 use Rattle.trace.specs.declared.scan.Scan.{Scan}
 use Rattle.trace.specs.declared.scan.Handed.{Handed}
@@ -16,11 +16,11 @@ use Rattle.trace.specs.Step.{StepMeets}
 use Rattle.trace.specs.Scan.{first_line, EventsMeets, SettleMeets, SettledMeets, SettingsBy, SettingsMeets, open_of, NextIn, NextMeets}
 
 -- a call's answer and the memory that it leaves
-abbrev Both : Handed → Handed → List ℕ → List ℕ → Type 0
+abbrev Both : Option Handed → Option Handed → List ℕ → List ℕ → Type 0
 Both r q first second = (r ≡ q) × (first ≡ second)
 
 -- an answer that changes nothing
-unchanged_one : {before first second : List ℕ} {outcome r q : Handed} → (r ≡ outcome) × (first ≡ before)
+unchanged_one : {before first second : List ℕ} {outcome r q : Option Handed} → (r ≡ outcome) × (first ≡ before)
     → (q ≡ outcome) × (second ≡ before) → Both r q first second
 unchanged_one h k = (one_outcome h.0 k.0, one_outcome h.1 k.1)
 
@@ -36,33 +36,32 @@ step_one p before e number h k = one_meets h k
 
 -- ════ Next ════
 
-settle_one : (line before : List ℕ) {first second : List ℕ} {a b : Settled} → SettleMeets line before a first
-    → SettleMeets line before b second → (a ≡ b) × (first ≡ second)
+settle_one : (line : List ℕ) (number : ℕ) (before : List ℕ) {first second : List ℕ} {a b : Result PeerMessagePolicy Stop}
+    → SettleMeets line number before a first → SettleMeets line number before b second → (a ≡ b) × (first ≡ second)
 unfolding SettleMeets
-settle_one line before h k = one_meets h k
+settle_one line number before h k = one_meets h k
 
-module _ (scan : Scan) (input : List ℕ) (r q : Handed) (first second : List ℕ) where
+module _ (scan : Scan) (input : List ℕ) (r q : Option Handed) (first second : List ℕ) where
   events_one : (before : List ℕ) → EventsMeets scan input before r first → EventsMeets scan input before q second
       → Both r q first second
   unfolding EventsMeets
   events_one before h k = one_meets h k
 
-settled_one : (scan : Scan) (line : List ℕ) (a : Settled) (input before : List ℕ) (r q : Handed) (first second : List ℕ)
+settled_one : (scan : Scan) (line : List ℕ) (a : Result PeerMessagePolicy Stop) (input before : List ℕ) (r q : Option Handed) (first second : List ℕ)
     → SettledMeets scan line a input before r first → SettledMeets scan line a input before q second → Both r q first second
-settled_one scan line (Settled.Policy p) input before r q first second h k = events_one _ input r q first second before h k
-settled_one scan line (Settled.Refused n) input before r q first second h k = unchanged_one h k
-settled_one scan line Settled.Bad input before r q first second h k = unchanged_one h k
+settled_one scan line (Ok p) input before r q first second h k = events_one _ input r q first second before h k
+settled_one scan line (Err stop) input before r q first second h k = unchanged_one h k
 
-module _ (scan : Scan) (input before : List ℕ) (r q : Handed) (first second : List ℕ) where
+module _ (scan : Scan) (input before : List ℕ) (r q : Option Handed) (first second : List ℕ) where
   -- what the settings came to, and the memory between, are determined as well
   settings_by_one : (o : Option (List ℕ)) → SettingsBy scan o input before r first → SettingsBy scan o input before q second
       → Both r q first second
-  settings_by_one none h k = unchanged_one h k
-  settings_by_one (some line) (a, middle, settled, rest) (b, other, settled', rest') =
-      let same = settle_one line before settled settled' in
+  settings_by_one None h k = unchanged_one h k
+  settings_by_one (Some line) (a, middle, settled, rest) (b, other, settled', rest') =
+      let same = settle_one line scan.number before settled settled' in
       settled_one scan line b input other r q first second
       (subst (λ (s : List ℕ). SettledMeets scan line b input s r first) same.1
-      (subst (λ (x : Settled). SettledMeets scan line x input middle r first) same.0 rest))
+      (subst (λ (x : Result PeerMessagePolicy Stop). SettledMeets scan line x input middle r first) same.0 rest))
       rest'
 
   settings_one : SettingsMeets scan input before r first → SettingsMeets scan input before q second → Both r q first second

@@ -1,5 +1,6 @@
 -- Laws of one event on a sound policy: what it is answered is what the event does to the policy's rows; and it leaves a sound policy with
 -- the same settings, memory of the same length that holds bytes, and the rows that the event's change says. Assumes nothing.
+use Rattle.trace.specs.declared.step.Answer.{Answer}
 use Rattle.std.specs.Prelude.{◌≡◌, refl, true, List, ℕ}
 use Rattle.std.proofs.Math.Path.{ap}
 use Rattle.std.proofs.Common.{subst, ◌∙◌}
@@ -39,7 +40,7 @@ use Rattle.peer_laws.specs.CallLaws.{
 use Rattle.trace_lines.specs.declared.event.Event.{Event}
 use Rattle.trace_lines.specs.declared.event.EventKind.{EventKind}
 use Rattle.trace_lines.specs.declared.event.EventKind.TheVariants as kind
-use Rattle.trace.specs.declared.step.Answered.{Answered}
+use Rattle.refusal.specs.declared.Answered.{Answered}
 use Rattle.trace.specs.declared.step.Stepped.{Stepped}
 use Rattle.trace.specs.Step.{
   standing_answered,
@@ -58,7 +59,7 @@ use Rattle.trace_laws.specs.KeyLaws.{EventKey}
 
 -- what holds of an answer's policy, or of the policy before it after a refusal, holds of the one to go on with
 pub of_standing_answered : (p : PeerMessagePolicy) (P : PeerMessagePolicy → Type 0) (r : Standing) → OfStanding p P r
-    → P (standing_answered p r).policy
+    → P (standing_answered p r).state
 of_standing_answered p P (Standing.Banned q) h = h
 of_standing_answered p P (Standing.Free q) h = h
 of_standing_answered p P (Standing.Refused n) h = h
@@ -70,17 +71,17 @@ meets_outcome : {A : Type 0} {s t : List ℕ} {n : ℕ} {o e : Outcome A} → o 
 meets_outcome {A} {s} {t} {n} {o} {e} same_outcome m = rw same_outcome (record { answers = refl; leaves = m })
 
 -- what an outcome comes to on a sound policy: the answer's line, and what the change leaves
-pub record Stepping (p : PeerMessagePolicy) (s : List ℕ) (o : Outcome Answered) (r : Stepped) (t : List ℕ) : Type 0 where
+pub record Stepping (p : PeerMessagePolicy) (s : List ℕ) (o : Outcome (Answered PeerMessagePolicy Answer)) (r : Stepped) (t : List ℕ) : Type 0 where
   pub answers : r ≡ step_of o.answer
-  pub leaves : Leaves p s o.change o.answer.policy t
+  pub leaves : Leaves p s o.change o.answer.state t
 
 module _ (p : PeerMessagePolicy) (s : List ℕ) (h : sound p s ≡ true) (b : Bytes s) (t : List ℕ) where
   holds : PolicyHolds p s
   holds = policy_holds p s h
 
   -- what an outcome leaves, where the memory is as its change says
-  abbrev LeavesBy : Outcome Answered → Type 0
-  LeavesBy o = Memory s t p.rows o.change → Leaves p s o.change o.answer.policy t
+  abbrev LeavesBy : Outcome (Answered PeerMessagePolicy Answer) → Type 0
+  LeavesBy o = Memory s t p.rows o.change → Leaves p s o.change o.answer.state t
 
   module _ (k : Pubkey) (key : Key k.bytes) (number : ℕ) where
     admit_left : (size now : ℕ) → LeavesBy (kind_outcome p (rows_of p s) k.bytes size now number kind.Admit)

@@ -1,5 +1,6 @@
 -- A step behind which the trace does not go on changed nothing: the policy and the memory are as they were, on any policy and over any
 -- memory. Assumes nothing.
+use Rattle.trace.specs.declared.step.Answer.{Answer}
 use Rattle.std.specs.Prelude.{◌≡◌, refl, Bool, true, false, List, ℕ}
 use Rattle.std.proofs.Common.{sym, ap, subst₂, ◌∙◌}
 use Rattle.std.proofs.Math.Path.{subst}
@@ -17,7 +18,7 @@ use Rattle.peer_laws.specs.RefusedLaws.{NotRefused, invalid_not_refused}
 use Rattle.trace_lines.specs.declared.event.Event.{Event}
 use Rattle.trace_lines.specs.declared.event.EventKind.{EventKind}
 use Rattle.trace_lines.specs.declared.event.EventKind.TheVariants as kind
-use Rattle.trace.specs.declared.step.Answered.{Answered}
+use Rattle.refusal.specs.declared.Answered.{Answered}
 use Rattle.trace.specs.declared.step.Stepped.{Stepped}
 use Rattle.trace.specs.Step.{
   standing_answered,
@@ -58,8 +59,8 @@ standing_goes_on p q false = refl
 
 module _ (p : PeerMessagePolicy) where
   -- if the trace does not go on behind an outcome, that changes nothing
-  abbrev Stops : Outcome Answered → Type 0
-  Stops o = goes_on (spoken o.answer.answer) ≡ false → (o.answer.policy ≡ p) × (o.change ≡ same)
+  abbrev Stops : Outcome (Answered PeerMessagePolicy Answer) → Type 0
+  Stops o = goes_on (spoken o.answer.answer) ≡ false → (o.answer.state ≡ p) × (o.change ≡ same)
 
   module _ (rs : Peers) (k : List ℕ) (size now number : ℕ) where
     admit_stops : Stops (kind_outcome p rs k size now number kind.Admit)

@@ -1,17 +1,18 @@
 -- What the trace program answers to an input, and what it writes, as docs/REFERENCE.md has it under "Trace program": the whole of it, line
 -- by line. Definitions only.
-use Rattle.std.specs.Prelude.{◌≡◌, true, false, cond, List, [], ◌∷◌, map, ℕ, suc, leb, ltb, eqb, length}
+use Rattle.std.specs.Prelude.{cond, List, [], ◌∷◌, map, ℕ, suc, leb, ltb, eqb, length}
 use Rattle.decimal.specs.Ascii.{newline}
-use Rattle.refusal.specs.Refusal.{too_short, limit_too_large}
+use Rattle.std.specs.Prelude.{Option, Some, None}
+use Rattle.refusal.specs.declared.Refusal.TheVariants as Refusal
+use Rattle.peer_settings.specs.declared.config.PeerMessagePolicyConfig.{PeerMessagePolicyConfig}
 use Rattle.peer_settings.specs.Config.{limit}
 use Rattle.peer_rows.specs.Rows.{Peers}
 use Rattle.peer_message_policy.specs.declared.policy.PeerMessagePolicy.{PeerMessagePolicy}
 use Rattle.peer_message_policy.specs.Calls.{Outcome, fresh, changed_rows}
-use Rattle.trace_lines.specs.declared.settings.Settings.{Settings}
 use Rattle.trace_lines.specs.declared.event.Event.{Event}
 use Rattle.trace_lines.specs.Lines.{settings_of, event_of, bad_event}
 use Rattle.trace.specs.declared.step.Answer.{Answer}
-use Rattle.trace.specs.declared.step.Answered.{Answered}
+use Rattle.refusal.specs.declared.Answered.{Answered}
 use Rattle.trace.specs.declared.scan.Scan.{Scan}
 use Rattle.trace.specs.declared.scan.Handed.{Handed}
 use Rattle.trace.specs.Step.{event_outcome, spoken, text_with, goes_on}
@@ -55,10 +56,10 @@ line_answer_of e a q =
     }
 
 -- what an event came to; where the trace goes on, so does the rest, with the policy and the rows after the event
-abbrev pub answered_then : Event → Peers → Outcome Answered → (PeerMessagePolicy → Peers → List LineAnswer) → List LineAnswer
+abbrev pub answered_then : Event → Peers → Outcome (Answered PeerMessagePolicy Answer) → (PeerMessagePolicy → Peers → List LineAnswer) → List LineAnswer
 answered_then e rs o rest =
-    line_answer_of e o.answer.answer o.answer.policy
-    ∷ cond (goes_on (spoken o.answer.answer)) (rest o.answer.policy (changed_rows rs o.change)) []
+    line_answer_of e o.answer.answer o.answer.state
+    ∷ cond (goes_on (spoken o.answer.answer)) (rest o.answer.state (changed_rows rs o.change)) []
 
 -- the events' answers, from the line with this number on
 unfoldable pub events_of : ℕ → PeerMessagePolicy → Peers → List InputLine → List LineAnswer
@@ -79,11 +80,11 @@ abbrev pub unsettled : Answer → List LineAnswer
 unsettled a = line_answer_of bad_event a no_policy ∷ []
 
 -- behind good settings the events' answers, from a policy with no rows; a limit above 1,024 is refused, then one above the block's places
-abbrev pub settled_of : Settings → List InputLine → List LineAnswer
-settled_of Settings.Bad more = unsettled (Answer.BadLine 1)
-settled_of (Settings.Good c) more =
-    cond (ltb 1024 c.max_tracked_peers) (unsettled (Answer.Refused limit_too_large))
-    (cond (leb (limit c) block_places) (events_of 2 (fresh c) [] more) (unsettled (Answer.Refused too_short)))
+abbrev pub settled_of : Option PeerMessagePolicyConfig → List InputLine → List LineAnswer
+settled_of None more = unsettled (Answer.BadLine 1)
+settled_of (Some c) more =
+    cond (ltb 1024 c.max_tracked_peers) (unsettled (Answer.Refused Refusal.LimitTooLarge))
+    (cond (leb (limit c) block_places) (events_of 2 (fresh c) [] more) (unsettled (Answer.Refused Refusal.TooShort)))
 
 -- the settings are line 1; where there is none, that line is bad
 abbrev pub lines_answers : List InputLine → List LineAnswer
@@ -114,7 +115,7 @@ line_answer_by r = line_answer_of r.event r.answer r.scan.policy
 -- `next` called again and again on an input, each call with the scan and the memory that the one before it left, tells these, hands out
 -- these lines, and is then done
 pub data HandsOut (input : List ℕ) : Scan → List ℕ → List LineAnswer → List (List ℕ) → Type 0 where
-  ends : (scan : Scan) (s : List ℕ) (r : Handed) (t : List ℕ) → NextMeets scan input s r t → r.done ≡ true → HandsOut input scan s [] []
+  ends : (scan : Scan) (s : List ℕ) (t : List ℕ) → NextMeets scan input s None t → HandsOut input scan s [] []
   hands : (scan : Scan) (s : List ℕ) (r : Handed) (t : List ℕ) (answers : List LineAnswer) (lines : List (List ℕ))
-      → NextMeets scan input s r t → r.done ≡ false → HandsOut input r.scan t answers lines
+      → NextMeets scan input s (Some r) t → HandsOut input r.scan t answers lines
       → HandsOut input scan s (line_answer_by r ∷ answers) (text_of r.line ∷ lines)

@@ -1,4 +1,5 @@
 -- Hex digits by the ranges that a `match` tells, and one turn of the loop that reads a key's bytes. Assumes nothing.
+use Rattle.std.specs.Prelude.{Some, None}
 use mathlib.Core.Bool.{true, false}
 use mathlib.Core.Path.{◌≡◌, refl, sym, ap, ◌∙◌}
 use mathlib.Core.List.{List, ◌∷◌}
@@ -10,7 +11,6 @@ use Rattle.lent_bytes.specs.LentBytes.{put}
 use Rattle.lent_bytes.specs.LentBytesLaws.{put_nil}
 use Rattle.decimal.specs.Ascii.{code}
 use Rattle.decimal.specs.DecimalLaws.{is_digit_lem, below_digits, above_digits}
-use Rattle.decimal.specs.declared.Scanned.TheVariants.{Number, Bad}
 use Rattle.trace_lines.specs.Lines.{key_place, behind_pair, key_size, hex_digit, hex_byte, hex_bytes, all_spelled, key_bytes, key_spelled, key_field, no_key}
 use Rattle.trace_lines.proofs.Written.{put_head, put_all}
 
@@ -86,11 +86,11 @@ module _ (line : List ℕ) (step : ℕ) where
   unfolding hex_bytes
   written_end bytes = put_nil bytes key_size
 
-  pub key_bad : all_spelled (key_bytes line step) ≡ false → key_spelled line step ≡ record { key = no_key; end = Bad }
+  pub key_bad : all_spelled (key_bytes line step) ≡ false → key_spelled line step ≡ record { key = no_key; end = None }
   unfolding key_spelled
   key_bad h = rw h
 
   pub key_good : (bytes : List ℕ) → all_spelled (key_bytes line step) ≡ true → bytes ≡ key_bytes line step
-      → key_spelled line step ≡ key_field bytes (Number 0 (behind_pair + (key_size - 1) * step))
+      → key_spelled line step ≡ key_field bytes (Some (0, behind_pair + (key_size - 1) * step))
   unfolding key_spelled
   key_good bytes h e = rw (h, e)

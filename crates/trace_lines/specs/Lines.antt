@@ -1,11 +1,10 @@
 -- The lines of the trace program: the settings line, an event's line, and the lines that are written. Definitions only; their
 -- laws are in `LinesLaws`. A line is a list of bytes without its newline where it is read, and with it where it is written.
 use Rattle.std.specs.Prelude.{Bool, true, false, cond, ◌&&◌, List, [], ◌∷◌, ◌++◌, ℕ, zero, suc, ◌+◌, ◌-◌, ◌*◌, leb, ltb, eqb, length, get_or, replicate}
+use Rattle.std.specs.Prelude.{Option, Some, None}
 use Rattle.refusal.specs.Refusal.{Said, gives}
 use Rattle.decimal.specs.Ascii.{code, ascii, blank, newline}
 use Rattle.decimal.specs.Decimal.{is_digit, scan_of}
-use Rattle.decimal.specs.declared.Scanned.{Scanned}
-use Rattle.decimal.specs.declared.Scanned.TheVariants.{Number, Bad}
 pub use Rattle.text_pieces.specs.Text.{number_text}
 unfoldable pub use Rattle.text_pieces.specs.Text.{refusal_text}
 use Rattle.peer_settings.specs.declared.config.PeerMessagePolicyConfig.{PeerMessagePolicyConfig}
@@ -14,8 +13,6 @@ use Rattle.trace_lines.specs.declared.event.Event.{Event}
 use Rattle.trace_lines.specs.declared.event.EventKind.{EventKind}
 use Rattle.trace_lines.specs.declared.event.EventKind.TheVariants as kind
 use Rattle.trace_lines.specs.declared.event.KeyField.{KeyField}
-use Rattle.trace_lines.specs.declared.settings.Settings.{Settings}
-use Rattle.trace_lines.specs.declared.settings.Settings.TheVariants as settings
 use Rattle.trace_lines.specs.declared.line.TraceLine.{TraceLine}
 use Rattle.trace_lines.specs.declared.line.Word.{Word}
 use Rattle.trace_lines.specs.declared.line.Word.TheVariants.{Allow, DisconnectMessages, DisconnectBytes, DisconnectCeiling, Ban, Banned, Noted, Free, Closed, Released}
@@ -30,55 +27,55 @@ abbrev pub largest64 : ℕ
 largest64 = 18446744073709551615
 
 -- the number behind a single blank at a place
-unfoldable pub blank_then_number : List ℕ → ℕ → ℕ → Scanned
-blank_then_number line at most = cond (eqb (get_or line at 0) blank) (scan_of line (at + 1) most) Bad
+unfoldable pub blank_then_number : List ℕ → ℕ → ℕ → Option (ℕ × ℕ)
+blank_then_number line at most = cond (eqb (get_or line at 0) blank) (scan_of line (at + 1) most) None
 
 -- the field behind one that ended at its place, a blank between them; behind a bad one there is none
-abbrev pub field_of : List ℕ → Scanned → ℕ → Scanned
-field_of line (Number v at) most = blank_then_number line at most
-field_of line Bad most = Bad
+abbrev pub field_of : List ℕ → Option (ℕ × ℕ) → ℕ → Option (ℕ × ℕ)
+field_of line (Some (v, at)) most = blank_then_number line at most
+field_of line None most = None
 
 -- a field's number
-abbrev pub value_of : Scanned → ℕ
-value_of (Number v at) = v
-value_of Bad = 0
+abbrev pub value_of : Option (ℕ × ℕ) → ℕ
+value_of (Some (v, at)) = v
+value_of None = 0
 
 -- whether a field is good and the line ends behind it
-abbrev pub ends_line : List ℕ → Scanned → Bool
-ends_line line (Number v at) = eqb at (length line)
-ends_line line Bad = false
+abbrev pub ends_line : List ℕ → Option (ℕ × ℕ) → Bool
+ends_line line (Some (v, at)) = eqb at (length line)
+ends_line line None = false
 
 -- ════ The settings line: nine numbers in the settings' order, each within its field's width ════
 
-abbrev pub interval : List ℕ → Scanned
+abbrev pub interval : List ℕ → Option (ℕ × ℕ)
 interval line = scan_of line 0 largest64
 
-abbrev pub burst : List ℕ → Scanned
+abbrev pub burst : List ℕ → Option (ℕ × ℕ)
 burst line = field_of line (interval line) largest32
 
-abbrev pub rate : List ℕ → Scanned
+abbrev pub rate : List ℕ → Option (ℕ × ℕ)
 rate line = field_of line (burst line) largest64
 
-abbrev pub burst_bytes : List ℕ → Scanned
+abbrev pub burst_bytes : List ℕ → Option (ℕ × ℕ)
 burst_bytes line = field_of line (rate line) largest64
 
-abbrev pub threshold : List ℕ → Scanned
+abbrev pub threshold : List ℕ → Option (ℕ × ℕ)
 threshold line = field_of line (burst_bytes line) largest32
 
-abbrev pub ban_duration : List ℕ → Scanned
+abbrev pub ban_duration : List ℕ → Option (ℕ × ℕ)
 ban_duration line = field_of line (threshold line) largest64
 
-abbrev pub max_tracked : List ℕ → Scanned
+abbrev pub max_tracked : List ℕ → Option (ℕ × ℕ)
 max_tracked line = field_of line (ban_duration line) largest64
 
-abbrev pub max_messages : List ℕ → Scanned
+abbrev pub max_messages : List ℕ → Option (ℕ × ℕ)
 max_messages line = field_of line (max_tracked line) largest32
 
-abbrev pub max_bytes : List ℕ → Scanned
+abbrev pub max_bytes : List ℕ → Option (ℕ × ℕ)
 max_bytes line = field_of line (max_messages line) largest64
 
 -- the settings of nine fields
-abbrev pub config_of : Scanned → Scanned → Scanned → Scanned → Scanned → Scanned → Scanned → Scanned → Scanned → PeerMessagePolicyConfig
+abbrev pub config_of : Option (ℕ × ℕ) → Option (ℕ × ℕ) → Option (ℕ × ℕ) → Option (ℕ × ℕ) → Option (ℕ × ℕ) → Option (ℕ × ℕ) → Option (ℕ × ℕ) → Option (ℕ × ℕ) → Option (ℕ × ℕ) → PeerMessagePolicyConfig
 config_of a b c d e f g h i = record {
   peer_message_interval_ms = value_of a;
   peer_message_burst = value_of b;
@@ -92,12 +89,12 @@ config_of a b c d e f g h i = record {
 }
 
 -- the settings that a line spells, or bad
-unfoldable pub settings_of : List ℕ → Settings
+unfoldable pub settings_of : List ℕ → Option PeerMessagePolicyConfig
 settings_of line =
     cond (ends_line line (max_bytes line))
-    (settings.Good (config_of (interval line) (burst line) (rate line) (burst_bytes line) (threshold line)
+    (Some (config_of (interval line) (burst line) (rate line) (burst_bytes line) (threshold line)
     (ban_duration line) (max_tracked line) (max_messages line) (max_bytes line)))
-    settings.Bad
+    None
 
 -- ════ A key: 66 hex digits, or 2 for 33 equal bytes, from the third byte of a line on ════
 
@@ -141,7 +138,7 @@ all_spelled (b ∷ more) = ltb b 256 && all_spelled more
 abbrev pub no_key : Pubkey
 no_key = record { bytes = replicate key_size 0 }
 
-abbrev pub key_field : List ℕ → Scanned → KeyField
+abbrev pub key_field : List ℕ → Option (ℕ × ℕ) → KeyField
 key_field bytes end = record { key = record { bytes = bytes }; end = end }
 
 -- the bytes of a key that stand `step` places apart
@@ -152,8 +149,8 @@ key_bytes line step = hex_bytes line key_place step key_size
 unfoldable pub key_spelled : List ℕ → ℕ → KeyField
 key_spelled line step =
     cond (all_spelled (key_bytes line step))
-    (key_field (key_bytes line step) (Number 0 (behind_pair + (key_size - 1) * step)))
-    (record { key = no_key; end = Bad })
+    (key_field (key_bytes line step) (Some (0, behind_pair + (key_size - 1) * step)))
+    (record { key = no_key; end = None })
 
 -- how far the bytes of the key stand apart: a blank behind two digits says that these are all
 abbrev pub step_of : List ℕ → ℕ
@@ -161,7 +158,7 @@ step_of line = cond (eqb (get_or line behind_pair 0) blank) 0 2
 
 -- the key behind the letter and its blank, and the place behind it
 unfoldable pub key_of : List ℕ → KeyField
-key_of line = cond (eqb (get_or line behind_letter 0) blank) (key_spelled line (step_of line)) (record { key = no_key; end = Bad })
+key_of line = cond (eqb (get_or line behind_letter 0) blank) (key_spelled line (step_of line)) (record { key = no_key; end = None })
 
 -- ════ An event's line ════
 
@@ -241,8 +238,8 @@ bad_line_text k = ascii "bad line" ++ (number_text k ++ (newline ∷ []))
 -- ════ What the answers say ════
 
 -- the nine numbers in the settings' order; a bad line gives nothing
-abbrev pub settings_says : Settings → Said
-settings_says (settings.Good c) =
+abbrev pub settings_says : Option PeerMessagePolicyConfig → Said
+settings_says (Some c) =
     gives
     (c.peer_message_interval_ms
     ∷ c.peer_message_burst
@@ -254,7 +251,7 @@ settings_says (settings.Good c) =
     ∷ c.max_in_flight_messages
     ∷ c.max_in_flight_bytes
     ∷ [])
-settings_says settings.Bad = gives []
+settings_says None = gives []
 
 -- the letter of an event's kind, then its bytes, its time and its key; a bad line gives nothing
 abbrev pub kind_says : EventKind → List ℕ → Said

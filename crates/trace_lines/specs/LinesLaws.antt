@@ -3,15 +3,14 @@
 -- In order: bounds of fields; letters; at most one outcome.
 use Rattle.std.specs.Prelude.{Bool, true, false, cond, ◌≡◌, refl, List, ℕ, ◌+◌, ◌^◌, ◌≤◌, ◌<◌, eqb, get_or}
 use Rattle.std.proofs.Common.{sym, ap, ◌∙◌, arith, ne_eqb}
+use Rattle.std.specs.Prelude.{Option, Some, None}
 use Rattle.decimal.specs.Ascii.{code, blank}
 use Rattle.decimal.specs.Decimal.{scan_of}
 use Rattle.decimal.specs.DecimalLaws.{only_spelling}
-use Rattle.decimal.specs.declared.Scanned.{Scanned}
-use Rattle.decimal.specs.declared.Scanned.TheVariants.{Number, Bad}
 use Rattle.refusal.specs.OneOutcomeLaws.{one_outcome}
 use Rattle.trace_lines.specs.Lines.{blank_then_number, field_of, value_of, ends_line, settings_of, event_by, event_of, bad_event, line_of, answer_text, bad_line_text, refusal_text}
+use Rattle.peer_settings.specs.declared.config.PeerMessagePolicyConfig.{PeerMessagePolicyConfig}
 use Rattle.trace_lines.specs.declared.event.Event.{Event}
-use Rattle.trace_lines.specs.declared.settings.Settings.{Settings}
 use Rattle.trace_lines.specs.declared.line.TraceLine.{TraceLine}
 use Rattle.trace_lines.specs.declared.line.Word.{Word}
 
@@ -21,28 +20,28 @@ use Rattle.trace_lines.specs.declared.line.Word.{Word}
 pub scan_bound : (line : List ℕ) (at most : ℕ) → most < 10 ^ 20 → value_of (scan_of line at most) ≤ most
 scan_bound line at most m = go (scan_of line at most) (λ n end h. (only_spelling line at most n end m h).small)
   where
-    go : (s : Scanned) → ((n end : ℕ) → s ≡ Number n end → n ≤ most) → value_of s ≤ most
-    go (Number n end) h = h n end refl
-    go Bad h = omega arith
+    go : (s : Option (ℕ × ℕ)) → ((n end : ℕ) → s ≡ Some (n, end) → n ≤ most) → value_of s ≤ most
+    go (Some (n, end)) h = h n end refl
+    go None h = omega arith
 
-pub field_bound : (line : List ℕ) (before : Scanned) (most : ℕ) → most < 10 ^ 20 → value_of (field_of line before most) ≤ most
+pub field_bound : (line : List ℕ) (before : Option (ℕ × ℕ)) (most : ℕ) → most < 10 ^ 20 → value_of (field_of line before most) ≤ most
 unfolding blank_then_number
-field_bound line (Number v at) most m = go (eqb (get_or line at 0) blank)
+field_bound line (Some (v, at)) most m = go (eqb (get_or line at 0) blank)
   where
-    go : (b : Bool) → value_of (cond b (scan_of line (at + 1) most) Bad) ≤ most
+    go : (b : Bool) → value_of (cond b (scan_of line (at + 1) most) None) ≤ most
     go true = scan_bound line (at + 1) most m
     go false = omega arith
-field_bound line Bad most m = omega arith
+field_bound line None most m = omega arith
 
 -- the field behind one that is known
-pub next_field : (line : List ℕ) (most : ℕ) {before known found : Scanned} → before ≡ known → found ≡ field_of line before most
+pub next_field : (line : List ℕ) (most : ℕ) {before known found : Option (ℕ × ℕ)} → before ≡ known → found ≡ field_of line before most
     → found ≡ field_of line known most
-next_field line most e h = h ∙ ap (λ (s : Scanned). field_of line s most) e
+next_field line most e h = h ∙ ap (λ (s : Option (ℕ × ℕ)). field_of line s most) e
 
 -- what is told of the end of a line, by the last field that is known
-pub ends_told : (line : List ℕ) {last known : Scanned} {told answer : Bool} → last ≡ known → told ≡ ends_line line last → told ≡ answer
+pub ends_told : (line : List ℕ) {last known : Option (ℕ × ℕ)} {told answer : Bool} → last ≡ known → told ≡ ends_line line last → told ≡ answer
     → ends_line line known ≡ answer
-ends_told line e h k = ap (λ (s : Scanned). ends_line line s) (sym e) ∙ sym h ∙ k
+ends_told line e h k = ap (λ (s : Option (ℕ × ℕ)). ends_line line s) (sym e) ∙ sym h ∙ k
 
 -- ════ Letters ════
 
@@ -53,7 +52,7 @@ other_letter k line a i b d r = rw (ne_eqb k (code "a") a, ne_eqb k (code "i") i
 
 -- ════ At most one outcome ════
 
-pub settings_outcome : (line : List ℕ) {r s : Settings} → r ≡ settings_of line → s ≡ settings_of line → r ≡ s
+pub settings_outcome : (line : List ℕ) {r s : Option PeerMessagePolicyConfig} → r ≡ settings_of line → s ≡ settings_of line → r ≡ s
 settings_outcome line = one_outcome
 
 pub event_outcome_lem : (line : List ℕ) {r s : Event} → r ≡ event_of line → s ≡ event_of line → r ≡ s

@@ -2,6 +2,7 @@
 -- Assumes nothing.
 use Rattle.std.specs.Prelude.{Bool, cond, ◌&&◌, ◌≡◌, leb, ltb, length}
 use Rattle.std.proofs.Math.Bool.{true, false}
+use Rattle.std.specs.Prelude.{Option, Some, None}
 use Prim.{tt}
 use Rattle.std.proofs.Math.Logic.{inl, inr}
 use Rattle.std.proofs.Math.Path.{refl, sym, ap}
@@ -15,8 +16,6 @@ use Rattle.truths.specs.TruthLaws.{true_is_not_false, both_parts, chosen}
 use Rattle.decimal.specs.Ascii.{code, blank}
 use Rattle.decimal.specs.Decimal.{is_digit, digits_of, scan_of}
 use Rattle.decimal.specs.DecimalLaws.{digit_range, only_spelling}
-use Rattle.decimal.specs.declared.Scanned.{Scanned}
-use Rattle.decimal.specs.declared.Scanned.TheVariants.{Number, Bad}
 use Rattle.peer_settings.specs.declared.config.PeerMessagePolicyConfig.{PeerMessagePolicyConfig}
 use Rattle.pubkey.specs.declared.Pubkey.{Pubkey}
 use Rattle.trace_lines.specs.Lines.{largest32, largest64, blank_then_number, field_of, value_of, ends_line, number_text, event, no_key, admit_of, keyed_of, release_of, event_of}
@@ -26,19 +25,17 @@ use Rattle.trace_lines.specs.Spelling.{settings_text, hex_char, hex_text, Spells
 use Rattle.trace_lines.specs.declared.event.Event.{Event}
 use Rattle.trace_lines.specs.declared.event.EventKind.{EventKind}
 use Rattle.trace_lines.specs.declared.event.EventKind.TheVariants as kind
-use Rattle.trace_lines.specs.declared.settings.Settings.{Settings}
-use Rattle.trace_lines.specs.declared.settings.Settings.TheVariants as settings
 
 -- ════ What stands before and behind a field ════
 
-abbrev pub is_number : Scanned → Bool
-is_number (Number v at) = true
-is_number Bad = false
+abbrev pub is_number : Option (ℕ × ℕ) → Bool
+is_number (Some (v, at)) = true
+is_number None = false
 
 -- the line behind a field
-abbrev pub behind : List ℕ → Scanned → List ℕ
-behind line (Number v at) = drop at line
-behind line Bad = []
+abbrev pub behind : List ℕ → Option (ℕ × ℕ) → List ℕ
+behind line (Some (v, at)) = drop at line
+behind line None = []
 
 -- a byte that is no zero stands within the line
 pub byte_within : (line : List ℕ) (at b : ℕ) → get_or line at 0 ≡ b → 0 < b → drop at line ≡ b ∷ drop (at + 1) line
@@ -48,16 +45,16 @@ byte_within line at b e h = go (ltb at (length line)) refl
     go true p = drop-cons line at 0 (ltb-true at (length line) p) ∙ rw (e, add-one)
     go false p = absurd (omega (arith, e, get_or-eq_default line 0 (ltb-false at (length line) p)))
 
-scan_front : (line : List ℕ) (at most : ℕ) → most < 10 ^ 20 → (s : Scanned) → scan_of line at most ≡ s → is_number s ≡ true
+scan_front : (line : List ℕ) (at most : ℕ) → most < 10 ^ 20 → (s : Option (ℕ × ℕ)) → scan_of line at most ≡ s → is_number s ≡ true
     → drop at line ≡ digits_of (value_of s) ++ behind line s
-scan_front line at most m (Number n end) e h =
+scan_front line at most m (Some (n, end)) e h =
     let sp = only_spelling line at most n end m e in
     let back : at + (end - at) ≡ end = omega (arith, sp.end_is) in
     sym (take-append-drop (end - at) (drop at line))
     ∙ ap (λ (l : List ℕ). l ++ drop (end - at) (drop at line)) sp.digits
     ∙ ap (λ (l : List ℕ). digits_of n ++ l) (drop-drop (end - at) at line)
     ∙ ap (λ (k : ℕ). digits_of n ++ drop k line) back
-scan_front line at most m Bad e h = absurd (true_is_not_false h refl)
+scan_front line at most m None e h = absurd (true_is_not_false h refl)
 
 -- the digits of a number at a place, and what stands behind them
 pub scan_spelling : (line : List ℕ) (at most : ℕ) → most < 10 ^ 20 → is_number (scan_of line at most) ≡ true
@@ -70,29 +67,29 @@ pub blank_spelling : (line : List ℕ) (at most : ℕ) → most < 10 ^ 20 → is
 unfolding blank_then_number
 blank_spelling line at most m h = go (eqb (get_or line at 0) blank) refl h
   where
-    go : (b : Bool) → eqb (get_or line at 0) blank ≡ b → is_number (cond b (scan_of line (at + 1) most) Bad) ≡ true
-        → drop at line ≡ number_text (value_of (cond b (scan_of line (at + 1) most) Bad)) ++ behind line (cond b (scan_of line (at + 1) most) Bad)
+    go : (b : Bool) → eqb (get_or line at 0) blank ≡ b → is_number (cond b (scan_of line (at + 1) most) None) ≡ true
+        → drop at line ≡ number_text (value_of (cond b (scan_of line (at + 1) most) None)) ++ behind line (cond b (scan_of line (at + 1) most) None)
     go true p k =
         byte_within line at blank (eqb-true (get_or line at 0) blank p) (omega arith)
         ∙ ap (λ (l : List ℕ). blank ∷ l) (scan_spelling line (at + 1) most m k)
     go false p k = absurd (true_is_not_false k refl)
 
 -- behind a field stand a blank, the digits of the next one, and what is behind that
-pub field_spelling : (line : List ℕ) (before : Scanned) (most : ℕ) → most < 10 ^ 20 → is_number (field_of line before most) ≡ true
+pub field_spelling : (line : List ℕ) (before : Option (ℕ × ℕ)) (most : ℕ) → most < 10 ^ 20 → is_number (field_of line before most) ≡ true
     → (is_number before ≡ true) × (behind line before ≡ number_text (value_of (field_of line before most)) ++ behind line (field_of line before most))
-field_spelling line (Number v at) most m h = (refl, blank_spelling line at most m h)
-field_spelling line Bad most m h = absurd (true_is_not_false h refl)
+field_spelling line (Some (v, at)) most m h = (refl, blank_spelling line at most m h)
+field_spelling line None most m h = absurd (true_is_not_false h refl)
 
 -- behind the last field stands nothing
-pub ends_spelling : (line : List ℕ) (last : Scanned) → ends_line line last ≡ true → (is_number last ≡ true) × (behind line last ≡ [])
-ends_spelling line (Number v at) h = (refl, rw (eqb-true at (length line) h) (drop-length line))
-ends_spelling line Bad h = absurd (true_is_not_false h refl)
+pub ends_spelling : (line : List ℕ) (last : Option (ℕ × ℕ)) → ends_line line last ≡ true → (is_number last ≡ true) × (behind line last ≡ [])
+ends_spelling line (Some (v, at)) h = (refl, rw (eqb-true at (length line) h) (drop-length line))
+ends_spelling line None h = absurd (true_is_not_false h refl)
 
 -- ════ The settings line ════
 
-abbrev config_in : PeerMessagePolicyConfig → Settings → PeerMessagePolicyConfig
-config_in other (settings.Good c) = c
-config_in other settings.Bad = other
+abbrev config_in : PeerMessagePolicyConfig → Option PeerMessagePolicyConfig → PeerMessagePolicyConfig
+config_in other (Some c) = c
+config_in other None = other
 
 -- a line whose ninth field ends it is the text of its settings
 nine_fields : (line : List ℕ) → ends_line line (max_bytes line) ≡ true
@@ -112,15 +109,15 @@ nine_fields line h =
     ∙ rw (z.1, a.1, b.1, c.1, d.1, f.1, g.1, i.1, e.1, append-nil (digits_of (value_of (max_bytes line))))
 
 -- a line that gives settings is the only spelling of them
-pub settings_spelling : (line : List ℕ) (config : PeerMessagePolicyConfig) → settings_of line ≡ settings.Good config → line ≡ settings_text config
+pub settings_spelling : (line : List ℕ) (config : PeerMessagePolicyConfig) → settings_of line ≡ Some config → line ≡ settings_text config
 unfolding settings_of
 settings_spelling line config h = go (ends_line line (max_bytes line)) refl h
   where
     go : (b : Bool) → ends_line line (max_bytes line) ≡ b
-        → cond b (settings.Good (config_of (interval line) (burst line) (rate line) (burst_bytes line) (threshold line)
-        (ban_duration line) (max_tracked line) (max_messages line) (max_bytes line))) settings.Bad ≡ settings.Good config
+        → cond b (Some (config_of (interval line) (burst line) (rate line) (burst_bytes line) (threshold line)
+        (ban_duration line) (max_tracked line) (max_messages line) (max_bytes line))) None ≡ Some config
         → line ≡ settings_text config
-    go true p q = nine_fields line p ∙ ap (λ (s : Settings). settings_text (config_in config s)) q
+    go true p q = nine_fields line p ∙ ap (λ (s : Option PeerMessagePolicyConfig). settings_text (config_in config s)) q
     go false p q = let z : ◌≡◌ {A = ℕ} 0 1 = cc in absurd (omega arith)
 
 -- ════ A key ════
@@ -227,9 +224,9 @@ module _ (line : List ℕ) (letter : ℕ) (first : get_or line 0 0 ≡ letter) (
   long_key second h = go (all_spelled (key_bytes line 2)) refl h
     where
       go : (b : Bool) → all_spelled (key_bytes line 2) ≡ b
-          → is_number (cond b (key_field (key_bytes line 2) (Number 0 68)) (record { key = no_key; end = Bad })).end ≡ true
-          → SpellsKeyed line letter (cond b (key_field (key_bytes line 2) (Number 0 68)) (record { key = no_key; end = Bad })).key
-          (behind line (cond b (key_field (key_bytes line 2) (Number 0 68)) (record { key = no_key; end = Bad })).end)
+          → is_number (cond b (key_field (key_bytes line 2) (Some (0, 68))) (record { key = no_key; end = None })).end ≡ true
+          → SpellsKeyed line letter (cond b (key_field (key_bytes line 2) (Some (0, 68))) (record { key = no_key; end = None })).key
+          (behind line (cond b (key_field (key_bytes line 2) (Some (0, 68))) (record { key = no_key; end = None })).end)
       go true p k = record {
         key_text = hex_text (key_bytes line 2);
         spells = inl refl;
@@ -243,9 +240,9 @@ module _ (line : List ℕ) (letter : ℕ) (first : get_or line 0 0 ≡ letter) (
   short_key second h = go (all_spelled (key_bytes line 0)) refl h
     where
       go : (b : Bool) → all_spelled (key_bytes line 0) ≡ b
-          → is_number (cond b (key_field (key_bytes line 0) (Number 0 behind_pair)) (record { key = no_key; end = Bad })).end ≡ true
-          → SpellsKeyed line letter (cond b (key_field (key_bytes line 0) (Number 0 behind_pair)) (record { key = no_key; end = Bad })).key
-          (behind line (cond b (key_field (key_bytes line 0) (Number 0 behind_pair)) (record { key = no_key; end = Bad })).end)
+          → is_number (cond b (key_field (key_bytes line 0) (Some (0, behind_pair))) (record { key = no_key; end = None })).end ≡ true
+          → SpellsKeyed line letter (cond b (key_field (key_bytes line 0) (Some (0, behind_pair))) (record { key = no_key; end = None })).key
+          (behind line (cond b (key_field (key_bytes line 0) (Some (0, behind_pair))) (record { key = no_key; end = None })).end)
       go true p k =
           let v : ℕ = hex_byte line key_place in
           let bytes : List ℕ = key_bytes line 0 in
@@ -264,9 +261,9 @@ module _ (line : List ℕ) (letter : ℕ) (first : get_or line 0 0 ≡ letter) (
   keyed_front h = go (eqb (get_or line behind_letter 0) blank) (eqb (get_or line behind_pair 0) blank) refl h
     where
       go : (b s : Bool) → eqb (get_or line behind_letter 0) blank ≡ b
-          → is_number (cond b (key_spelled line (cond s 0 2)) (record { key = no_key; end = Bad })).end ≡ true
-          → SpellsKeyed line letter (cond b (key_spelled line (cond s 0 2)) (record { key = no_key; end = Bad })).key
-          (behind line (cond b (key_spelled line (cond s 0 2)) (record { key = no_key; end = Bad })).end)
+          → is_number (cond b (key_spelled line (cond s 0 2)) (record { key = no_key; end = None })).end ≡ true
+          → SpellsKeyed line letter (cond b (key_spelled line (cond s 0 2)) (record { key = no_key; end = None })).key
+          (behind line (cond b (key_spelled line (cond s 0 2)) (record { key = no_key; end = None })).end)
       go true true p k = short_key (eqb-true (get_or line behind_letter 0) blank p) k
       go true false p k = long_key (eqb-true (get_or line behind_letter 0) blank p) k
       go false s p k = absurd (true_is_not_false k refl)
@@ -287,9 +284,9 @@ module _ (line : List ℕ) (letter : ℕ) (first : get_or line 0 0 ≡ letter) (
 admit_spelling : (line : List ℕ) → get_or line 0 0 ≡ code "a" → SpellsEvent line (admit_of line)
 unfolding admit_of
 admit_spelling line first =
-    let key : Scanned = (key_of line).end in
-    let bytes : Scanned = field_of line key largest64 in
-    let now : Scanned = field_of line bytes largest64 in
+    let key : (Option (ℕ × ℕ)) = (key_of line).end in
+    let bytes : (Option (ℕ × ℕ)) = field_of line key largest64 in
+    let now : (Option (ℕ × ℕ)) = field_of line bytes largest64 in
     chosen (SpellsEvent line) (ends_line line now)
     (λ p. let e = ends_spelling line now p in
     let g = field_spelling line bytes largest64 (omega arith) e.0 in
@@ -304,8 +301,8 @@ keyed_spelling : (line : List ℕ) (k : EventKind) (letter : ℕ) → get_or lin
     → SpellsEvent line (keyed_of k line)
 unfolding keyed_of
 keyed_spelling line k letter first above spells =
-    let key : Scanned = (key_of line).end in
-    let now : Scanned = field_of line key largest64 in
+    let key : (Option (ℕ × ℕ)) = (key_of line).end in
+    let now : (Option (ℕ × ℕ)) = field_of line key largest64 in
     chosen (SpellsEvent line) (ends_line line now)
     (λ p. let e = ends_spelling line now p in
     let f = field_spelling line key largest64 (omega arith) e.0 in
@@ -317,7 +314,7 @@ keyed_spelling line k letter first above spells =
 release_spelling : (line : List ℕ) → get_or line 0 0 ≡ code "r" → SpellsEvent line (release_of line)
 unfolding release_of
 release_spelling line first =
-    let bytes : Scanned = blank_then_number line behind_letter largest64 in
+    let bytes : (Option (ℕ × ℕ)) = blank_then_number line behind_letter largest64 in
     chosen (SpellsEvent line) (ends_line line bytes)
     (λ p. let e = ends_spelling line bytes p in
     byte_within line 0 (code "r") first (omega arith)

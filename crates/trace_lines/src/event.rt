@@ -1,9 +1,8 @@
 // An event's line, judged by its first letter.
-ghost use Rattle.std.specs.Prelude.{◌≡◌, ◌≤◌, get_or};
+ghost use Rattle.std.specs.Prelude.{◌≡◌, ◌≤◌, get_or, None};
 ghost use Rattle.trace_lines.specs.Lines.{hex_digit, hex_pair, hex_byte, key_spelled, step_of, key_of, event, bad_event, admit_of, keyed_of, release_of, event_of, no_key};
 
 use super::field::{LARGEST_64, blank_then_number, ends, field, value};
-use decimal::Scanned;
 use pubkey::Pubkey;
 
 // Places of a line: of the blank behind its letter, of its key, and behind the key's first two digits.
@@ -27,7 +26,7 @@ pub enum EventKind {
     Bad,
 }
 
-// An event; what its kind has no use for is zero. An enum can't hold a key, so a bad line is a kind of its own.
+// An event; what its kind has no use for is zero. A bad line is a kind of its own.
 #[derive(Clone, Copy)]
 pub struct Event {
     pub kind: EventKind,
@@ -40,7 +39,7 @@ pub struct Event {
 #[derive(Clone, Copy)]
 pub struct KeyField {
     pub key: Pubkey,
-    pub end: Scanned,
+    pub end: Option<(u64, usize)>,
 }
 
 // The line's byte at the place, or 0 behind its end: no letter, digit or blank.
@@ -88,13 +87,13 @@ fn hex_byte(line: &[u8], at: usize) -> u16
 }
 
 fn no_key() -> KeyField
-    ensures { result ≡ record { key = no_key; end = Scanned.Bad } }
+    ensures { result ≡ record { key = no_key; end = None } }
 {
     KeyField {
         key: Pubkey {
             bytes: [0u8; KEY_SIZE],
         },
-        end: Scanned::Bad,
+        end: None,
     }
 }
 
@@ -115,7 +114,7 @@ fn key_spelled(line: &[u8], step: usize) -> KeyField
     }
     KeyField {
         key: Pubkey { bytes },
-        end: Scanned::Number(0, BEHIND_PAIR + (KEY_SIZE - 1) * step),
+        end: Some((0, BEHIND_PAIR + (KEY_SIZE - 1) * step)),
     }
 }
 

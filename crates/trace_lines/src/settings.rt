@@ -5,14 +5,8 @@ ghost use Rattle.trace_lines.specs.Lines.{settings_of};
 use super::field::{LARGEST_32, LARGEST_64, ends, field, value};
 use peer_settings::config::PeerMessagePolicyConfig;
 
-#[derive(Clone, Copy)]
-pub enum Settings {
-    Good(PeerMessagePolicyConfig),
-    Bad,
-}
-
 // The settings that a line without its newline spells. Each number has to fit its field.
-pub fn parse_settings(line: &[u8]) -> Settings
+pub fn parse_settings(line: &[u8]) -> Option<PeerMessagePolicyConfig>
     ensures { result ≡ settings_of line.now }
 {
     let interval = decimal::scan(line, 0, LARGEST_64);
@@ -25,9 +19,9 @@ pub fn parse_settings(line: &[u8]) -> Settings
     let max_messages = field(line, max_tracked, LARGEST_32);
     let max_bytes = field(line, max_messages, LARGEST_64);
     if !ends(line, max_bytes) {
-        return Settings::Bad;
+        return None;
     }
-    Settings::Good(PeerMessagePolicyConfig {
+    Some(PeerMessagePolicyConfig {
         peer_message_interval_ms: value(interval),
         peer_message_burst: value(burst) as u32,
         peer_message_rate_bytes_per_sec: value(rate),

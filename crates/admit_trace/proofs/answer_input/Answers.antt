@@ -4,7 +4,7 @@ use Rattle.standard.specs.Input.{ReadInto}
 use Rattle.admit_trace.proofs.answer_input.Goals as goal
 
 pub slice_bounds-write_answers-end : goal.slice_bounds-write_answers-end
-slice_bounds-write_answers-end c = (subst (λ r. ReadInto r c.read-input.new.buffer) c.in-Bytes.is c.read-input.ensures).0
+slice_bounds-write_answers-end c = (subst (λ r. ReadInto r c.read.new.buffer) c.in-Some.is c.read.ensures).0
 
-pub slice_bounds-write_answers-end-in-Bytes : goal.slice_bounds-write_answers-end-in-Bytes
-slice_bounds-write_answers-end-in-Bytes c = (subst (λ r. ReadInto r c.read-input.new.buffer) c.in-Bytes.is c.read-input.ensures).1
+pub slice_bounds-write_answers-end-in-Some : goal.slice_bounds-write_answers-end-in-Some
+slice_bounds-write_answers-end-in-Some c = (subst (λ r. ReadInto r c.read.new.buffer) c.in-Some.is c.read.ensures).1

@@ -1,5 +1,5 @@
 -- `decimal::put_decimal` meets its contract.
-use Rattle.std.proofs.Common.{◌≡◌, refl, sym, ap, ◌∙◌, ℕ, suc, ◌+◌, ◌-◌, ◌%◌, arith, length-set}
+use Rattle.std.proofs.Common.{◌≡◌, sym, ap, ◌∙◌, ℕ, suc, ◌+◌, ◌-◌, ◌%◌, arith, length-set}
 use Rattle.lent_bytes.specs.LentBytes.{put}
 use Rattle.lent_bytes.specs.LentBytesLaws.{put_nil}
 use Rattle.decimal.specs.Ascii.{code}
@@ -8,15 +8,6 @@ use Rattle.decimal.specs.DecimalLaws.{low_digits, low_within}
 use Rattle.decimal.proofs.Loops.{digit_written}
 use Rattle.decimal.proofs.put_decimal.Goals as goal
 
-pub loop-left-init : goal.loop-left-init
-loop-left-init c = (refl, (refl, omega arith))
-
-pub overflow_add-out-in-loop-left : goal.overflow_add-out-in-loop-left
-overflow_add-out-in-loop-left c = omega (arith, c.width-digits.ensures)
-
-pub bounds-out-at : goal.bounds-out-at
-bounds-out-at c = omega (arith, c.width-digits.ensures)
-
 pub loop-left-preserved : goal.loop-left-preserved
 loop-left-preserved c = let a = c.args in let l = c.loop-left in
     let e : l.left ≡ suc (l.left - 1) = omega arith in (
@@ -24,12 +15,6 @@ loop-left-preserved c = let a = c.args in let l = c.loop-left in
           ∙ digit_written l.out a.at (l.left - 1) l.rest (omega (arith, c.width-digits.ensures)),
       (length-set l.out (a.at + (l.left - 1)) (code "0" + l.rest % 10) ∙ l.invariant.1.0, omega arith),
     )
-
-pub overflow_add-result : goal.overflow_add-result
-overflow_add-result c = omega (arith, c.width-digits.ensures)
-
-pub shape_of-out : goal.shape_of-out
-shape_of-out c = c.loop-left.invariant.1.0
 
 pub returns : goal.returns
 unfolding digits_of

@@ -4,9 +4,6 @@ use Rattle.decimal.specs.Decimal.{digits_within, digits_of}
 use Rattle.decimal.proofs.Loops.{one_digit, one_digit_more, last_digit}
 use Rattle.decimal.proofs.width.Goals as goal
 
-pub loop-width-init : goal.loop-width-init
-loop-width-init c = (omega arith, (omega arith, omega arith))
-
 pub returns-then-rest-lt10 : goal.returns-then-rest-lt10
 unfolding digits_of
 returns-then-rest-lt10 c = let l = c.loop-width in

@@ -2,22 +2,23 @@
 ghost use Rattle.bucket_discrete.specs.DiscreteBucket.{DiscreteRefillMeets, DiscreteTryConsumeMeets};
 
 use bucket_discrete::discrete::DiscreteTokenBucket;
-use bucket_terms::answer::{Consumed, Refilled};
+use bucket_terms::answer::NotGiven;
+use refusal::Refusal;
 
 // Brings the bucket up to a time.
-pub fn refill(bucket: &mut DiscreteTokenBucket, now_ms: u64) -> Refilled
-    ensures { DiscreteRefillMeets bucket.old now_ms (record { bucket = bucket.new; answer = result }) }
+pub fn refill(bucket: &mut DiscreteTokenBucket, now_ms: u64) -> Result<(), Refusal>
+    ensures { DiscreteRefillMeets bucket.old now_ms (record { state = bucket.new; answer = result }) }
 {
     let after = bucket.refill(now_ms);
-    *bucket = after.bucket;
+    *bucket = after.state;
     after.answer
 }
 
 // Takes one token if there is one. A no keeps the refill.
-pub fn try_consume(bucket: &mut DiscreteTokenBucket, now_ms: u64) -> Consumed
-    ensures { DiscreteTryConsumeMeets bucket.old now_ms (record { bucket = bucket.new; answer = result }) }
+pub fn try_consume(bucket: &mut DiscreteTokenBucket, now_ms: u64) -> Result<(), NotGiven>
+    ensures { DiscreteTryConsumeMeets bucket.old now_ms (record { state = bucket.new; answer = result }) }
 {
     let after = bucket.try_consume(now_ms);
-    *bucket = after.bucket;
+    *bucket = after.state;
     after.answer
 }

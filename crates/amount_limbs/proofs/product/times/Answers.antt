@@ -29,9 +29,9 @@ returns-then-fourth-eq0 c =
     let w₁ = c.mul_add-second in
     let w₂ = c.mul_add-third in
     let w₃ = c.mul_add-fourth in
-    let s = columns a.factor a.limbs h w₀.result.lo w₀.result.hi w₁.result.lo w₁.result.hi w₂.result.lo w₂.result.hi w₃.result.lo w₃.result.hi w₃.ensures w₂.ensures w₁.ensures w₀.ensures in
+    let s = columns a.factor a.limbs h w₀.result.low w₀.result.high w₁.result.low w₁.result.high w₂.result.low w₂.result.high w₃.result.low w₃.result.high w₃.ensures w₂.ensures w₁.ensures w₀.ensures in
     saturated_fits a.factor (digits a.limbs) (rw c.if-fourth-eq0.true at s)
-    (four_below 4294967296 w₀.result.lo w₁.result.lo w₂.result.lo w₃.result.lo
+    (four_below 4294967296 w₀.result.low w₁.result.low w₂.result.low w₃.result.low
     (omega (arith, w₀.type_inv)) (omega (arith, w₁.type_inv)) (omega (arith, w₂.type_inv)) (omega (arith, w₃.type_inv)))
 
 pub returns-else-fourth-eq0 : goal.returns-else-fourth-eq0
@@ -42,6 +42,6 @@ returns-else-fourth-eq0 c =
     let w₁ = c.mul_add-second in
     let w₂ = c.mul_add-third in
     let w₃ = c.mul_add-fourth in
-    let s = columns a.factor a.limbs h w₀.result.lo w₀.result.hi w₁.result.lo w₁.result.hi w₂.result.lo w₂.result.hi w₃.result.lo w₃.result.hi w₃.ensures w₂.ensures w₁.ensures w₀.ensures in
+    let s = columns a.factor a.limbs h w₀.result.low w₀.result.high w₁.result.low w₁.result.high w₂.result.low w₂.result.high w₃.result.low w₃.result.high w₃.ensures w₂.ensures w₁.ensures w₀.ensures in
     saturated_stops a.factor (digits a.limbs) s
-    (fifth_above 4294967296 w₀.result.lo w₁.result.lo w₂.result.lo w₃.result.lo w₃.result.hi c.if-fourth-eq0.false)
+    (fifth_above 4294967296 w₀.result.low w₁.result.low w₂.result.low w₃.result.low w₃.result.high c.if-fourth-eq0.false)

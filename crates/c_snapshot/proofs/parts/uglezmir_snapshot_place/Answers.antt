@@ -2,8 +2,8 @@
 use Rattle.std.proofs.Common.{refl, sym}
 use Rattle.c_snapshot.proofs.parts.uglezmir_snapshot_place.Goals as goal
 
-pub returns-in-At : goal.returns-in-At
-returns-in-At c = rw (sym c.place_of-found.ensures, c.in-At.is) (refl, refl)
+pub returns-in-Ok : goal.returns-in-Ok
+returns-in-Ok c = rw (sym c.place_of.ensures, c.in-Ok.is) (refl, refl)
 
-pub returns-in-Refused : goal.returns-in-Refused
-returns-in-Refused c = rw (sym c.place_of-found.ensures, c.in-Refused.is) (refl, refl)
+pub returns-in-Err : goal.returns-in-Err
+returns-in-Err c = rw (sym c.place_of.ensures, c.in-Err.is) (c.number.ensures, refl)

@@ -2,4 +2,4 @@
 use Rattle.c_snapshot.proofs.parts.uglezmir_snapshot_row.Goals as goal
 
 pub returns : goal.returns
-returns c = rw c.row_at-step.ensures at c.leave.ensures
+returns c = rw c.row_at.ensures at c.leave.ensures

@@ -6,5 +6,5 @@ returns c =
     record {
       answer = c.read-answer.result;
       met = c.read-answer.ensures;
-      leaves = rw c.numbered_made.ensures at c.leave.ensures;
+      leaves = rw c.numbered_changed.ensures.made at c.leave.ensures;
     }

@@ -2,18 +2,18 @@
 use Rattle.std.proofs.Common.{refl}
 use Rattle.c_snapshot.proofs.policy.uglezmir_snapshot_write.Goals as goal
 
-pub returns-in-Length : goal.returns-in-Length
-returns-in-Length c =
+pub returns-in-Ok : goal.returns-in-Ok
+returns-in-Ok c =
     record {
-      answer = c.write-answer.result;
-      met = rw c.policy_of-p.ensures at c.write-answer.ensures;
-      leaves = rw c.in-Length.is (refl, refl);
+      answer = c.write.result;
+      met = rw c.policy_of.ensures at c.write.ensures;
+      leaves = rw c.in-Ok.is (refl, refl);
     }
 
-pub returns-in-Refused : goal.returns-in-Refused
-returns-in-Refused c =
+pub returns-in-Err : goal.returns-in-Err
+returns-in-Err c =
     record {
-      answer = c.write-answer.result;
-      met = rw c.policy_of-p.ensures at c.write-answer.ensures;
-      leaves = rw c.in-Refused.is (refl, refl);
+      answer = c.write.result;
+      met = rw c.policy_of.ensures at c.write.ensures;
+      leaves = rw c.in-Err.is (c.number.ensures, refl);
     }

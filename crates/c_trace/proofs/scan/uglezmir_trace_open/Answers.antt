@@ -2,4 +2,4 @@
 use Rattle.c_trace.proofs.scan.uglezmir_trace_open.Goals as goal
 
 pub returns : goal.returns
-returns c = rw c.open-opened.ensures at c.leave.ensures
+returns c = rw c.open.ensures at c.leave.ensures

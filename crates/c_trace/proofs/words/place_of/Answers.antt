@@ -2,4 +2,4 @@
 use Rattle.c_trace.proofs.words.place_of.Goals as goal
 
 pub returns : goal.returns
-returns c = rw c.phase_number-number.ensures
+returns c = rw c.phase_number.ensures

@@ -2,4 +2,4 @@
 use Rattle.c_trace.proofs.words.scan_of.Goals as goal
 
 pub returns : goal.returns
-returns c = rw (c.policy_of-policy.ensures, c.phase_of-phase.ensures)
+returns c = rw (c.policy_of.ensures, c.phase_of.ensures)

@@ -1,5 +1,5 @@
--- `gossip_ban_rows::room::first_to_go` meets its contract: the invariant is that of `MinimumRowsLaws` (of table_laws), and that what was found is a row; the measure is how many are left. Assumes nothing.
-use Rattle.std.proofs.Common.{◌-◌, ◌≤◌, ◌<◌}
+-- `gossip_ban_rows::room::first_to_go` meets its contract: the invariant is that of `MinimumRowsLaws` (of table_laws), and that what was found is a row. Assumes nothing.
+use Rattle.std.proofs.Common.{◌<◌}
 use Rattle.table.specs.Table.{Row}
 use Rattle.table_laws.specs.MinimumRowsLaws.{FirstSo}
 use Rattle.gossip_ban_rows.specs.declared.entry.GossipBanEntry.{GossipBanEntry}
@@ -8,7 +8,4 @@ use Rattle.gossip_ban_rows.specs.Room.{rank}
 use Rattle.gossip_ban_rows.proofs.room.first_to_go.Given as goal
 
 abbrev pub invariant-loop-i : goal.invariant-loop-i
-invariant-loop-i l = (l.i ≤ l.count) × ((l.found < l.count) × FirstSo ban_layout (λ (r : Row GossipBanEntry). rank l.now_ms r.entry) l.table l.count l.i l.found)
-
-abbrev pub decreases-loop-i : goal.decreases-loop-i
-decreases-loop-i l = l.count - l.i
+invariant-loop-i l = (l.found < l.count) × FirstSo ban_layout (λ (r : Row GossipBanEntry). rank l.now_ms r.entry) l.table l.count l.i l.found

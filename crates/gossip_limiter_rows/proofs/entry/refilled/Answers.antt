@@ -4,4 +4,4 @@ use Rattle.gossip_limiter_rows.proofs.Buckets.{refilled_by}
 use Rattle.gossip_limiter_rows.proofs.entry.refilled.Goals as goal
 
 pub returns : goal.returns
-returns c = c.entry_of.ensures ∙ refilled_by c.args.config c.args.e c.args.now_ms c.bucket_of-bucket.result c.refill-after.result c.bucket_of-bucket.ensures c.requires c.refill-after.ensures
+returns c = c.entry_of.ensures ∙ refilled_by c.args.config c.args.e c.args.now_ms c.bucket_of.result c.refill.result c.bucket_of.ensures c.requires c.refill.ensures

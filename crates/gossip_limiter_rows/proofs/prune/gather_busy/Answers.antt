@@ -12,14 +12,14 @@ use Rattle.gossip_limiter_rows.proofs.prune.gather_busy.Goals as goal
 
 pub loop-i-init : goal.loop-i-init
 loop-i-init c = let a = c.args in
-    (omega arith, (kept_begins limiter_layout (not_full a.config) a.table.now (map_entries (refilled a.config a.now_ms) (rows limiter_layout a.table.now a.count)), refl))
+    (kept_begins limiter_layout (not_full a.config) a.table.now (map_entries (refilled a.config a.now_ms) (rows limiter_layout a.table.now a.count)), refl)
 
 pub keep_busy-kept-requires : goal.keep_busy-kept-requires
 keep_busy-kept-requires c = let a = c.args in
-    let so = c.loop-i.invariant.1.0 in
+    let so = c.loop-i.invariant.0 in
     record {
       to_le_from = kept_most so;
-      from_in_bounds = omega (arith, c.loop-i.invariant.1.1, c.requires.count_in_bounds);
+      from_in_bounds = omega (arith, c.loop-i.invariant.1, c.requires.count_in_bounds);
       from_value = kept_rule limiter_faithful (not_full a.config) (refilled a.config a.now_ms) a.table.now a.count (refilled_fit a.config a.now_ms a.table.now a.count (omega (arith, c.well_formed)) (omega (arith, c.well_formed)) (λ i. (c.slice_known-1.given i).fits) (omega (arith, c.requires))) (omega arith) so (limiter_sound a.config) c.requires.count_value;
     }
 
@@ -27,12 +27,12 @@ pub loop-i-preserved : goal.loop-i-preserved
 loop-i-preserved c = let a = c.args in
     let turn = c.loop-i in
     let step = c.keep_busy-kept in
-    (omega arith, (keep_step limiter_faithful (not_full a.config) (refilled a.config a.now_ms) a.table.now a.count (refilled_fit a.config a.now_ms a.table.now a.count (omega (arith, c.well_formed)) (omega (arith, c.well_formed)) (λ i. (c.slice_known-1.given i).fits) (omega (arith, c.requires))) (omega arith) turn.invariant.1.0 _ step.result step.ensures.0 step.ensures.1, step.auto.table ∙ turn.invariant.1.1))
+    (keep_step limiter_faithful (not_full a.config) (refilled a.config a.now_ms) a.table.now a.count (refilled_fit a.config a.now_ms a.table.now a.count (omega (arith, c.well_formed)) (omega (arith, c.well_formed)) (λ i. (c.slice_known-1.given i).fits) (omega (arith, c.requires))) (omega arith) turn.invariant.0 _ step.result step.ensures.0 step.ensures.1, step.auto.table ∙ turn.invariant.1)
 
 pub shape_of-table : goal.shape_of-table
-shape_of-table c = c.loop-i.invariant.1.1
+shape_of-table c = c.loop-i.invariant.1
 
 pub returns : goal.returns
 returns c = let a = c.args in
     let fit = (refilled_fit a.config a.now_ms a.table.now a.count (omega (arith, c.well_formed)) (omega (arith, c.well_formed)) (λ i. (c.slice_known-1.given i).fits) (omega (arith, c.requires))) in
-    kept_ends limiter_faithful (not_full a.config) a.table.now (map_entries (refilled a.config a.now_ms) (rows limiter_layout a.table.now a.count)) fit (omega (arith, length_rewritten limiter_faithful (not_full a.config) (refilled a.config a.now_ms) a.table.now a.count fit)) c.loop-i.invariant.1.0
+    kept_ends limiter_faithful (not_full a.config) a.table.now (map_entries (refilled a.config a.now_ms) (rows limiter_layout a.table.now a.count)) fit (omega (arith, length_rewritten limiter_faithful (not_full a.config) (refilled a.config a.now_ms) a.table.now a.count fit)) c.loop-i.invariant.0

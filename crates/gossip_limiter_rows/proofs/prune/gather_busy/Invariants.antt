@@ -1,5 +1,5 @@
 -- `prune::gather_busy` meets its contract: of the rows tried, refilled, those that are not full stand at the front. Assumes nothing.
-use Rattle.std.proofs.Common.{◌≡◌, ◌-◌, ◌≤◌, length}
+use Rattle.std.proofs.Common.{◌≡◌, length}
 use Rattle.table.specs.Memory.{rows}
 use Rattle.table_laws.specs.Raw.{map_entries}
 use Rattle.table_laws.specs.KeepLaws.{KeptSo}
@@ -9,7 +9,4 @@ use Rattle.gossip_limiter_rows.specs.Prune.{not_full}
 use Rattle.gossip_limiter_rows.proofs.prune.gather_busy.Given as goal
 
 abbrev pub invariant-loop-i : goal.invariant-loop-i
-invariant-loop-i l = (l.i ≤ l.count) × (KeptSo limiter_layout (not_full l.config) l.initial.table (map_entries (refilled l.config l.now_ms) (rows limiter_layout l.initial.table l.count)) l.i l.table l.kept × (length l.table ≡ length l.initial.table))
-
-abbrev pub decreases-loop-i : goal.decreases-loop-i
-decreases-loop-i l = l.count - l.i
+invariant-loop-i l = KeptSo limiter_layout (not_full l.config) l.initial.table (map_entries (refilled l.config l.now_ms) (rows limiter_layout l.initial.table l.count)) l.i l.table l.kept × (length l.table ≡ length l.initial.table)

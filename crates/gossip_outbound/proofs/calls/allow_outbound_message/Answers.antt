@@ -1,6 +1,5 @@
 -- `gossip_outbound::calls::allow_outbound_message` meets its contract: a law of `CallLaws` for each answer. Assumes nothing.
 use Rattle.std.proofs.Common.{sym, ◌∙◌}
-use borrow.Author.Tests.{not-true, not-false}
 use Rattle.gossip_outbound_state.specs.CarryLaws.{found_unsound, found_placed, placed_global}
 use Rattle.gossip_outbound.specs.CallLaws.{allow_unsound, allow_no, allow_full, allow_yes}
 use Rattle.gossip_outbound.proofs.calls.allow_outbound_message.Goals as goal
@@ -11,36 +10,31 @@ returns-then-is_unsound c = let a = c.args in
 
 pub peer_bucket-bucket-requires : goal.peer_bucket-bucket-requires
 peer_bucket-bucket-requires c = let a = c.args in
-    let p = found_placed a.o a.table.now a.peer.bytes c.sought-found.result c.sought-found.ensures (sym c.is_unsound.ensures ∙ c.if-is_unsound.false) in
-    p
+    found_placed a.o a.table.now a.peer.bytes c.sought-found.result c.sought-found.ensures (sym c.is_unsound.ensures ∙ c.if-is_unsound.false)
 
-pub charge_both-both-requires : goal.charge_both-both-requires
-charge_both-both-requires c =
+pub charge_both-requires-clause-global_sound : goal.charge_both-requires-clause-global_sound
+charge_both-requires-clause-global_sound c = let a = c.args in
+    placed_global a.o a.table.now a.peer.bytes (found_placed a.o a.table.now a.peer.bytes c.sought-found.result c.sought-found.ensures (sym c.is_unsound.ensures ∙ c.if-is_unsound.false))
+
+pub returns-in_default : goal.returns-in_default
+returns-in_default c =
     let a = c.args in
     let p = found_placed a.o a.table.now a.peer.bytes c.sought-found.result c.sought-found.ensures (sym c.is_unsound.ensures ∙ c.if-is_unsound.false) in
-    record { global_value = placed_global a.o a.table.now a.peer.bytes p; peer_value = c.peer_bucket-bucket.ensures.is_sound }
-
-pub returns-then-not-yes : goal.returns-then-not-yes
-returns-then-not-yes c =
-    let a = c.args in
-    let p = found_placed a.o a.table.now a.peer.bytes c.sought-found.result c.sought-found.ensures (sym c.is_unsound.ensures ∙ c.if-is_unsound.false) in
-    allow_no a.o a.table.now a.peer a.bytes a.now_ms c.sought-found.result p c.peer_bucket-bucket.result c.peer_bucket-bucket.ensures c.charge_both-both.result c.charge_both-both.ensures (not-true c.charge_both-both.result.yes c.if-not-yes.true-raw)
+    allow_no a.o a.table.now a.peer a.bytes a.now_ms c.sought-found.result p c.peer_bucket-bucket.result c.peer_bucket-bucket.ensures c.charge_both.result c.charge_both.ensures c.in_default.is
 
 pub returns-then-is_full : goal.returns-then-is_full
 returns-then-is_full c =
     let a = c.args in
     let p = found_placed a.o a.table.now a.peer.bytes c.sought-found.result c.sought-found.ensures (sym c.is_unsound.ensures ∙ c.if-is_unsound.false) in
-    allow_full a.o a.table.now a.peer a.bytes a.now_ms c.sought-found.result p c.peer_bucket-bucket.result c.peer_bucket-bucket.ensures c.charge_both-both.result c.charge_both-both.ensures (not-false c.charge_both-both.result.yes c.if-not-yes.false-raw) (sym c.is_full.ensures ∙ c.if-is_full.true)
+    allow_full a.o a.table.now a.peer a.bytes a.now_ms c.sought-found.result p c.peer_bucket-bucket.result c.peer_bucket-bucket.ensures c.charge_both.result c.charge_both.ensures c.in-Some.both c.in-Some.is (sym c.is_full.ensures ∙ c.if-is_full.true)
 
-pub write_row-rows-requires : goal.write_row-rows-requires
-write_row-rows-requires c =
-    let a = c.args in
-    let p = found_placed a.o a.table.now a.peer.bytes c.sought-found.result c.sought-found.ensures (sym c.is_unsound.ensures ∙ c.if-is_unsound.false) in
-    record { placed = p; found_value = sym c.is_full.ensures ∙ c.if-is_full.false }
+pub write_row-rows-requires-clause-placed : goal.write_row-rows-requires-clause-placed
+write_row-rows-requires-clause-placed c = let a = c.args in
+    found_placed a.o a.table.now a.peer.bytes c.sought-found.result c.sought-found.ensures (sym c.is_unsound.ensures ∙ c.if-is_unsound.false)
 
 pub returns : goal.returns
 returns c =
     let a = c.args in
     let p = found_placed a.o a.table.now a.peer.bytes c.sought-found.result c.sought-found.ensures (sym c.is_unsound.ensures ∙ c.if-is_unsound.false) in
-    rw c.with-outbound.ensures
-    (allow_yes a.o a.table.now a.peer a.bytes a.now_ms c.sought-found.result p c.peer_bucket-bucket.result c.peer_bucket-bucket.ensures c.charge_both-both.result c.charge_both-both.ensures (not-false c.charge_both-both.result.yes c.if-not-yes.false-raw) (sym c.is_full.ensures ∙ c.if-is_full.false) _ c.write_row-rows.result c.write_row-rows.ensures)
+    rw c.with.ensures
+    (allow_yes a.o a.table.now a.peer a.bytes a.now_ms c.sought-found.result p c.peer_bucket-bucket.result c.peer_bucket-bucket.ensures c.charge_both.result c.charge_both.ensures c.in-Some.both c.in-Some.is (sym c.is_full.ensures ∙ c.if-is_full.false) _ c.write_row-rows.result c.write_row-rows.ensures)

@@ -15,11 +15,10 @@ delay_of-global_ms-requires c = let a = c.args in
 
 pub peer_delay-peer_ms-requires : goal.peer_delay-peer_ms-requires
 peer_delay-peer_ms-requires c = let a = c.args in
-    let p = found_placed a.o a.table.now a.peer.bytes c.sought-found.result c.sought-found.ensures (sym c.is_unsound.ensures ∙ c.if-is_unsound.false) in
-    p
+    found_placed a.o a.table.now a.peer.bytes c.sought-found.result c.sought-found.ensures (sym c.is_unsound.ensures ∙ c.if-is_unsound.false)
 
 pub returns : goal.returns
 returns c =
     let a = c.args in
     let p = found_placed a.o a.table.now a.peer.bytes c.sought-found.result c.sought-found.ensures (sym c.is_unsound.ensures ∙ c.if-is_unsound.false) in
-    estimate_wait a.o a.table.now a.peer a.bytes a.now_ms p.is_sound c.delay_of-global_ms.result c.peer_delay-peer_ms.result c.longer.result c.delay_of-global_ms.ensures c.peer_delay-peer_ms.ensures c.longer.ensures
+    estimate_wait a.o a.table.now a.peer a.bytes a.now_ms p.is_sound c.delay_of-global_ms.result c.peer_delay-peer_ms.result c.max.result c.delay_of-global_ms.ensures c.peer_delay-peer_ms.ensures c.max.ensures

@@ -10,11 +10,10 @@ returns-then-is_unsound c = let a = c.args in
 
 pub drop_row-rows-requires : goal.drop_row-rows-requires
 drop_row-rows-requires c = let a = c.args in
-    let p = found_placed a.o a.table.now a.peer.bytes c.sought-found.result c.sought-found.ensures (sym c.is_unsound.ensures ∙ c.if-is_unsound.false) in
-    p
+    found_placed a.o a.table.now a.peer.bytes c.sought-found.result c.sought-found.ensures (sym c.is_unsound.ensures ∙ c.if-is_unsound.false)
 
 pub returns : goal.returns
 returns c =
     let a = c.args in
     let p = found_placed a.o a.table.now a.peer.bytes c.sought-found.result c.sought-found.ensures (sym c.is_unsound.ensures ∙ c.if-is_unsound.false) in
-    rw c.with-outbound.ensures (remove_done a.o a.table.now a.peer p.is_sound _ c.drop_row-rows.result c.drop_row-rows.ensures)
+    rw c.with.ensures (remove_done a.o a.table.now a.peer p.is_sound _ c.drop_row-rows.result c.drop_row-rows.ensures)

@@ -16,24 +16,19 @@ returns-then-is_full c = let a = c.args in
 pub peer_bucket-bucket-requires : goal.peer_bucket-bucket-requires
 peer_bucket-bucket-requires c =
     let a = c.args in
-    let p = found_placed a.o a.table.now a.peer.bytes c.sought-found.result c.sought-found.ensures (sym c.is_unsound.ensures ∙ c.if-is_unsound.false) in
-    p
+    found_placed a.o a.table.now a.peer.bytes c.sought-found.result c.sought-found.ensures (sym c.is_unsound.ensures ∙ c.if-is_unsound.false)
 
-pub promise_both-both-requires : goal.promise_both-both-requires
-promise_both-both-requires c =
-    let a = c.args in
-    let p = found_placed a.o a.table.now a.peer.bytes c.sought-found.result c.sought-found.ensures (sym c.is_unsound.ensures ∙ c.if-is_unsound.false) in
-    record { global_value = placed_global a.o a.table.now a.peer.bytes p; peer_value = c.peer_bucket-bucket.ensures.is_sound }
+pub promise_both-promised-requires-clause-global_sound : goal.promise_both-promised-requires-clause-global_sound
+promise_both-promised-requires-clause-global_sound c = let a = c.args in
+    placed_global a.o a.table.now a.peer.bytes (found_placed a.o a.table.now a.peer.bytes c.sought-found.result c.sought-found.ensures (sym c.is_unsound.ensures ∙ c.if-is_unsound.false))
 
-pub write_row-rows-requires : goal.write_row-rows-requires
-write_row-rows-requires c =
-    let a = c.args in
-    let p = found_placed a.o a.table.now a.peer.bytes c.sought-found.result c.sought-found.ensures (sym c.is_unsound.ensures ∙ c.if-is_unsound.false) in
-    record { placed = p; found_value = sym c.is_full.ensures ∙ c.if-is_full.false }
+pub write_row-rows-requires-clause-placed : goal.write_row-rows-requires-clause-placed
+write_row-rows-requires-clause-placed c = let a = c.args in
+    found_placed a.o a.table.now a.peer.bytes c.sought-found.result c.sought-found.ensures (sym c.is_unsound.ensures ∙ c.if-is_unsound.false)
 
 pub returns : goal.returns
 returns c =
     let a = c.args in
     let p = found_placed a.o a.table.now a.peer.bytes c.sought-found.result c.sought-found.ensures (sym c.is_unsound.ensures ∙ c.if-is_unsound.false) in
-    rw c.with-outbound.ensures
-    (reserve_yes a.o a.table.now a.peer a.bytes a.now_ms c.sought-found.result p (sym c.is_full.ensures ∙ c.if-is_full.false) c.peer_bucket-bucket.result c.peer_bucket-bucket.ensures c.promise_both-both.result c.promise_both-both.ensures _ c.write_row-rows.result c.write_row-rows.ensures)
+    rw c.with.ensures
+    (reserve_yes a.o a.table.now a.peer a.bytes a.now_ms c.sought-found.result p (sym c.is_full.ensures ∙ c.if-is_full.false) c.peer_bucket-bucket.result c.peer_bucket-bucket.ensures c.promise_both-promised.result c.promise_both-promised.ensures _ c.write_row-rows.result c.write_row-rows.ensures)

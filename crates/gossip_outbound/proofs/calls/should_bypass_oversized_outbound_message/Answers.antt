@@ -19,26 +19,20 @@ in_debt-requires c = let a = c.args in
     let p = found_placed a.o a.table.now a.peer.bytes c.sought-found.result c.sought-found.ensures (sym c.is_unsound.ensures ∙ c.if-is_unsound.false) in
     placed_global a.o a.table.now a.peer.bytes p
 
-pub returns-then-in_debt : goal.returns-then-in_debt
-returns-then-in_debt c =
-    let a = c.args in
-    let p = found_placed a.o a.table.now a.peer.bytes c.sought-found.result c.sought-found.ensures (sym c.is_unsound.ensures ∙ c.if-is_unsound.false) in
-    bypass_global_debt a.o a.table.now a.peer a.bytes a.now_ms p.is_sound (sym c.outbound_message_exceeds_single_message_capacity.ensures ∙ not-false c.outbound_message_exceeds_single_message_capacity.result c.if-not-outbound_message_exceeds_single_message_capacity.false-raw) (sym c.in_debt.ensures ∙ c.if-in_debt.true)
-
 pub peer_debt-requires : goal.peer_debt-requires
 peer_debt-requires c =
     let a = c.args in
-    let p = found_placed a.o a.table.now a.peer.bytes c.sought-found.result c.sought-found.ensures (sym c.is_unsound.ensures ∙ c.if-is_unsound.false) in
-    p
+    found_placed a.o a.table.now a.peer.bytes c.sought-found.result c.sought-found.ensures (sym c.is_unsound.ensures ∙ c.if-is_unsound.false)
 
-pub returns-then-peer_debt : goal.returns-then-peer_debt
-returns-then-peer_debt c =
+pub returns-then-not-in_debt : goal.returns-then-not-in_debt
+returns-then-not-in_debt c =
     let a = c.args in
     let p = found_placed a.o a.table.now a.peer.bytes c.sought-found.result c.sought-found.ensures (sym c.is_unsound.ensures ∙ c.if-is_unsound.false) in
-    rw c.if-peer_debt.true at (bypass_peer a.o a.table.now a.peer a.bytes a.now_ms p.is_sound (sym c.outbound_message_exceeds_single_message_capacity.ensures ∙ not-false c.outbound_message_exceeds_single_message_capacity.result c.if-not-outbound_message_exceeds_single_message_capacity.false-raw) (sym c.in_debt.ensures ∙ c.if-in_debt.false) c.peer_debt.result c.peer_debt.ensures)
+    bypass_peer a.o a.table.now a.peer a.bytes a.now_ms p.is_sound (sym c.outbound_message_exceeds_single_message_capacity.ensures ∙ not-false c.outbound_message_exceeds_single_message_capacity.result c.if-not-outbound_message_exceeds_single_message_capacity.false-raw) (sym c.in_debt.ensures ∙ not-true c.in_debt.result c.if-not-in_debt.true-raw) c.peer_debt.result c.peer_debt.ensures
 
-pub returns : goal.returns
-returns c =
+pub returns-else-not-in_debt : goal.returns-else-not-in_debt
+returns-else-not-in_debt c =
     let a = c.args in
     let p = found_placed a.o a.table.now a.peer.bytes c.sought-found.result c.sought-found.ensures (sym c.is_unsound.ensures ∙ c.if-is_unsound.false) in
-    rw c.if-peer_debt.false at (bypass_peer a.o a.table.now a.peer a.bytes a.now_ms p.is_sound (sym c.outbound_message_exceeds_single_message_capacity.ensures ∙ not-false c.outbound_message_exceeds_single_message_capacity.result c.if-not-outbound_message_exceeds_single_message_capacity.false-raw) (sym c.in_debt.ensures ∙ c.if-in_debt.false) c.peer_debt.result c.peer_debt.ensures)
+    rw c.if-not-in_debt.false-raw
+    (bypass_global_debt a.o a.table.now a.peer a.bytes a.now_ms p.is_sound (sym c.outbound_message_exceeds_single_message_capacity.ensures ∙ not-false c.outbound_message_exceeds_single_message_capacity.result c.if-not-outbound_message_exceeds_single_message_capacity.false-raw) (sym c.in_debt.ensures ∙ not-false c.in_debt.result c.if-not-in_debt.false-raw))

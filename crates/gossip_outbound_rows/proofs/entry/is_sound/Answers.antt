@@ -5,10 +5,10 @@ use Rattle.bucket_bytes.specs.ByteBucket.{byte_sound}
 use Rattle.gossip_outbound_rows.specs.Entry.{entry_sound}
 use Rattle.gossip_outbound_rows.proofs.entry.is_sound.Goals as goal
 
-pub returns-then-e-gt1 : goal.returns-then-e-gt1
+pub returns-then-e-le1 : goal.returns-then-e-le1
 unfolding entry_sound
-returns-then-e-gt1 c = rw (lt-leb c.args.e.sign 1 c.if-e-gt1.true)
+returns-then-e-le1 c = rw (le-leb c.args.e.sign 1 c.if-e-le1.true) (c.is_sound.ensures ∙ ap byte_sound c.bucket_of.ensures)
 
-pub returns : goal.returns
+pub returns-else-e-le1 : goal.returns-else-e-le1
 unfolding entry_sound
-returns c = rw (le-leb c.args.e.sign 1 c.if-e-gt1.false) (c.is_sound.ensures ∙ ap byte_sound c.bucket_of.ensures)
+returns-else-e-le1 c = rw (lt-leb c.args.e.sign 1 c.if-e-le1.false)

@@ -8,6 +8,6 @@ use Rattle.gossip_outbound_state.proofs.charge.promise_both.Goals as goal
 pub returns : goal.returns
 unfolding promise_both
 returns c = let a = c.args in
-    let first : c.reserve-first.result ≡ byte_reserve a.global a.bytes a.now_ms = byte_reserve_sound a.global a.bytes a.now_ms c.requires.global_value c.reserve-first.ensures in
-    let second : c.reserve-second.result ≡ byte_reserve a.peer a.bytes a.now_ms = byte_reserve_sound a.peer a.bytes a.now_ms c.requires.peer_value c.reserve-second.ensures in
-    rw (c.longer.ensures, c.wait_of.ensures, c.wait_of-2.ensures, first, second)
+    let first : c.reserve-first.result ≡ byte_reserve a.global a.bytes a.now_ms = byte_reserve_sound a.global a.bytes a.now_ms c.requires.global_sound c.reserve-first.ensures in
+    let second : c.reserve-second.result ≡ byte_reserve a.peer a.bytes a.now_ms = byte_reserve_sound a.peer a.bytes a.now_ms c.requires.peer_sound c.reserve-second.ensures in
+    rw (c.max.ensures, c.unwrap_or.ensures, c.unwrap_or-2.ensures, first, second)

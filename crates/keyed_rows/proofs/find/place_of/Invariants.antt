@@ -6,10 +6,10 @@ use Rattle.table.specs.Memory.{rows}
 use Rattle.table_laws.specs.Raw.{raw_layout}
 use Rattle.keyed_rows.proofs.find.place_of.Given as goal
 
-abbrev pub invariant-loop-i : goal.invariant-loop-i
-invariant-loop-i l =
+abbrev pub invariant-loop-passed : goal.invariant-loop-passed
+invariant-loop-passed l =
     place_from 0 l.key (rows (raw_layout (length l.key) l.width) l.table l.count)
-    ≡ place_from l.i l.key (drop l.i (rows (raw_layout (length l.key) l.width) l.table l.count))
+    ≡ place_from l.passed l.key (drop l.passed (rows (raw_layout (length l.key) l.width) l.table l.count))
 
-abbrev pub decreases-loop-i : goal.decreases-loop-i
-decreases-loop-i l = l.count - l.i
+abbrev pub decreases-loop-passed : goal.decreases-loop-passed
+decreases-loop-passed l = l.count - l.passed

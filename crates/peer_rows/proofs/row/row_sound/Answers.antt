@@ -8,15 +8,17 @@ use Rattle.peer_rows.specs.Rows.{row_from, peer_sound}
 use Rattle.peer_settings.specs.declared.config.PeerMessagePolicyConfig.{PeerMessagePolicyConfig}
 use Rattle.peer_rows.specs.RowsLaws.{messages_place, bytes_place, violations_place, invalid_place, ban_place, sound_places}
 use Rattle.peer_rows.proofs.row.row_sound.Goals as goal
+use Rattle.peer_rows.proofs.row.row_sound.Goals.{then-get_u64-config-via-then-get_u64-config, then-get_u64-config-via-else-get_u64-config+then-get_u64-config-2}
 
-pub returns-then-get_u64-message_burst : goal.returns-then-get_u64-message_burst
-returns-then-get_u64-message_burst c = let a = c.args in
-    sym (sound_places a.config a.table.now a.at ∙ rw (← c.get_u64.ensures, lt-leb _ _ c.if-get_u64-message_burst.true))
-
-pub returns-then-get_u64-burst_bytes : goal.returns-then-get_u64-burst_bytes
-returns-then-get_u64-burst_bytes c = let a = c.args in
-    sym (sound_places a.config a.table.now a.at
-    ∙ rw (← c.get_u64.ensures, le-leb _ _ c.if-get_u64-message_burst.false, ← c.get_u64-2.ensures, lt-leb _ _ c.if-get_u64-burst_bytes.true))
+pub returns-then-get_u64-config : goal.returns-then-get_u64-config
+returns-then-get_u64-config c = let a = c.args in
+    elim c.then-get_u64-config.branch [
+      | then-get_u64-config-via-then-get_u64-config w ↦
+          sym (sound_places a.config a.table.now a.at ∙ rw (← c.get_u64.ensures, lt-leb _ _ w.if-get_u64-config.true))
+      | then-get_u64-config-via-else-get_u64-config+then-get_u64-config-2 w ↦
+          sym (sound_places a.config a.table.now a.at
+          ∙ rw (← c.get_u64.ensures, le-leb _ _ w.if-get_u64-config.false, ← w.get_u64-else-get_u64-config.ensures, lt-leb _ _ w.if-get_u64-config-2.true))
+    ]
 
 -- both levels keep to their bursts: the counts and the ban decide
 counts_decide : (c : PeerMessagePolicyConfig) (s : List ℕ) (at : ℕ) {messages size violations invalid : ℕ}
@@ -32,7 +34,7 @@ counts_decide c s at {messages} {size} a few b small v i =
 pub returns-then-violations-gt4294967295 : goal.returns-then-violations-gt4294967295
 returns-then-violations-gt4294967295 c =
     let a = c.args in
-    let left = counts_decide a.config a.table.now a.at c.get_u64.ensures c.if-get_u64-message_burst.false c.get_u64-2.ensures c.if-get_u64-burst_bytes.false c.get_u64-violations.ensures c.get_u64-invalid.ensures in
+    let left = counts_decide a.config a.table.now a.at c.get_u64.ensures c.if-get_u64-config.false c.get_u64-else-get_u64-config.ensures c.if-get_u64-config-2.false c.get_u64-violations.ensures c.get_u64-invalid.ensures in
     ⊎_elim
     (λ w. sym (left ∙ rw (lt-leb c.get_u64-violations.result 4294967295 w)))
     (λ w. sym (left ∙ rw (le-leb c.get_u64-violations.result 4294967295 w.0, lt-leb c.get_u64-invalid.result 4294967295 w.1)))
@@ -41,7 +43,7 @@ returns-then-violations-gt4294967295 c =
 pub returns : goal.returns
 returns c =
     let a = c.args in
-    let left = counts_decide a.config a.table.now a.at c.get_u64.ensures c.if-get_u64-message_burst.false c.get_u64-2.ensures c.if-get_u64-burst_bytes.false c.get_u64-violations.ensures c.get_u64-invalid.ensures in
+    let left = counts_decide a.config a.table.now a.at c.get_u64.ensures c.if-get_u64-config.false c.get_u64-else-get_u64-config.ensures c.if-get_u64-config-2.false c.get_u64-violations.ensures c.get_u64-invalid.ensures in
     c.ban_sound.ensures
     ∙ sym (left ∙ rw (
       le-leb c.get_u64-violations.result 4294967295 c.if-violations-gt4294967295.false,

@@ -1,16 +1,14 @@
 -- `ChannelUpdateLimiterKey::bytes` meets its contract: three writes over zeros are the key's bytes (`put_three`). Assumes nothing.
-use Rattle.std.proofs.Common.{◌≡◌, length, refl, arith, rules}
+use Rattle.std.proofs.Common.{◌≡◌, ◌∙◌, length, refl, arith, rules, Bool, true, false}
+use Rattle.std.specs.Int.{from_bool}
 use Rattle.pubkey.specs.Order.{side_byte, limiter_key_bytes}
 use Rattle.pubkey.specs.KeyBytesLaws.{put_three}
 use Rattle.pubkey.proofs.ChannelUpdateLimiterKey.bytes.Goals as goal
 
-pub put_slice-requires : goal.put_slice-requires
-put_slice-requires c = let size : length c.args.self.peer.bytes ≡ 33 = search rules in
-    omega arith
-
-pub put_slice-requires-2 : goal.put_slice-requires-2
-put_slice-requires-2 c = let size : length c.args.self.channel_outpoint.bytes ≡ 36 = search rules in
-    omega arith
+-- a side as a number
+side_is : (b : Bool) → from_bool b ≡ side_byte b
+side_is true = refl
+side_is false = refl
 
 pub returns : goal.returns
 unfolding limiter_key_bytes
@@ -18,4 +16,5 @@ returns c =
     let k = c.args.self in
     let first : length k.peer.bytes ≡ 33 = search rules in
     let second : length k.channel_outpoint.bytes ≡ 36 = search rules in
-    rw (c.side_byte.ensures, c.put_slice-2.ensures, c.put_slice.ensures) (put_three _ k.peer.bytes k.channel_outpoint.bytes (side_byte k.is_node1) 33 69 first (omega arith) refl)
+    let side = c.from.ensures ∙ side_is k.is_node1 in
+    rw (side, c.put_slice-2.ensures, c.put_slice.ensures) (put_three _ k.peer.bytes k.channel_outpoint.bytes (side_byte k.is_node1) 33 69 first (omega arith) refl)

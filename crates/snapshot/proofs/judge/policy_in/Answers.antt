@@ -7,12 +7,12 @@ use Rattle.snapshot.specs.JudgeLaws.{read_length}
 use Rattle.snapshot.proofs.judge.policy_in.Goals as goal
 
 pub policy_with-requires : goal.policy_with-requires
-policy_with-requires c = omega (arith, read_length first c.args.snapshot.now c.in-Read.config (sym c.settings_in-settings.ensures ∙ c.in-Read.is) first_fits)
+policy_with-requires c = omega (arith, read_length first c.args.snapshot.now c.in-Some.config (sym c.settings_in.ensures ∙ c.in-Some.is) first_fits)
 
-pub returns-in-OutOfRange : goal.returns-in-OutOfRange
+pub returns-in_default : goal.returns-in_default
 unfolding policy_in
-returns-in-OutOfRange c = sym (ap (config_in first c.args.snapshot.now) (sym c.settings_in-settings.ensures ∙ c.in-OutOfRange.is))
+returns-in_default c = sym (ap (config_in first c.args.snapshot.now) (sym c.settings_in.ensures ∙ c.in_default.is))
 
-pub returns-in-Read : goal.returns-in-Read
+pub returns : goal.returns
 unfolding policy_in
-returns-in-Read c = c.policy_with.ensures ∙ sym (ap (config_in first c.args.snapshot.now) (sym c.settings_in-settings.ensures ∙ c.in-Read.is))
+returns c = c.policy_with.ensures ∙ sym (ap (config_in first c.args.snapshot.now) (sym c.settings_in.ensures ∙ c.in-Some.is))

@@ -9,14 +9,14 @@ pub returns-then-config-gt-MAX_ROWS : goal.returns-then-config-gt-MAX_ROWS
 returns-then-config-gt-MAX_ROWS c = let a = c.args in
     sym (limit_refused first a.snapshot.now a.config (omega arith))
 
-pub returns-in-OutOfRange : goal.returns-in-OutOfRange
-returns-in-OutOfRange c = let a = c.args in
-    sym (load_refused first a.snapshot.now a.config (omega arith) (sym c.read_load-load.ensures ∙ c.in-OutOfRange.is))
+pub returns-in_default : goal.returns-in_default
+returns-in_default c = let a = c.args in
+    sym (load_refused first a.snapshot.now a.config (omega arith) (sym c.read_load.ensures ∙ c.in_default.is))
 
-pub returns-in-Read : goal.returns-in-Read
-returns-in-Read c =
+pub returns : goal.returns
+returns c =
     let a = c.args in
-    let i = c.in-Read.ingress in
+    let i = c.in-Some.ingress in
     c.record_in.ensures
     ∙ ap (λ (n : ℕ). record_in first a.snapshot.now (record { config = a.config; ingress = i; rows = n })) c.rows_in-rows.ensures
-    ∙ sym (load_told first a.snapshot.now a.config (omega arith) i (sym c.read_load-load.ensures ∙ c.in-Read.is))
+    ∙ sym (load_told first a.snapshot.now a.config (omega arith) i (sym c.read_load.ensures ∙ c.in-Some.is))

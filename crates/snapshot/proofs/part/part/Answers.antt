@@ -8,24 +8,24 @@ use Rattle.snapshot.proofs.part.part.Goals as goal
 
 pub slice_bounds-result-count : goal.slice_bounds-result-count
 slice_bounds-result-count c = let a = c.args in
-    let w = part_within first a.snapshot.now a.kind c.in-At.from c.in-At.end (sym c.place_of_kind-place.ensures ∙ c.in-At.is) in
+    let w = part_within first a.snapshot.now a.kind c.in-Ok.from c.in-Ok.end (sym c.place_of_kind.ensures ∙ c.in-Ok.is) in
     omega (arith, w.0, w.1)
 
 pub slice_bounds-result-start : goal.slice_bounds-result-start
 slice_bounds-result-start c = let a = c.args in
-    let w = part_within first a.snapshot.now a.kind c.in-At.from c.in-At.end (sym c.place_of_kind-place.ensures ∙ c.in-At.is) in
+    let w = part_within first a.snapshot.now a.kind c.in-Ok.from c.in-Ok.end (sym c.place_of_kind.ensures ∙ c.in-Ok.is) in
     omega (arith, w.0, w.1)
 
 pub slice_bounds-result-end : goal.slice_bounds-result-end
 slice_bounds-result-end c = let a = c.args in
-    let w = part_within first a.snapshot.now a.kind c.in-At.from c.in-At.end (sym c.place_of_kind-place.ensures ∙ c.in-At.is) in
+    let w = part_within first a.snapshot.now a.kind c.in-Ok.from c.in-Ok.end (sym c.place_of_kind.ensures ∙ c.in-Ok.is) in
     omega (arith, w.0, w.1)
 
-pub returns-in-At : goal.returns-in-At
+pub returns-in-Ok : goal.returns-in-Ok
 unfolding lent.part
-returns-in-At c = let a = c.args in
-    sym (ap (part_of a.snapshot.now) (sym c.place_of_kind-place.ensures ∙ c.in-At.is))
+returns-in-Ok c = let a = c.args in
+    sym (ap (part_of a.snapshot.now) (sym c.place_of_kind.ensures ∙ c.in-Ok.is))
 
-pub returns-in-Refused : goal.returns-in-Refused
-returns-in-Refused c = let a = c.args in
-    sym (ap (part_of a.snapshot.now) (sym c.place_of_kind-place.ensures ∙ c.in-Refused.is))
+pub returns-in-Err : goal.returns-in-Err
+returns-in-Err c = let a = c.args in
+    sym (ap (part_of a.snapshot.now) (sym c.place_of_kind.ensures ∙ c.in-Err.is))

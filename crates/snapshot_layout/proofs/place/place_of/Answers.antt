@@ -1,7 +1,7 @@
 -- `place::place_of` meets its contract.
 use Rattle.std.proofs.Common.{◌≡◌, sym, ap, ◌∙◌, Bool, cond, ℕ, ◌+◌, arith, length, get_or}
+use Rattle.std.specs.Prelude.{Option, Some}
 use borrow.Author.Tests.{eq-eqb, ne_eqb}
-use Rattle.snapshot_layout.specs.declared.place.Place.{Place}
 use Rattle.snapshot_layout.specs.Layout.{slots, contents_size, place_from, place_of}
 use Rattle.snapshot_layout.specs.SlotLaws.{length_slots}
 use Rattle.snapshot_layout.proofs.Walk.{slots_left, none_left, sizes_step, place_step}
@@ -28,10 +28,10 @@ returns-then-kinds-i c =
     let turn = c.loop-i in
     let ks = a.kinds.now in
     let ns = a.lengths.now in
-    let later : Place = place_from a.kind (turn.from + get_or ns turn.i 0) (slots_left ks ns (turn.i + 1)) in
+    let later : (Option (ℕ × ℕ)) = place_from a.kind (turn.from + get_or ns turn.i 0) (slots_left ks ns (turn.i + 1)) in
     sym
     (turn.invariant.1.1 ∙ place_step ks ns turn.i (omega arith) (omega arith) a.kind turn.from
-    ∙ ap (λ (b : Bool). cond b (Place.At turn.from (turn.from + get_or ns turn.i 0)) later) (eq-eqb (get_or ks turn.i 0) a.kind (omega arith)))
+    ∙ ap (λ (b : Bool). cond b (Some (turn.from, (turn.from + get_or ns turn.i 0))) later) (eq-eqb (get_or ks turn.i 0) a.kind (omega arith)))
 
 pub loop-i-preserved : goal.loop-i-preserved
 loop-i-preserved c =
@@ -39,12 +39,12 @@ loop-i-preserved c =
     let turn = c.loop-i in
     let ks = a.kinds.now in
     let ns = a.lengths.now in
-    let later : Place = place_from a.kind (turn.from + get_or ns turn.i 0) (slots_left ks ns (turn.i + 1)) in (
+    let later : (Option (ℕ × ℕ)) = place_from a.kind (turn.from + get_or ns turn.i 0) (slots_left ks ns (turn.i + 1)) in (
       omega arith,
       (
         omega (arith, sizes_step ks ns turn.i (omega arith) (omega arith)),
         turn.invariant.1.1 ∙ place_step ks ns turn.i (omega arith) (omega arith) a.kind turn.from
-            ∙ ap (λ (b : Bool). cond b (Place.At turn.from (turn.from + get_or ns turn.i 0)) later) (ne_eqb (get_or ks turn.i 0) a.kind (λ e. omega arith)),
+            ∙ ap (λ (b : Bool). cond b (Some (turn.from, (turn.from + get_or ns turn.i 0))) later) (ne_eqb (get_or ks turn.i 0) a.kind (λ e. omega arith)),
       ),
     )
 

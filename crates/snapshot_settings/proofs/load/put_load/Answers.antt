@@ -9,4 +9,4 @@ pub returns : goal.returns
 unfolding load_bytes
 returns c =
     let a = c.args in
-    c.put_words.ensures ∙ ap (λ (l : List ℕ). put a.output.now a.at (word_bytes l)) c.words_of-words.ensures
+    c.put_words.ensures ∙ ap (λ (l : List ℕ). put a.output.now a.at (word_bytes l)) c.words_of.ensures

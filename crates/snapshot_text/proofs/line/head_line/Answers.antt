@@ -7,4 +7,4 @@ use Rattle.snapshot_text.proofs.line.head_line.Goals as goal
 
 pub returns : goal.returns
 unfolding head_text flatten
-returns c = line_is c.put_text-end.ensures (omega arith)
+returns c = line_is c.put_text-length.ensures (omega arith)

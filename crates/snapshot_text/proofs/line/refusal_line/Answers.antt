@@ -5,4 +5,4 @@ use Rattle.snapshot_text.specs.LineLaws.{line_is}
 use Rattle.snapshot_text.proofs.line.refusal_line.Goals as goal
 
 pub returns : goal.returns
-returns c = line_is c.put_refusal-end.ensures (omega (arith, refusal_fits c.args.number))
+returns c = rw c.number.ensures at (line_is c.put_refusal-length.ensures (omega (arith, refusal_fits c.number.result)))

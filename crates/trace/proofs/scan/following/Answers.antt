@@ -1,14 +1,19 @@
--- `trace::scan::following` meets its contract. Assumes nothing.
-use Rattle.std.proofs.Common.{arith}
-use borrow.Author.Tests.{eq-eqb, ne_eqb}
+-- `trace::scan::following` meets its contract: the largest number stays. Assumes nothing.
+use Rattle.std.proofs.Common.{◌≡◌, ◌∙◌, ℕ, ◌+◌, ◌≤◌, Bool, true, false, cond, eqb, refl, arith}
+use Rattle.std.specs.Prelude.{min}
+use borrow.Author.Tests.{eqb-true}
+use Rattle.std.proofs.lemmas.Bool.{eqb-false}
 use Rattle.trace_lines.specs.Lines.{largest64}
 use Rattle.trace.specs.Scan.{following}
 use Rattle.trace.proofs.scan.following.Goals as goal
 
-pub returns-then-number-eq18446744073709551615 : goal.returns-then-number-eq18446744073709551615
+saturated : (n : ℕ) → n ≤ largest64 → min (n + 1) largest64 ≡ following n
 unfolding following
-returns-then-number-eq18446744073709551615 c = rw (eq-eqb c.args.number largest64 (omega arith))
+saturated n h = go (eqb n largest64) refl
+  where
+    go : (b : Bool) → eqb n largest64 ≡ b → min (n + 1) largest64 ≡ cond b n (n + 1)
+    go true e = let q : n ≡ largest64 = eqb-true n largest64 e in omega arith
+    go false e = omega (arith, eqb-false n largest64 e)
 
 pub returns : goal.returns
-unfolding following
-returns c = rw (ne_eqb c.args.number largest64 (λ q. omega arith))
+returns c = c.saturating_add.ensures ∙ saturated c.args.number (omega arith)

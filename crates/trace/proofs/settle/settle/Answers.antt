@@ -4,16 +4,16 @@ use Rattle.trace.proofs.Answers.{settled_bad, settled_good}
 use Rattle.trace.specs.Scan.{made_settled}
 use Rattle.trace.proofs.settle.settle.Goals as goal
 
-pub returns-in-Bad : goal.returns-in-Bad
-returns-in-Bad c = let a = c.args in
-    settled_bad a.line.now a.table.now (sym c.parse_settings-settings.ensures ∙ c.in-Bad.is)
+pub returns-in_default : goal.returns-in_default
+returns-in_default c = let a = c.args in
+    settled_bad a.line.now a.number a.table.now (sym c.parse_settings.ensures ∙ c.in_default.is)
 
-pub returns-in-Policy : goal.returns-in-Policy
-returns-in-Policy c =
+pub returns-in-Ok : goal.returns-in-Ok
+returns-in-Ok c =
     let a = c.args in
-    settled_good a.line.now a.table.now _ c.in-Good.config (sym c.parse_settings-settings.ensures ∙ c.in-Good.is) c.new-made.result c.new-made.ensures (ap made_settled (sym c.in-Policy.is))
+    settled_good a.line.now a.number a.table.now _ c.in-Some.config (sym c.parse_settings.ensures ∙ c.in-Some.is) c.new.result c.new.ensures (ap made_settled (sym c.in-Ok.is))
 
-pub returns-in-Refused : goal.returns-in-Refused
-returns-in-Refused c =
+pub returns-in-Err : goal.returns-in-Err
+returns-in-Err c =
     let a = c.args in
-    settled_good a.line.now a.table.now _ c.in-Good.config (sym c.parse_settings-settings.ensures ∙ c.in-Good.is) c.new-made.result c.new-made.ensures (ap made_settled (sym c.in-Refused.is))
+    settled_good a.line.now a.number a.table.now _ c.in-Some.config (sym c.parse_settings.ensures ∙ c.in-Some.is) c.new.result c.new.ensures (ap made_settled (sym c.in-Err.is))

@@ -1,11 +1,8 @@
--- `trace::step::spoken_line` meets its contract. Assumes nothing.
+-- `trace::step::spoken_line` meets its contract: a word, or why nothing more is read. Assumes nothing.
 use Rattle.trace.proofs.step.spoken_line.Goals as goal
 
-pub returns-in-Word : goal.returns-in-Word
-returns-in-Word c = rw c.in-Word.is c.answer_line.ensures
+pub returns-in-Ok : goal.returns-in-Ok
+returns-in-Ok c = rw c.in-Ok.is c.answer_line.ensures
 
-pub returns-in-Refusal : goal.returns-in-Refusal
-returns-in-Refusal c = rw c.in-Refusal.is c.refusal_line.ensures
-
-pub returns-in-BadLine : goal.returns-in-BadLine
-returns-in-BadLine c = rw c.in-BadLine.is c.bad_line.ensures
+pub returns-in-Err : goal.returns-in-Err
+returns-in-Err c = rw c.in-Err.is c.line.ensures

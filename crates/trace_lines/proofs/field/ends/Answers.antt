@@ -1,5 +1,5 @@
 -- `trace_lines::field::ends` meets its contract: by the field's kind. Assumes nothing.
 use Rattle.trace_lines.proofs.field.ends.Goals as goal
 
-pub returns-in-Number : goal.returns-in-Number
-returns-in-Number c = rw c.in-Number.is
+pub returns-in-Some : goal.returns-in-Some
+returns-in-Some c = rw c.in-Some.is

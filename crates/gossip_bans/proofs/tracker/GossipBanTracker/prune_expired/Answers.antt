@@ -17,4 +17,4 @@ prune_expired-left-requires c = let a = c.args in
 pub returns : goal.returns
 returns c =
     let a = c.args in
-    rw c.with_rows-tracker.ensures (pruned_done_lem a.self a.table.now a.now_ms (sym c.is_sound_in.ensures ∙ not-false c.is_sound_in.result c.if-not-is_sound_in.false-raw) _ _ (left_counted a.self a.table.now _ c.prune_expired-left.result _ c.prune_expired-left.ensures))
+    rw c.with_rows.ensures (pruned_done_lem a.self a.table.now a.now_ms (sym c.is_sound_in.ensures ∙ not-false c.is_sound_in.result c.if-not-is_sound_in.false-raw) _ _ (left_counted a.self a.table.now _ c.prune_expired-left.result _ c.prune_expired-left.ensures))

@@ -9,12 +9,12 @@ use Rattle.gossip_limiter.proofs.limiter.ChannelUpdateLimiter.try_acquire.Goals 
 
 pub acquire_known-requires : goal.acquire_known-requires
 acquire_known-requires c = let a = c.args in
-    sought_known limiter_layout (limiter_sound a.self.config) (limiter_record_sound a.self) (limit_of a.self.max_entries) a.table.now a.self.rows (limiter_key_bytes a.key) (sym c.sought-found.ensures ∙ c.in-At.is)
+    sought_known limiter_layout (limiter_sound a.self.config) (limiter_record_sound a.self) (limit_of a.self.max_entries) a.table.now a.self.rows (limiter_key_bytes a.key) (sym c.sought.ensures ∙ c.in-At.is)
 
 pub acquire_new-requires : goal.acquire_new-requires
 acquire_new-requires c = let a = c.args in
-    sought_unknown limiter_layout (limiter_sound a.self.config) (limiter_record_sound a.self) (limit_of a.self.max_entries) a.table.now a.self.rows (limiter_key_bytes a.key) (sym c.sought-found.ensures ∙ c.in-Gap.is)
+    sought_unknown limiter_layout (limiter_sound a.self.config) (limiter_record_sound a.self) (limit_of a.self.max_entries) a.table.now a.self.rows (limiter_key_bytes a.key) (sym c.sought.ensures ∙ c.in-Gap.is)
 
 pub returns-in-Unsound : goal.returns-in-Unsound
 returns-in-Unsound c = let a = c.args in
-    told_unsound a.self a.table.now a.key a.now_ms (sought_unsound limiter_layout (limiter_sound a.self.config) (limiter_record_sound a.self) (limit_of a.self.max_entries) a.table.now a.self.rows (limiter_key_bytes a.key) (sym c.sought-found.ensures ∙ c.in-Unsound.is))
+    told_unsound a.self a.table.now a.key a.now_ms (sought_unsound limiter_layout (limiter_sound a.self.config) (limiter_record_sound a.self) (limit_of a.self.max_entries) a.table.now a.self.rows (limiter_key_bytes a.key) (sym c.sought.ensures ∙ c.in-Unsound.is))

@@ -10,9 +10,9 @@ returns-then-max_entries-gt-MAX_TRACKED_KEYS c = let a = c.args in
 
 pub returns-then-table-limit : goal.returns-then-table-limit
 returns-then-table-limit c = let a = c.args in
-    made_short a.config a.max_entries a.table.now c.if-max_entries-gt-MAX_TRACKED_KEYS.false (omega (arith, c.if-table-limit.true, c.limit_of-limit.ensures))
+    made_short a.config a.max_entries a.table.now c.if-max_entries-gt-MAX_TRACKED_KEYS.false (omega (arith, c.if-table-limit.true, c.max-limit.ensures))
 
 pub returns : goal.returns
 returns c =
     let a = c.args in
-    made_fresh a.config a.max_entries a.table.now c.if-max_entries-gt-MAX_TRACKED_KEYS.false (omega (arith, c.if-table-limit.false, c.limit_of-limit.ensures)) _ (c.zero_rows.ensures ∙ ap (λ (n : ℕ). put a.table.now 0 (zeros (94 * n))) c.limit_of-limit.ensures)
+    made_fresh a.config a.max_entries a.table.now c.if-max_entries-gt-MAX_TRACKED_KEYS.false (omega (arith, c.if-table-limit.false, c.max-limit.ensures)) _ (c.zero_rows.ensures ∙ ap (λ (n : ℕ). put a.table.now 0 (zeros (94 * n))) c.max-limit.ensures)

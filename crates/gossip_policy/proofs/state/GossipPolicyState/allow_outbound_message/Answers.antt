@@ -1,9 +1,11 @@
--- `gossip_policy::state::GossipPolicyState::allow_outbound_message` meets its contract. Assumes nothing.
-use Rattle.gossip_policy.proofs.Whole.{allowed}
+-- `gossip_policy::state::GossipPolicyState::allow_outbound_message` meets its contract: that of the half, told of the whole. Assumes nothing.
+use Rattle.std.proofs.Common.{◌≡◌, rules}
+use Rattle.gossip_policy.specs.State.{with_outbound}
+use Rattle.gossip_policy.proofs.Whole.{handed, allowed}
 use Rattle.gossip_policy.proofs.state.GossipPolicyState.allow_outbound_message.Goals as goal
 
 pub returns : goal.returns
 returns c =
     let a = c.args in
-    rw c.with_outbound.ensures
-    (allowed a.self a.outbound_table.now _ a.peer a.bytes a.now_ms c.allow_outbound_message-r.result (rw c.outbound_of-outbound.ensures at c.allow_outbound_message-r.ensures))
+    let after : c.map_state.result.state ≡ with_outbound a.self c.allow_outbound_message-r.result.state = search rules in
+    rw (handed after c.map_state.ensures.answer) (allowed a.self a.outbound_table.now _ a.peer a.bytes a.now_ms c.allow_outbound_message-r.result (rw c.outbound-outbound.ensures at c.allow_outbound_message-r.ensures))

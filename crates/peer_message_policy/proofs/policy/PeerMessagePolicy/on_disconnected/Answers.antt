@@ -6,13 +6,13 @@ use Rattle.peer_message_policy.proofs.policy.PeerMessagePolicy.on_disconnected.G
 
 pub disconnected_known-requires : goal.disconnected_known-requires
 disconnected_known-requires c = let a = c.args in
-    sought_known a.self a.table.now a.peer.bytes (sym c.sought-found.ensures ∙ c.in-At.is)
+    sought_known a.self a.table.now a.peer.bytes (sym c.sought.ensures ∙ c.in-At.is)
 
 pub returns-in-Unsound : goal.returns-in-Unsound
 returns-in-Unsound c = let a = c.args in
-    disconnected_unsound a.self a.table.now a.peer a.now_ms (sought_unsound a.self a.table.now a.peer.bytes (sym c.sought-found.ensures ∙ c.in-Unsound.is))
+    disconnected_unsound a.self a.table.now a.peer a.now_ms (sought_unsound a.self a.table.now a.peer.bytes (sym c.sought.ensures ∙ c.in-Unsound.is))
 
 pub returns-in-Gap : goal.returns-in-Gap
 returns-in-Gap c = let a = c.args in
-    let u = sought_unknown a.self a.table.now a.peer.bytes (sym c.sought-found.ensures ∙ c.in-Gap.is) in
+    let u = sought_unknown a.self a.table.now a.peer.bytes (sym c.sought.ensures ∙ c.in-Gap.is) in
     disconnected_nobody a.self a.table.now a.peer a.now_ms u.is_sound (unknown_look a.self a.table.now a.peer.bytes _ u)

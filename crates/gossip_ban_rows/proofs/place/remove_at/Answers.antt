@@ -1,9 +1,0 @@
--- `gossip_ban_rows::place::remove_at` meets its contract: the write leaves memory without the row (`removed`). Assumes nothing.
-use Rattle.std.proofs.Common.{arith}
-use Rattle.table_laws.specs.ChangeLaws.{removed}
-use Rattle.gossip_ban_rows.specs.RowsLaws.{ban_faithful}
-use Rattle.gossip_ban_rows.proofs.place.remove_at.Goals as goal
-
-pub returns : goal.returns
-returns c = let a = c.args in
-    removed ban_faithful a.table.now _ a.count (λ i. (c.slice_known-1.given i).fits) (omega arith) a.index (omega arith) c.remove_row.ensures

@@ -1,5 +1,0 @@
--- `trace::scan::last` meets its contract. Assumes nothing.
-use Rattle.trace.proofs.scan.last.Goals as goal
-
-pub returns : goal.returns
-returns c = rw (c.bad_event.ensures, c.spoken_line.ensures, c.speak.ensures)
