@@ -251,15 +251,26 @@ fn operations_have_the_sources_numbers() {
     assert_eq!(operations(&sources("c_")), ours);
 }
 
+/// The arms `Refusal::Name => number,` of the sources.
+fn refusals(text: &str) -> Numbers {
+    let arm = |line: &str| {
+        let (name, value) = line.trim().strip_prefix("Refusal::")?.split_once(" => ")?;
+        Some((upper_snake(name), value.trim_end_matches(',').parse().ok()?))
+    };
+    text.lines().filter_map(arm).collect()
+}
+
 #[test]
 fn answers_causes_refusals_and_violations_have_the_sources_numbers() {
     let ours = numbers();
-    for (text, prefix) in [
-        (read("crates/c_words/src/answers.rt"), ""),
-        (read("crates/c_words/src/cause.rt"), "CAUSE_"),
-        (sources("refusal"), "REFUSAL_"),
+    let answers = constants(&(read("crates/c_words/src/answers.rt") + &read("crates/c_terms/src/reply.rt")));
+    let is_answer = |name: &str| !["ANSWERS", "UNKNOWN"].contains(&name);
+    for (named, prefix) in [
+        (answers.into_iter().filter(|(name, _)| is_answer(name)).collect(), ""),
+        (constants(&read("crates/c_words/src/cause.rt")), "CAUSE_"),
+        (refusals(&sources("refusal")), "REFUSAL_"),
     ] {
-        let named = constants(&text);
+        let named: Numbers = named;
         assert!(named.len() >= 6, "{named:?}");
         for (name, number) in named {
             assert_eq!(ours.get(&format!("{prefix}{name}")), Some(&number), "{name}");
@@ -267,7 +278,7 @@ fn answers_causes_refusals_and_violations_have_the_sources_numbers() {
     }
     let mut seen = BTreeSet::new();
     for line in sources("c_bans").lines() {
-        let Some((number, rest)) = line.trim().split_once(" => Blame::Violation(GossipViolation::") else {
+        let Some((number, rest)) = line.trim().split_once(" => Some(GossipViolation::") else {
             continue;
         };
         let name = format!("VIOLATION_{}", upper_snake(rest.trim_end_matches("),")));
