@@ -18,9 +18,14 @@ def sources():
                     yield crate, path, open(path).read()
 
 
+def uncommented(text):
+    """The text without comments, its lines in their places."""
+    return re.sub(r"//[^\n]*", "", text)
+
+
 def bare(text):
     """The text without comments and strings, its lines in their places."""
-    return re.sub(r'b?"(?:[^"\\]|\\.)*"', '""', re.sub(r"//[^\n]*", "", text))
+    return re.sub(r'b?"(?:[^"\\]|\\.)*"', '""', uncommented(text))
 
 
 def closing(text, at):
@@ -87,7 +92,7 @@ def point_1(crate, path, text):
 
 def shape(body):
     tokens = re.findall(r"[A-Za-z_]\w*|\d[\w]*|[^\s\w]", body)
-    seen, out = {}, []
+    out = []
     for t in tokens:
         if re.match(r"[A-Za-z_]", t) and t not in KEYWORDS:
             out.append("x")
@@ -235,4 +240,5 @@ def main():
             print(f"point 8: {files} files of answers and invariants, {answers} answers in {lines} lines; {lemmas} lemmas")
 
 
-main()
+if __name__ == "__main__":
+    main()

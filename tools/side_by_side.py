@@ -2,27 +2,17 @@
 """Lays what the crates say beside what they said at a commit: side_by_side.py OLD [OLD..], at the top of a checkout.
 
 Of each crate: its public functions (signature and clauses), its public types, its definitions (whole) and its theorems (statements),
-those of specs/ and those of proofs/ but for answers and invariants. What reads the same is left out; spaces and line ends don't count."""
+those of specs/ and those of proofs/ but for answers and invariants. What reads the same is left out, and so are theorems that are not
+public or that are new; spaces and line ends don't count."""
 import os
 import re
 import subprocess
 import sys
 
+from design_places import closing, uncommented
+
 ITEM = re.compile(r"^(\s*)((?:(?:abbrev|unfoldable|pub|private|opaque)\s+)*)(data |record )?([^\s:(){}=.]+)(?: \{ℓ\})?\s+(?::|\(|\{|where)")
 CLAUSE = re.compile(r"^\s*(unfolding|using|with)\b")
-
-
-def bare(text):
-    return re.sub(r"//[^\n]*", "", text)
-
-
-def closing(text, at):
-    depth = 0
-    for i in range(at, len(text)):
-        depth += (text[i] == "{") - (text[i] == "}")
-        if depth == 0:
-            return i
-    return len(text)
 
 
 def squeezed(text):
@@ -31,7 +21,7 @@ def squeezed(text):
 
 def rust_items(text):
     """Public functions without their bodies, under their impl; public types whole; constants."""
-    text = bare(text)
+    text = uncommented(text)
     found = []
     impls = [(m.start(), closing(text, m.end() - 1), squeezed(m.group(0)[:-1])) for m in re.finditer(r"^impl\b[^{]*(?:\{[^}]*\}[^{]*)??\{", text, re.M)]
     for m in re.finditer(r"\b(pub (?:const )?fn|fn) (\w+)", text):
@@ -136,6 +126,8 @@ def main():
                     if text in b:
                         a.remove(text)
                         b.remove(text)
+                if kind == "theorem" and not (a and any(t.startswith("pub ") for t in a + b)):
+                    continue
                 if a or b:
                     lines.append(f"- {kind} `{key[2]}`")
                     lines += [f"  - was: `{t}`" for t in a] + ["  - was: nothing"] * (not a)
