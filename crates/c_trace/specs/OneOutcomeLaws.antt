@@ -1,6 +1,6 @@
 -- At most one outcome satisfies the contract of each exported call of a scan: the same number, words and line, and the same memory.
 -- Assumes nothing.
-use Rattle.std.specs.Prelude.{◌≡◌, List, ℕ, Option}
+use Rattle.std.specs.Prelude.{◌≡◌, List, ℕ, Result}
 use Rattle.refusal.specs.OneOutcomeLaws.{one_outcome}
 use Rattle.c_terms.specs.SomeLaws.{some_one}
 use Rattle.trace.specs.declared.scan.Scan.{Scan}
@@ -28,13 +28,13 @@ module _ {place' place'' longs' longs'' shorts' shorts'' : List ℕ} where
   open_one input = scan_left (open_of input)
 
   module _ {r q : ℕ} {line line' : List ℕ} where
-    handed_left : (scan : Scan) (h : Option Handed) → HandedLeft scan h r place' longs' shorts' line → HandedLeft scan h q place'' longs'' shorts'' line'
+    handed_left : (h : Result Handed Scan) → HandedLeft h r place' longs' shorts' line → HandedLeft h q place'' longs'' shorts'' line'
         → Alike place' place'' longs' longs'' shorts' shorts'' × (r ≡ q) × (line ≡ line')
-    handed_left scan h m n = (scan_left (scan_behind scan h) m.0 n.0, one_outcome m.1.0 n.1.0, one_outcome m.1.1 n.1.1)
+    handed_left h m n = (scan_left (scan_behind h) m.0 n.0, one_outcome m.1.0 n.1.0, one_outcome m.1.1 n.1.1)
 
     pub next_one : (place longs shorts input before : List ℕ) {first second : List ℕ}
         → NextExported place longs shorts input before r place' longs' shorts' first line
         → NextExported place longs shorts input before q place'' longs'' shorts'' second line'
         → (Alike place' place'' longs' longs'' shorts' shorts'' × (r ≡ q) × (line ≡ line')) × (first ≡ second)
     next_one place longs shorts input before {first} {second} =
-        some_one (λ a b. Trace.next_one (scan_of place longs shorts) input before a b first second) (handed_left (scan_of place longs shorts))
+        some_one (λ a b. Trace.next_one (scan_of place longs shorts) input before a b first second) handed_left

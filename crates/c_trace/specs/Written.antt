@@ -1,5 +1,5 @@
 -- A line that a scan hands out. Definitions only.
-use Rattle.std.specs.Prelude.{◌≡◌, List, [], ℕ, Option, Some, None}
+use Rattle.std.specs.Prelude.{◌≡◌, List, [], ℕ, Result, Ok, Err}
 use Rattle.trace_lines.specs.declared.line.TraceLine.{TraceLine}
 use Rattle.trace_lines.specs.Lines.{line_of}
 use Rattle.trace.specs.declared.scan.Scan.{Scan}
@@ -10,11 +10,11 @@ abbrev pub LineLeft : TraceLine → ℕ → List ℕ → Type 0
 LineLeft line r line' = (r ≡ line.length) × (line' ≡ line.bytes)
 
 -- the line that a call of `next` hands out: where the scan is done, an empty one
-abbrev pub line_handed : Option Handed → TraceLine
-line_handed (Some h) = h.line
-line_handed None = line_of []
+abbrev pub line_handed : Result Handed Scan → TraceLine
+line_handed (Ok h) = h.line
+line_handed (Err behind) = line_of []
 
--- the scan behind it: where the scan is done, as it was
-abbrev pub scan_behind : Scan → Option Handed → Scan
-scan_behind scan (Some h) = h.scan
-scan_behind scan None = scan
+-- the scan behind it, also where the scan is done
+abbrev pub scan_behind : Result Handed Scan → Scan
+scan_behind (Ok h) = h.scan
+scan_behind (Err behind) = behind

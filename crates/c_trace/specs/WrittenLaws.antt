@@ -4,7 +4,7 @@ use Rattle.std.specs.Prelude.{◌≡◌, Bool, cond, List, [], ◌∷◌, ◌++�
 use Rattle.std.proofs.Common.{sym, ◌∙◌, arith, ne_eqb, length-append}
 use Rattle.std.proofs.Math.Path.{refl, ap, subst}
 use Rattle.std.proofs.Math.Bool.{true, false}
-use Rattle.std.specs.Prelude.{Option, Some, None, is_none, Result, Ok, Err}
+use Rattle.std.specs.Prelude.{Option, Some, None, Result, Ok, Err, is_err}
 use Prim.{Unit, tt}
 use Rattle.std.proofs.Math.Dec.{eqb}
 use Rattle.decimal.specs.Ascii.{newline}
@@ -56,21 +56,21 @@ record Hands (h : Handed) : Type 0 where
   pub some : is_empty text ≡ false
 
 -- so where a line is handed out
-abbrev HandsIn : Option Handed → Type 0
-HandsIn (Some h) = Hands h
-HandsIn None = Unit {0}
+abbrev HandsIn : Result Handed Scan → Type 0
+HandsIn (Ok h) = Hands h
+HandsIn (Err behind) = Unit {0}
 
-module _ (input : List ℕ) (handed : Option Handed) (after : List ℕ) where
+module _ (input : List ℕ) (handed : Result Handed Scan) (after : List ℕ) where
   -- a line that spells an answer
-  by_spoken : (h : Handed) (q : PeerMessagePolicy) (a : Answer) → h.line ≡ line_of (spoken_text q (spoken a)) → handed ≡ Some h → HandsIn handed
+  by_spoken : (h : Handed) (q : PeerMessagePolicy) (a : Answer) → h.line ≡ line_of (spoken_text q (spoken a)) → handed ≡ Ok h → HandsIn handed
   by_spoken h q a is e =
       subst HandsIn (sym e) (record { text = spoken_text q (spoken a); is = is; some = some_word q (spoken a) })
 
-  by_last : (scan : Scan) (a : Answer) → handed ≡ Some (last scan a) → HandsIn handed
+  by_last : (scan : Scan) (a : Answer) → handed ≡ Ok (last scan a) → HandsIn handed
   by_last scan a e = by_spoken (last scan a) scan.policy a refl e
 
-  by_ended : handed ≡ None → HandsIn handed
-  by_ended e = subst HandsIn (sym e) tt
+  by_ended : (scan : Scan) → handed ≡ Err scan → HandsIn handed
+  by_ended scan e = subst HandsIn (sym e) tt
 
   by_line : (scan : Scan) (line : Option (List ℕ)) (before : List ℕ) → handed ≡ (line_outcome scan line before).answer → HandsIn handed
   unfolding step_outcome
@@ -83,8 +83,8 @@ module _ (input : List ℕ) (handed : Option Handed) (after : List ℕ) where
   unfolding EventsMeets events_outcome
   by_event scan before m = go (leb (length input) scan.at) m.answers
     where
-      go : (b : Bool) → handed ≡ (cond b (refuse None) (line_outcome scan (first_line (drop scan.at input)) before)).answer → HandsIn handed
-      go true e = by_ended e
+      go : (b : Bool) → handed ≡ (cond b (refuse (Err scan)) (line_outcome scan (first_line (drop scan.at input)) before)).answer → HandsIn handed
+      go true e = by_ended scan e
       go false e = by_line scan (first_line (drop scan.at input)) before e
 
   by_settled : (scan : Scan) (line : List ℕ) (a : Result PeerMessagePolicy Stop) (before : List ℕ) → SettledMeets scan line a input before handed after
@@ -101,24 +101,24 @@ module _ (input : List ℕ) (handed : Option Handed) (after : List ℕ) where
   by_phase Phase.TooLong scan before m = by_last scan (Answer.BadLine 1) m.0
   by_phase Phase.Settings scan before m = by_settings scan (first_line (drop scan.at input)) before m
   by_phase Phase.Events scan before m = by_event scan before m
-  by_phase Phase.Done scan before m = by_ended m.0
+  by_phase Phase.Done scan before m = by_ended scan m.0
 
 -- a line that is handed out is that of a text
-text_handed : (handed : Option Handed) → HandsIn handed → Written (line_handed handed)
-text_handed (Some h) w = record { text = w.text; is = w.is }
-text_handed None w = record { text = []; is = refl }
+text_handed : (handed : Result Handed Scan) → HandsIn handed → Written (line_handed handed)
+text_handed (Ok h) w = record { text = w.text; is = w.is }
+text_handed (Err behind) w = record { text = []; is = refl }
 
-length_handed : (handed : Option Handed) → HandsIn handed → eqb (line_handed handed).length 0 ≡ is_none handed
-length_handed (Some h) w = ap (λ (l : TraceLine). eqb l.length 0) w.is ∙ w.some
-length_handed None w = refl
+length_handed : (handed : Result Handed Scan) → HandsIn handed → eqb (line_handed handed).length 0 ≡ is_err handed
+length_handed (Ok h) w = ap (λ (l : TraceLine). eqb l.length 0) w.is ∙ w.some
+length_handed (Err behind) w = refl
 
-module _ (input : List ℕ) (handed : Option Handed) (after : List ℕ) (scan : Scan) (before : List ℕ) (m : NextMeets scan input before handed after) where
+module _ (input : List ℕ) (handed : Result Handed Scan) (after : List ℕ) (scan : Scan) (before : List ℕ) (m : NextMeets scan input before handed after) where
   pub handed_written : Written (line_handed handed)
   unfolding NextMeets
   handed_written = text_handed handed (by_phase input handed after scan.phase scan before m)
 
   -- a length of 0 says that the scan is done, and nothing else does
-  pub zero_is_done : eqb (line_handed handed).length 0 ≡ is_none handed
+  pub zero_is_done : eqb (line_handed handed).length 0 ≡ is_err handed
   unfolding NextMeets
   zero_is_done = length_handed handed (by_phase input handed after scan.phase scan before m)
 

@@ -42,12 +42,12 @@ pub extern "C" fn uglezmir_trace_next(
 {
     let before = words::scan_of(place, longs, shorts);
     match before.next(input, table) {
-        Some(handed) => {
+        Ok(handed) => {
             words::leave(place, longs, shorts, handed.scan);
             write(line, handed.line)
         }
-        None => {
-            words::leave(place, longs, shorts, before);
+        Err(behind) => {
+            words::leave(place, longs, shorts, behind);
             *line = [0; LINE_SIZE];
             0
         }

@@ -63,17 +63,17 @@ moved scan at event step =
 
 -- ════ The event's line ════
 
-abbrev pub line_outcome : Scan → Option (List ℕ) → List ℕ → Outcome (Option Handed)
-line_outcome scan None s = refuse (Some (last scan (Answer.BadLine scan.number)))
+abbrev pub line_outcome : Scan → Option (List ℕ) → List ℕ → Outcome (Result Handed Scan)
+line_outcome scan None s = refuse (Ok (last scan (Answer.BadLine scan.number)))
 line_outcome scan (Some line) s =
-    mapped (λ step. Some (moved scan (scan.at + length line + 1) (event_of line) step)) (step_outcome scan.policy s (event_of line) scan.number)
+    mapped (λ step. Ok (moved scan (scan.at + length line + 1) (event_of line) step)) (step_outcome scan.policy s (event_of line) scan.number)
 
--- at the end of the input it is done
-unfoldable pub events_outcome : Scan → List ℕ → List ℕ → Outcome (Option Handed)
+-- at the end of the input it is done, with the scan as it was
+unfoldable pub events_outcome : Scan → List ℕ → List ℕ → Outcome (Result Handed Scan)
 events_outcome scan input s =
-    cond (leb (length input) scan.at) (refuse None) (line_outcome scan (first_line (drop scan.at input)) s)
+    cond (leb (length input) scan.at) (refuse (Err scan)) (line_outcome scan (first_line (drop scan.at input)) s)
 
-unfoldable pub EventsMeets : Scan → List ℕ → List ℕ → Option Handed → List ℕ → Type 0
+unfoldable pub EventsMeets : Scan → List ℕ → List ℕ → Result Handed Scan → List ℕ → Type 0
 EventsMeets scan input before r after = Meets r before after scan.policy.rows (events_outcome scan input before)
 
 -- ════ The settings line ════
@@ -101,16 +101,16 @@ settled_scan scan line p =
     record { at = scan.at + length line + 1; number = following scan.number; policy = p; phase = Phase.Events }
 
 -- behind good settings the first event's line; the memory that the settings left is what it finds
-abbrev pub SettledMeets : Scan → List ℕ → Result PeerMessagePolicy Stop → List ℕ → List ℕ → Option Handed → List ℕ → Type 0
+abbrev pub SettledMeets : Scan → List ℕ → Result PeerMessagePolicy Stop → List ℕ → List ℕ → Result Handed Scan → List ℕ → Type 0
 SettledMeets scan line (Ok p) input before r after = EventsMeets (settled_scan scan line p) input before r after
-SettledMeets scan line (Err stop) input before r after = (r ≡ Some (last scan (stopped stop))) × (after ≡ before)
+SettledMeets scan line (Err stop) input before r after = (r ≡ Ok (last scan (stopped stop))) × (after ≡ before)
 
-abbrev pub SettingsBy : Scan → Option (List ℕ) → List ℕ → List ℕ → Option Handed → List ℕ → Type 0
-SettingsBy scan None input before r after = (r ≡ Some (last scan (Answer.BadLine scan.number))) × (after ≡ before)
+abbrev pub SettingsBy : Scan → Option (List ℕ) → List ℕ → List ℕ → Result Handed Scan → List ℕ → Type 0
+SettingsBy scan None input before r after = (r ≡ Ok (last scan (Answer.BadLine scan.number))) × (after ≡ before)
 SettingsBy scan (Some line) input before r after =
     (a : Result PeerMessagePolicy Stop) × (middle : List ℕ) × SettleMeets line scan.number before a middle × SettledMeets scan line a input middle r after
 
-unfoldable pub SettingsMeets : Scan → List ℕ → List ℕ → Option Handed → List ℕ → Type 0
+unfoldable pub SettingsMeets : Scan → List ℕ → List ℕ → Result Handed Scan → List ℕ → Type 0
 SettingsMeets scan input before r after = SettingsBy scan (first_line (drop scan.at input)) input before r after
 
 -- ════ Open and next ════
@@ -127,13 +127,13 @@ unfoldable pub open_of : List ℕ → Scan
 open_of input =
     record { at = 0; number = 1; policy = no_policy; phase = cond (ltb longest_input (length input)) Phase.TooLong Phase.Settings }
 
-abbrev pub NextIn : Phase → Scan → List ℕ → List ℕ → Option Handed → List ℕ → Type 0
-NextIn Phase.TooLong scan input before r after = (r ≡ Some (last scan (Answer.BadLine 1))) × (after ≡ before)
+abbrev pub NextIn : Phase → Scan → List ℕ → List ℕ → Result Handed Scan → List ℕ → Type 0
+NextIn Phase.TooLong scan input before r after = (r ≡ Ok (last scan (Answer.BadLine 1))) × (after ≡ before)
 NextIn Phase.Settings scan input before r after = SettingsMeets scan input before r after
 NextIn Phase.Events scan input before r after = EventsMeets scan input before r after
-NextIn Phase.Done scan input before r after = (r ≡ None) × (after ≡ before)
+NextIn Phase.Done scan input before r after = (r ≡ Err scan) × (after ≡ before)
 
-unfoldable pub NextMeets : Scan → List ℕ → List ℕ → Option Handed → List ℕ → Type 0
+unfoldable pub NextMeets : Scan → List ℕ → List ℕ → Result Handed Scan → List ℕ → Type 0
 NextMeets scan input before r after = NextIn scan.phase scan input before r after
 
 -- ════ What the answers say ════
@@ -152,6 +152,6 @@ abbrev pub text_of : TraceLine → List ℕ
 text_of line = take line.length line.bytes
 
 -- the line's text; where it is done, that is empty
-abbrev pub handed_says : Option Handed → Said
-handed_says (Some h) = gives (text_of h.line)
-handed_says None = gives []
+abbrev pub handed_says : Result Handed Scan → Said
+handed_says (Ok h) = gives (text_of h.line)
+handed_says (Err scan) = gives []

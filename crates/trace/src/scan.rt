@@ -77,16 +77,16 @@ impl Scan {
 
     // Kept: no Iterator, since each call is lent the table anew, which `Iterator::next` has no argument for.
     //
-    // The next line to write, its event, and the scan behind it; `None` where the scan is done. The scan, the input and the table are those
-    // that the call before left.
-    pub fn next(self, input: &[u8], table: &mut [u8]) -> Option<Handed>
+    // The next line to write, its event, and the scan behind it; where the scan is done, `Err` with the scan behind, which has the policy of
+    // good settings that nothing follows. The scan, the input and the table are those that the call before left.
+    pub fn next(self, input: &[u8], table: &mut [u8]) -> Result<Handed, Scan>
         ensures { NextMeets self input.now table.old result table.new }
     {
         match self.phase {
-            Phase::TooLong => Some(self.last(Answer::BadLine(FIRST_LINE))),
+            Phase::TooLong => Ok(self.last(Answer::BadLine(FIRST_LINE))),
             Phase::Settings => self.next_settings(input, table),
             Phase::Events => self.next_event(input, table),
-            Phase::Done => None,
+            Phase::Done => Err(self),
         }
     }
 
@@ -122,30 +122,30 @@ impl Scan {
         }
     }
 
-    // The event's line at the scan's place.
-    fn next_event(self, input: &[u8], table: &mut [u8]) -> Option<Handed>
+    // The event's line at the scan's place; at the input's end the scan is done, and stays as it is.
+    fn next_event(self, input: &[u8], table: &mut [u8]) -> Result<Handed, Scan>
         ensures { EventsMeets self input.now table.old result table.new }
     {
         if input.len() <= self.at {
-            return None;
+            return Err(self);
         }
         let Some(end) = line_end(input, self.at) else {
-            return Some(self.last(Answer::BadLine(self.number)));
+            return Ok(self.last(Answer::BadLine(self.number)));
         };
         let event = parse_event(&input[self.at..end]);
         let stepped = step(self.policy, table, event, self.number);
-        Some(self.moved(end + 1, event, stepped))
+        Ok(self.moved(end + 1, event, stepped))
     }
 
     // The settings line at the scan's place, and the event's line behind it.
-    fn next_settings(self, input: &[u8], table: &mut [u8]) -> Option<Handed>
+    fn next_settings(self, input: &[u8], table: &mut [u8]) -> Result<Handed, Scan>
         ensures { SettingsMeets self input.now table.old result table.new }
     {
         let Some(end) = line_end(input, self.at) else {
-            return Some(self.last(Answer::BadLine(self.number)));
+            return Ok(self.last(Answer::BadLine(self.number)));
         };
         match settle(&input[self.at..end], self.number, table) {
-            Err(stop) => Some(self.last(Answer::from(stop))),
+            Err(stop) => Ok(self.last(Answer::from(stop))),
             Ok(policy) => {
                 let behind = Scan {
                     at: end + 1,

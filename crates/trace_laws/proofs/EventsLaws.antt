@@ -5,7 +5,7 @@ use Rattle.std.proofs.Math.Path.{refl}
 use Rattle.std.proofs.Common.{◌∙◌, add-one, arith, leb-true, leb-false, ne_eqb}
 use Rattle.std.proofs.Math.Bool.{true, false}
 use mathlib.Core.List.{List, [], ◌∷◌}
-use Rattle.std.specs.Prelude.{Option, Some, None}
+use Rattle.std.specs.Prelude.{Option, Some, None, Result, Ok, Err}
 use Rattle.std.proofs.Math.Dec.{leb}
 use Rattle.std.proofs.Math.ListN.{length}
 use Rattle.std.proofs.Math.Seq.{take-append_seam}
@@ -56,7 +56,7 @@ text_of_line text = take-append_seam text (replicate (line_size - length text) 0
 
 -- a last answer
 pub hands_last : (input t : List ℕ) (scan : Scan) (a : Answer) → ScanFits scan → Lent t
-    → Handing input (line_answer_of bad_event a scan.policy ∷ []) (Some (last scan a)) t
+    → Handing input (line_answer_of bad_event a scan.policy ∷ []) (Ok (last scan a)) t
 unfolding answers_from
 hands_last input t scan a fits lent =
     more (last scan a) refl refl (text_of_line (spoken_text scan.policy (spoken a)))
@@ -95,7 +95,7 @@ module _ (scan : Scan) (input s t : List ℕ) (here : Reading scan input s) (lin
   -- an event's answer, and behind it those from its place on, or none
   hands_by : (e : Event) (a : Answer) (q : PeerMessagePolicy) (qs : Peers) → sound q t ≡ true → PolicyFits q → Lent t → rows_of q t ≡ qs → (goes : Bool)
       → Handing input (line_answer_of e a q ∷ cond goes (events_of (suc scan.number) q qs (lines_of (drop place input))) [])
-      (Some (handed e a q goes)) t
+      (Ok (handed e a q goes)) t
   unfolding answers_from
   hands_by e a q qs is_sound fits lent same_rows true =
       more (handed e a q true) refl (rw (counts, same_rows)) (text_of_line (spoken_text q (spoken a)))
@@ -130,7 +130,7 @@ module _ (scan : Scan) (input s t : List ℕ) (fits : ScanFits scan) (lent : Len
   hands_step : (line : List ℕ) → first_line (drop scan.at input) ≡ Some line
       → Memory s t scan.policy.rows (step_outcome scan.policy s (event_of line) scan.number).change
       → Handing input (rest (lines_of (drop scan.at input)))
-      (Some (moved scan (scan.at + length line + 1) (event_of line) (step_outcome scan.policy s (event_of line) scan.number).answer)) t
+      (Ok (moved scan (scan.at + length line + 1) (event_of line) (step_outcome scan.policy s (event_of line) scan.number).answer)) t
   unfolding StepMeets
   hands_step line first m =
       let p : PeerMessagePolicy = scan.policy in
@@ -150,21 +150,21 @@ module _ (scan : Scan) (input s t : List ℕ) (fits : ScanFits scan) (lent : Len
       (record { holds_bytes = kept.holds_bytes; block = kept.same_length ∙ lent.block }) step.leaves.rows
       (goes_on (spoken o.answer.answer)))
 
-  hands_line : (r : Option Handed) (line : Option (List ℕ)) → first_line (drop scan.at input) ≡ line → scan.at < length input
+  hands_line : (r : Result Handed Scan) (line : Option (List ℕ)) → first_line (drop scan.at input) ≡ line → scan.at < length input
       → Meets r s t scan.policy.rows (line_outcome scan line s) → Handing input (rest (lines_of (drop scan.at input))) r t
   hands_line r None first h m =
       rw (m.answers, lines_at_unended input scan.at h first, events_unended scan.number scan.policy (rows_of scan.policy s))
       (hands_last input t scan (Answer.BadLine scan.number) fits (rw m.leaves lent))
   hands_line r (Some line) first h m = rw m.answers (hands_step line first m.leaves)
 
-  pub hands_event : (r : Option Handed) → EventsMeets scan input s r t → Handing input (rest (lines_of (drop scan.at input))) r t
+  pub hands_event : (r : Result Handed Scan) → EventsMeets scan input s r t → Handing input (rest (lines_of (drop scan.at input))) r t
   unfolding EventsMeets events_outcome
   hands_event r m = go (leb (length input) scan.at) refl m
     where
       go : (ends : Bool) → leb (length input) scan.at ≡ ends
-          → Meets r s t scan.policy.rows (cond ends (refuse None) (line_outcome scan (first_line (drop scan.at input)) s))
+          → Meets r s t scan.policy.rows (cond ends (refuse (Err scan)) (line_outcome scan (first_line (drop scan.at input)) s))
           → Handing input (rest (lines_of (drop scan.at input))) r t
       go true e w =
           rw (w.answers, lines_at_end input scan.at (leb-true (length input) scan.at e))
-          (over refl (events_none scan.number scan.policy (rows_of scan.policy s)))
+          (over scan refl (events_none scan.number scan.policy (rows_of scan.policy s)))
       go false e w = hands_line r (first_line (drop scan.at input)) refl (leb-false (length input) scan.at e) w

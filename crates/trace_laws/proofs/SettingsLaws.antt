@@ -78,14 +78,14 @@ new_in_block c s block = rw (block_fits c s block)
 
 -- ════ A call at the settings line ════
 
-module _ (scan : Scan) (input s : List ℕ) (fits : ScanFits scan) (lent : Lent s) (here : Starting scan input) (r : Option Handed) (t : List ℕ) where
+module _ (scan : Scan) (input s : List ℕ) (fits : ScanFits scan) (lent : Lent s) (here : Starting scan input) (r : Result Handed Scan) (t : List ℕ) where
   -- an answer that is no event's, while there is no policy
-  hands_unsettled : (a : Answer) → r ≡ Some (last scan a) → t ≡ s → Handing input (unsettled a) r t
+  hands_unsettled : (a : Answer) → r ≡ Ok (last scan a) → t ≡ s → Handing input (unsettled a) r t
   hands_unsettled a e stays =
       subst (λ p. Handing input (line_answer_of bad_event a p ∷ []) r t) here.no_policy_lem (rw e (hands_last input t scan a fits (rw stays lent)))
 
-  hands_bad : r ≡ Some (last scan (Answer.BadLine scan.number)) → t ≡ s → Handing input (unsettled (Answer.BadLine 1)) r t
-  hands_bad e stays = hands_unsettled (Answer.BadLine 1) (e ∙ ap (λ n. Some (last scan (Answer.BadLine n))) here.first_line_lem) stays
+  hands_bad : r ≡ Ok (last scan (Answer.BadLine scan.number)) → t ≡ s → Handing input (unsettled (Answer.BadLine 1)) r t
+  hands_bad e stays = hands_unsettled (Answer.BadLine 1) (e ∙ ap (λ n. Ok (last scan (Answer.BadLine n))) here.first_line_lem) stays
 
   module _ (line : List ℕ) (first : first_line (drop scan.at input) ≡ Some line) (middle : List ℕ) where
     -- the lines behind the settings line

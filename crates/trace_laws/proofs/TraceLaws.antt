@@ -7,7 +7,7 @@ use Rattle.std.proofs.Math.Bool.{true, false, cond}
 use native.Mathlib.Omega.{arith}
 use borrow.Author.Tests.{ltb-false}
 use Rattle.std.proofs.Math.Dec.{ltb}
-use Rattle.std.specs.Prelude.{Option, Some, None}
+use Rattle.std.specs.Prelude.{Result, Ok, Err}
 use Rattle.lent_bytes.specs.LentBytes.{Bytes}
 use Rattle.lent_bytes.specs.LentBytesLaws.{length_zeros, Bytes_zeros}
 use Rattle.trace_lines.specs.Lines.{bad_event}
@@ -24,14 +24,14 @@ use Rattle.trace_laws.proofs.SettingsLaws.{hands_settings}
 
 -- ════ A call ════
 
-module _ (input : List ℕ) (scan : Scan) (s : List ℕ) (r : Option Handed) (t : List ℕ) where
+module _ (input : List ℕ) (scan : Scan) (s : List ℕ) (r : Result Handed Scan) (t : List ℕ) where
   next_in : (phase : Phase) → ScanFits scan → Lent s → RunningIn phase scan input s → NextIn phase scan input s r t → Handing input (rest_in phase scan input s) r t
   next_in Phase.TooLong fits lent here m =
       subst (λ p. Handing input (line_answer_of bad_event (Answer.BadLine 1) p ∷ []) r t) here
       (rw m.0 (hands_last input t scan (Answer.BadLine 1) fits (rw m.1 lent)))
   next_in Phase.Settings fits lent here m = hands_settings scan input s fits lent here r t m
   next_in Phase.Events fits lent here m = hands_event scan input s t fits lent here r m
-  next_in Phase.Done fits lent here m = rw m.0 (over refl refl)
+  next_in Phase.Done fits lent here m = rw m.0 (over scan refl refl)
 
   -- it tells the first of the answers that are still to come, with its line, and leaves the others; or it is done, and there are none
   pub next_hands : Running scan input s → NextMeets scan input s r t → Handing input (answers_from scan input s) r t
@@ -96,17 +96,17 @@ module _ (input : List ℕ) where
   -- what was told is what was still to come, and each line spells what was told with it
   hands_from : {scan : Scan} {s : List ℕ} {answers : List LineAnswer} {lines : List (List ℕ)} → HandsOut input scan s answers lines
       → Running scan input s → (answers ≡ answers_from scan input s) × (lines ≡ map line_text answers)
-  hands_from (ends scan s t m) here = go (next_hands input scan s None t here m)
+  hands_from (ends scan s behind t m) here = go (next_hands input scan s (Err behind) t here m)
     where
-      go : Handing input (answers_from scan input s) None t → ([] ≡ answers_from scan input s) × (◌≡◌ {A = List (List ℕ)} [] [])
-      go (over e none) = (sym none, refl)
+      go : Handing input (answers_from scan input s) (Err behind) t → ([] ≡ answers_from scan input s) × (◌≡◌ {A = List (List ℕ)} [] [])
+      go (over other e none) = (sym none, refl)
       go (more h e first spelled next) = let z : ◌≡◌ {A = ℕ} 0 1 = cc in absurd (omega arith)
-  hands_from (hands scan s r t answers lines m rest) here = go (λ next. hands_from rest next) (next_hands input scan s (Some r) t here m)
+  hands_from (hands scan s r t answers lines m rest) here = go (λ next. hands_from rest next) (next_hands input scan s (Ok r) t here m)
     where
       go : (Running r.scan input t → (answers ≡ answers_from r.scan input t) × (lines ≡ map line_text answers))
-          → Handing input (answers_from scan input s) (Some r) t
+          → Handing input (answers_from scan input s) (Ok r) t
           → (line_answer_by r ∷ answers ≡ answers_from scan input s) × (text_of r.line ∷ lines ≡ line_text (line_answer_by r) ∷ map line_text answers)
-      go from (over e none) = let z : ◌≡◌ {A = ℕ} 0 1 = cc in absurd (omega arith)
+      go from (over other e none) = let z : ◌≡◌ {A = ℕ} 0 1 = cc in absurd (omega arith)
       go from (more h e first spelled next) =
           let same : h ≡ r = cc in
           let (told, written) = from (subst (λ x. Running x.scan input t) same next) in
@@ -118,7 +118,7 @@ module _ (input : List ℕ) where
   -- whatever answers every call as the contract says
   abbrev Answers : Type 0
   Answers =
-      (scan : Scan) (m : List ℕ) → ScanFits scan → Bytes m → length m ≡ block_size → (r : Option Handed) × (t : List ℕ) × NextMeets scan input m r t
+      (scan : Scan) (m : List ℕ) → ScanFits scan → Bytes m → length m ≡ block_size → (r : Result Handed Scan) × (t : List ℕ) × NextMeets scan input m r t
 
   empty_is_not_more : {x : LineAnswer} {xs : List LineAnswer} → [] ≡ x ∷ xs → ⊥
   empty_is_not_more h = let z : ◌≡◌ {A = ℕ} 0 1 = cc in omega arith
@@ -130,17 +130,17 @@ module _ (input : List ℕ) where
       let (r, t, m) = answer scan s here.fits here.lent.holds_bytes here.lent.block in
       go r t m (next_hands input scan s r t here m)
     where
-      go : (r : Option Handed) (t : List ℕ) → NextMeets scan input s r t → Handing input (answers_from scan input s) r t → HandsOut input scan s [] []
-      go r t m (over done none) = ends scan s t (subst (λ x. NextMeets scan input s x t) done m)
+      go : (r : Result Handed Scan) (t : List ℕ) → NextMeets scan input s r t → Handing input (answers_from scan input s) r t → HandsOut input scan s [] []
+      go r t m (over behind done none) = ends scan s behind t (subst (λ x. NextMeets scan input s x t) done m)
       go r t m (more h goes first spelled next) = absurd (empty_is_not_more (sym e ∙ first))
   ends_from answer (x ∷ xs) scan s here e =
       let (r, t, m) = answer scan s here.fits here.lent.holds_bytes here.lent.block in
       go r t m (λ h next f. ends_from answer xs h.scan t next f) (next_hands input scan s r t here m)
     where
-      go : (r : Option Handed) (t : List ℕ) → NextMeets scan input s r t
+      go : (r : Result Handed Scan) (t : List ℕ) → NextMeets scan input s r t
           → ((h : Handed) → Running h.scan input t → answers_from h.scan input t ≡ xs → HandsOut input h.scan t xs (map line_text xs))
           → Handing input (answers_from scan input s) r t → HandsOut input scan s (x ∷ xs) (line_text x ∷ map line_text xs)
-      go r t m from (over done none) = absurd (empty_is_not_more (sym none ∙ e))
+      go r t m from (over behind done none) = absurd (empty_is_not_more (sym none ∙ e))
       go r t m from (more h goes first spelled next) =
           let parts : line_answer_by h ∷ answers_from h.scan input t ≡ x ∷ xs = sym first ∙ e in
           let head : line_answer_by h ≡ x = cc parts in
@@ -171,7 +171,7 @@ hands_out_zeroed input answers lines out =
 -- whatever answers every call on arguments that the machine can give as the contract says comes to an end, and has then told what
 -- `answers_of` gives and handed out what `trace_of` gives
 pub comes_to_an_end : (input s : List ℕ) → Bytes s → length s ≡ block_size
-    → ((scan : Scan) (m : List ℕ) → ScanFits scan → Bytes m → length m ≡ block_size → (r : Option Handed) × (t : List ℕ) × NextMeets scan input m r t)
+    → ((scan : Scan) (m : List ℕ) → ScanFits scan → Bytes m → length m ≡ block_size → (r : Result Handed Scan) × (t : List ℕ) × NextMeets scan input m r t)
     → HandsOut input (open_of input) s (answers_of input) (trace_of input)
 unfolding trace_of
 comes_to_an_end input s bytes block answer =

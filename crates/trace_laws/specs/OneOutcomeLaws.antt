@@ -16,11 +16,11 @@ use Rattle.trace.specs.Step.{StepMeets}
 use Rattle.trace.specs.Scan.{first_line, EventsMeets, SettleMeets, SettledMeets, SettingsBy, SettingsMeets, open_of, NextIn, NextMeets}
 
 -- a call's answer and the memory that it leaves
-abbrev Both : Option Handed → Option Handed → List ℕ → List ℕ → Type 0
+abbrev Both : Result Handed Scan → Result Handed Scan → List ℕ → List ℕ → Type 0
 Both r q first second = (r ≡ q) × (first ≡ second)
 
 -- an answer that changes nothing
-unchanged_one : {before first second : List ℕ} {outcome r q : Option Handed} → (r ≡ outcome) × (first ≡ before)
+unchanged_one : {before first second : List ℕ} {outcome r q : Result Handed Scan} → (r ≡ outcome) × (first ≡ before)
     → (q ≡ outcome) × (second ≡ before) → Both r q first second
 unchanged_one h k = (one_outcome h.0 k.0, one_outcome h.1 k.1)
 
@@ -41,18 +41,18 @@ settle_one : (line : List ℕ) (number : ℕ) (before : List ℕ) {first second 
 unfolding SettleMeets
 settle_one line number before h k = one_meets h k
 
-module _ (scan : Scan) (input : List ℕ) (r q : Option Handed) (first second : List ℕ) where
+module _ (scan : Scan) (input : List ℕ) (r q : Result Handed Scan) (first second : List ℕ) where
   events_one : (before : List ℕ) → EventsMeets scan input before r first → EventsMeets scan input before q second
       → Both r q first second
   unfolding EventsMeets
   events_one before h k = one_meets h k
 
-settled_one : (scan : Scan) (line : List ℕ) (a : Result PeerMessagePolicy Stop) (input before : List ℕ) (r q : Option Handed) (first second : List ℕ)
+settled_one : (scan : Scan) (line : List ℕ) (a : Result PeerMessagePolicy Stop) (input before : List ℕ) (r q : Result Handed Scan) (first second : List ℕ)
     → SettledMeets scan line a input before r first → SettledMeets scan line a input before q second → Both r q first second
 settled_one scan line (Ok p) input before r q first second h k = events_one _ input r q first second before h k
 settled_one scan line (Err stop) input before r q first second h k = unchanged_one h k
 
-module _ (scan : Scan) (input before : List ℕ) (r q : Option Handed) (first second : List ℕ) where
+module _ (scan : Scan) (input before : List ℕ) (r q : Result Handed Scan) (first second : List ℕ) where
   -- what the settings came to, and the memory between, are determined as well
   settings_by_one : (o : Option (List ℕ)) → SettingsBy scan o input before r first → SettingsBy scan o input before q second
       → Both r q first second

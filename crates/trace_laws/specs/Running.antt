@@ -1,6 +1,6 @@
 -- A scan within a run: the answers that are still to come at it, what holds of it, and what a call of `next` leaves of both. The proofs
 -- alone need these; the theorems do not name them. Definitions only.
-use Rattle.std.specs.Prelude.{◌≡◌, true, Option, Some, None, List, [], ◌∷◌, ℕ, ◌+◌, ◌≤◌, length, drop}
+use Rattle.std.specs.Prelude.{◌≡◌, true, Result, Ok, Err, List, [], ◌∷◌, ℕ, ◌+◌, ◌≤◌, length, drop}
 use Rattle.lent_bytes.specs.LentBytes.{Bytes}
 use Rattle.peer_message_policy.specs.Policy.{rows_of, sound}
 use Rattle.trace.specs.declared.scan.Phase.{Phase}
@@ -60,7 +60,7 @@ pub record Running (scan : Scan) (input s : List ℕ) : Type 0 where
 
 -- of the answers that were still to come it told the first, with its line, and left a scan at which the others are; or it is done, and
 -- there were none
-pub data Handing (input : List ℕ) (answers : List LineAnswer) (r : Option Handed) (t : List ℕ) : Type 0 where
-  over : r ≡ None → answers ≡ [] → Handing input answers r t
-  more : (h : Handed) → r ≡ Some h → answers ≡ line_answer_by h ∷ answers_from h.scan input t → text_of h.line ≡ line_text (line_answer_by h)
+pub data Handing (input : List ℕ) (answers : List LineAnswer) (r : Result Handed Scan) (t : List ℕ) : Type 0 where
+  over : (behind : Scan) → r ≡ Err behind → answers ≡ [] → Handing input answers r t
+  more : (h : Handed) → r ≡ Ok h → answers ≡ line_answer_by h ∷ answers_from h.scan input t → text_of h.line ≡ line_text (line_answer_by h)
       → Running h.scan input t → Handing input answers r t

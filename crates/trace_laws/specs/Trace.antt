@@ -2,7 +2,7 @@
 -- by line. Definitions only.
 use Rattle.std.specs.Prelude.{cond, List, [], ◌∷◌, map, ℕ, suc, leb, ltb, eqb, length}
 use Rattle.decimal.specs.Ascii.{newline}
-use Rattle.std.specs.Prelude.{Option, Some, None}
+use Rattle.std.specs.Prelude.{Option, Some, None, Ok, Err}
 use Rattle.refusal.specs.declared.Refusal.TheVariants as Refusal
 use Rattle.peer_settings.specs.declared.config.PeerMessagePolicyConfig.{PeerMessagePolicyConfig}
 use Rattle.peer_settings.specs.Config.{limit}
@@ -115,7 +115,7 @@ line_answer_by r = line_answer_of r.event r.answer r.scan.policy
 -- `next` called again and again on an input, each call with the scan and the memory that the one before it left, tells these, hands out
 -- these lines, and is then done
 pub data HandsOut (input : List ℕ) : Scan → List ℕ → List LineAnswer → List (List ℕ) → Type 0 where
-  ends : (scan : Scan) (s : List ℕ) (t : List ℕ) → NextMeets scan input s None t → HandsOut input scan s [] []
+  ends : (scan : Scan) (s : List ℕ) (behind : Scan) (t : List ℕ) → NextMeets scan input s (Err behind) t → HandsOut input scan s [] []
   hands : (scan : Scan) (s : List ℕ) (r : Handed) (t : List ℕ) (answers : List LineAnswer) (lines : List (List ℕ))
-      → NextMeets scan input s (Some r) t → HandsOut input r.scan t answers lines
+      → NextMeets scan input s (Ok r) t → HandsOut input r.scan t answers lines
       → HandsOut input scan s (line_answer_by r ∷ answers) (text_of r.line ∷ lines)

@@ -12,7 +12,7 @@ use trace_lines::line::{LINE_SIZE, TraceLine};
 pub fn write_answers(rt: &HostRuntime, input: &[u8], table: &mut [u8]) -> bool {
     let mut scan = Scan::open(input);
     for _ in 0..u64::MAX {
-        let Some(handed) = scan.next(input, table) else {
+        let Ok(handed) = scan.next(input, table) else {
             return true;
         };
         if !write_line(rt, handed.line) {
