@@ -5,9 +5,9 @@ ghost use Rattle.std.specs.Prelude.{◌≡◌, ◌+◌, ◌-◌, ◌*◌, ◌<�
 ghost use Rattle.lent_bytes.specs.LentBytes.{part};
 ghost use Rattle.lent_bytes.specs.Private.{front};
 ghost use Rattle.pubkey.specs.Order.{compare_bytes};
-ghost use Rattle.table.specs.Private.{place_from};
+ghost use Rattle.table.specs.Private.{place_from, seek};
 ghost use Rattle.table.specs.Memory.{rows};
-ghost use Rattle.table_laws.specs.Raw.{raw_layout};
+ghost use Rattle.table_laws.specs.Raw.{raw_layout, any_row};
 ghost use Rattle.table_laws.specs.Walk.{rises};
 
 use lent_bytes::number::front_at;
@@ -74,4 +74,28 @@ pub fn in_order(
         return true;
     }
     table::keys::compare_places(table, width * (index - 1), width * index, key_width).is_lt()
+}
+
+// Whether the rows ascend, and where the key stands or would stand: one walk, which judges each row against the one before it and
+// counts those whose fronts are below the key's. Of ascending rows they are the first: the key is compared in full from behind them.
+// Keys have eight bytes at least. `kind::sought` is this walk for rows of a kind, whose own rule it judges too.
+pub fn find(table: &[u8], width: usize, count: usize, key: &[u8]) -> Seek
+    requires key_len_in_bounds { (8 ≤ length key.now) × (length key.now ≤ width) }
+    requires count_in_bounds { width * count ≤ length table.now }
+    ensures { result ≡ seek any_row key.now (rows (raw_layout (length key.now) width) table.now count) }
+{
+    let key_front = front_at(key, 0);
+    let mut last: u64 = 0;
+    let mut place: usize = 0;
+    for i in 0..count {
+        let own = front_at(table, width * i);
+        if !in_order(table, width, key.len(), i, last, own) {
+            return Seek::Unsound;
+        }
+        if own < key_front {
+            place += 1;
+        }
+        last = own;
+    }
+    place_from(table, width, count, key, place)
 }

@@ -1,12 +1,11 @@
 // The recorded steps of the byte bucket.
 use crate::answers::{Recorded, agreed, nothing};
-use crate::lending::on_lent;
+use crate::lending;
 use refusal::Answered;
 use replay::line::Line;
 use replay::record;
 use replay::record::Record;
 use token_bucket::bytes::{ByteRateLimitConfig, ByteTokenBucket};
-use token_bucket::lent;
 
 // The bucket after a step, and what the step answered. A step that changes a bucket is run by value and lent, which must give the same.
 pub(crate) fn step(b: ByteTokenBucket, r: Record) -> Answered<ByteTokenBucket, Line> {
@@ -15,21 +14,18 @@ pub(crate) fn step(b: ByteTokenBucket, r: Record) -> Answered<ByteTokenBucket, L
             state: ByteTokenBucket::new(ByteRateLimitConfig::new(r.first, r.second)),
             answer: nothing(),
         },
-        5 => agreed(
-            b.refill(r.first),
-            on_lent(b, |lent| lent::bytes::refill(lent, r.first)),
-        ),
+        5 => agreed(b.refill(r.first), lending::byte_refill(b, r.first)),
         6 => agreed(
             b.try_consume(r.first, r.second),
-            on_lent(b, |lent| lent::bytes::try_consume(lent, r.first, r.second)),
+            lending::byte_try_consume(b, r.first, r.second),
         ),
         7 => agreed(
             b.reserve(r.first, r.second),
-            on_lent(b, |lent| lent::bytes::reserve(lent, r.first, r.second)),
+            lending::byte_reserve(b, r.first, r.second),
         ),
         9 => agreed(
             b.refund(r.first, r.second),
-            on_lent(b, |lent| lent::bytes::refund(lent, r.first, r.second)),
+            lending::byte_refund(b, r.first, r.second),
         ),
         14 => Answered {
             state: set(r),

@@ -1,23 +1,19 @@
 // The recorded steps of the discrete bucket.
 use crate::answers::{Recorded, agreed, nothing};
-use crate::lending::on_lent;
+use crate::lending;
 use refusal::Answered;
 use replay::line::Line;
 use replay::record::Record;
 use token_bucket::discrete::DiscreteTokenBucket;
-use token_bucket::lent;
 
 // The bucket after a step, and what the step answered. A step that changes a bucket is run by value and lent, which must give the same.
 pub(crate) fn step(b: DiscreteTokenBucket, r: Record) -> Answered<DiscreteTokenBucket, Line> {
     match r.operation {
         0 => made(b, r.first, r.second),
-        1 => agreed(
-            b.refill(r.first),
-            on_lent(b, |lent| lent::discrete::refill(lent, r.first)),
-        ),
+        1 => agreed(b.refill(r.first), lending::discrete_refill(b, r.first)),
         2 => agreed(
             b.try_consume(r.first),
-            on_lent(b, |lent| lent::discrete::try_consume(lent, r.first)),
+            lending::discrete_try_consume(b, r.first),
         ),
         3 => Answered {
             state: b,
