@@ -24,7 +24,7 @@ def rust_items(text):
     text = uncommented(text)
     found = []
     impls = [(m.start(), closing(text, m.end() - 1), squeezed(m.group(0)[:-1])) for m in re.finditer(r"^impl\b[^{]*(?:\{[^}]*\}[^{]*)??\{", text, re.M)]
-    for m in re.finditer(r"\b(pub (?:const )?fn|fn) (\w+)", text):
+    for m in re.finditer(r"\b(pub (?:const )?(?:extern \"C\" )?fn|fn) (\w+)", text):
         inside = next((name for a, b, name in impls if a < m.start() < b), "")
         if m.group(1) == "fn" and " for " not in inside:
             continue
@@ -36,7 +36,8 @@ def rust_items(text):
                 break
         i += 1
         while i < len(text):
-            if text[i] == ";":
+            depth += (text[i] == "[") - (text[i] == "]")
+            if text[i] == ";" and depth == 0:
                 break
             if text[i] == "{":
                 if re.search(r"(requires|ensures)(?: \w+)?\s*$", text[at:i]):
