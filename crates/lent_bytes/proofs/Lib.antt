@@ -1,2 +1,3 @@
--- `Copies` has the laws of a write into a part of a slice and of a copy within one, which the proofs of `run` cite.
+-- `Copies` has the laws of a write into a part of a slice, of a copy within one, and of one turn of a loop that copies byte by byte, which
+-- the proofs of `run` cite.
 pub mod Copies

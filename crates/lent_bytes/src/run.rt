@@ -7,7 +7,9 @@ pub fn put_slice(dst: &mut [u8], at: usize, src: &[u8])
     requires { at + length src.now ≤ length dst.old }
     ensures { dst.new ≡ put dst.old at src.now }
 {
-    dst[at..at + src.len()].copy_from_slice(src);
+    for (i, &byte) in src.iter().enumerate() {
+        dst[at + i] = byte;
+    }
 }
 
 // Moves the `count` bytes at the place up by `width` places: it opens a gap. What it moves may overlap with where it moves it to.
