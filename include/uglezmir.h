@@ -317,7 +317,8 @@ uint32_t uglezmir_snapshot_row(const uint8_t *snapshot, size_t snapshot_length, 
 void uglezmir_trace_open(uint64_t place[UGLEZMIR_TRACE_PLACES], uint64_t longs[UGLEZMIR_POLICY_LONGS],
     uint32_t shorts[UGLEZMIR_POLICY_SHORTS], const uint8_t *input, size_t input_length);
 
-/* Leaves the next line, zeros behind it, and answers its length; 0 where the scan is done. Lend the same input and table at every call. */
+/* Leaves the next line, zeros behind it, and answers its length; 0 where the scan is done: the words are then those behind, with the policy
+   of settings that nothing follows. Lend the same input and table at every call. */
 uint32_t uglezmir_trace_next(uint64_t place[UGLEZMIR_TRACE_PLACES], uint64_t longs[UGLEZMIR_POLICY_LONGS],
     uint32_t shorts[UGLEZMIR_POLICY_SHORTS], const uint8_t *input, size_t input_length, uint8_t *table, size_t table_length,
     uint8_t line[UGLEZMIR_TRACE_LINE]);

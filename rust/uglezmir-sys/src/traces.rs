@@ -14,7 +14,8 @@ pub fn open(place: &mut Place, longs: &mut PolicyLongs, shorts: &mut PolicyShort
     unsafe { ffi::uglezmir_trace_open(place, longs, shorts, input.as_ptr(), input.len()) }
 }
 
-/// Leaves the next line and answers its length; 0 where the scan is done. Lend the same input and table at every call.
+/// Leaves the next line and answers its length; 0 where the scan is done: the words are then those behind, with the policy of settings
+/// that nothing follows. Lend the same input and table at every call.
 pub fn next(
     place: &mut Place,
     longs: &mut PolicyLongs,
