@@ -49,12 +49,19 @@ fn settings_alone_leave_the_policy_that_they_made() {
     assert_eq!(s.shorts, [2, 2, 4, 0]);
     assert_eq!(s.line, [0; TRACE_LINE]);
     assert!(s.table[..2 * 121].iter().all(|&b| b == 0) && s.table[2 * 121..].iter().all(|&b| b == 9));
-    assert_eq!(peers::admit(&mut s.longs, &mut s.shorts, &mut s.table, &[2; 33], 300, 50), ALLOW);
+    assert_eq!(
+        peers::admit(&mut s.longs, &mut s.shorts, &mut s.table, &[2; 33], 300, 50),
+        ALLOW
+    );
 }
 
 #[test]
 fn a_scan_that_is_done_stays_as_it_is() {
-    for input in [&b"10 2 0 0 2 100 2 4 1000\n"[..], b"10 2 0 0 2 100 2 4 1000\na 02 300 50\n", b"no settings\n"] {
+    for input in [
+        &b"10 2 0 0 2 100 2 4 1000\n"[..],
+        b"10 2 0 0 2 100 2 4 1000\na 02 300 50\n",
+        b"no settings\n",
+    ] {
         let mut s = Scanned::open(input);
         while s.next(input) > 0 {}
         let (place, longs, shorts) = (s.place, s.longs, s.shorts);
